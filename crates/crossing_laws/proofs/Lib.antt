@@ -1,7 +1,7 @@
-mod Choices
+pub mod Choices
 mod Pieces
-mod Bodies
-mod Fronts
+pub mod Bodies
+pub mod Fronts
 mod Lengths
 mod Taken
 mod Crossing

@@ -6,7 +6,7 @@ use Rattle.fix_sessions.specs.Cuts.{body_of, front_of, is_whole, read_of_long, v
 use Rattle.fix_sessions.specs.Fields.{fields_in}
 use Rattle.fix_sessions.specs.Flaws.{flaw_of}
 use Rattle.fix_sessions.specs.Heard.{as_taken, denied_message, heard_by, heard_of, incoming_of, is_logout, foreign_of, logon_of, number_once}
-use Rattle.fix_sessions.specs.Logons.{came_first, first_by, is_ahead, is_heartbeat, is_in_time, is_safe, judged, judged_ahead, judged_by, judged_denial, judged_number, judged_reset, judged_terms, logout_of, may_reset, refused, refuses, too_low, waits_for, without, answer_number, expected_by, value_or_zero}
+use Rattle.fix_sessions.specs.Logons.{came_first, first_by, is_ahead, is_heartbeat, is_in_time, is_safe, judged, judged_ahead, judged_by, judged_denial, judged_number, judged_reset, judged_terms, locked, logout_of, may_reset, refused, refused_early, refuses, refuses_early, shows_loss, too_low, waits_for, without, answer_number, expected_by, value_or_zero}
 use Rattle.fix_sessions.specs.Outcomes.{answers, counted, counted_if, denies, is_clear, is_spent, leaves, live, logs_out, may_log_out, parts, reject_and_logout, reject_of, rejects, rejects_and_logs_out, rejects_now}
 use Rattle.fix_sessions.specs.Logons.{is_off, is_today}
 use Rattle.fix_sessions.specs.Rows.{above, asked_of, at, below, by_form, by_kind, by_names, by_number, by_times, by_version, expected_message, fills, heard_at, highest_left, if_numbered, is_after_sent, missing_noted, repeated, repeated_below, requested, requested_as, reset_in, resets_to, sent_once, tests, unless_reset}
@@ -293,11 +293,19 @@ refuses_none s connection terms w told = choice None_of (is_safe s.day terms) _ 
 refused_none : (s : Session) (connection : ℕ) (terms : Terms) (y : Why) → None_of (refused s connection terms y)
 refused_none s connection terms y = refuses_none s connection terms (word.Logout y) (notice.Refused y)
 
+early_none : (s : Session) (connection : ℕ) (clock : Clock) (terms : Terms) (w : Word) (told : Notice) → None_of (refuses_early s connection clock terms w told)
+early_none s connection clock terms w told =
+    choice None_of (shows_loss s.day clock terms) _ _
+    (λ h. refuses_none (locked s) connection terms w notice.LostStore) (λ h. refuses_none s connection terms w told)
+
+refused_early_none : (s : Session) (connection : ℕ) (clock : Clock) (terms : Terms) (y : Why) → None_of (refused_early s connection clock terms y)
+refused_early_none s connection clock terms y = early_none s connection clock terms (word.Logout y) (notice.Refused y)
+
 too_low_none : (s : Session) (connection : ℕ) (terms : Terms) → None_of (too_low s connection terms)
 too_low_none s connection terms =
     let low = why.TooLow s.day.expected in
     choice None_of (nat_lt s.day.last_logon (value_or_zero terms.sent)) _ _
-    (λ h. refuses_none (record s { day = record s.day { is_locked = true } }) connection terms (word.Logout low) notice.LostStore)
+    (λ h. refuses_none (locked s) connection terms (word.Logout low) notice.LostStore)
     (λ h. refused_none s connection terms low)
 
 ahead_none : (s : Session) (connection now : ℕ) (terms : Terms) → None_of (judged_ahead s connection now terms)
@@ -320,22 +328,22 @@ reset_none s connection now terms =
 
 terms_none : (s : Session) (connection : ℕ) (clock : Clock) (terms : Terms) → None_of (judged_terms s connection clock terms)
 terms_none s connection clock terms =
-    choice None_of (not terms.is_plain) _ _ (λ h. refused_none s connection terms why.Encrypted)
-    (λ h. choice None_of (not terms.is_fix50) _ _ (λ h. refused_none s connection terms why.Version)
-    (λ h. choice None_of (not (is_heartbeat terms.seconds)) _ _ (λ h. refused_none s connection terms why.Heartbeat)
-    (λ h. choice None_of (not (is_in_time clock terms.sent)) _ _ (λ h. refused_none s connection terms why.Clock)
+    choice None_of (not terms.is_plain) _ _ (λ h. refused_early_none s connection clock terms why.Encrypted)
+    (λ h. choice None_of (not terms.is_fix50) _ _ (λ h. refused_early_none s connection clock terms why.Version)
+    (λ h. choice None_of (not (is_heartbeat terms.seconds)) _ _ (λ h. refused_early_none s connection clock terms why.Heartbeat)
+    (λ h. choice None_of (not (is_in_time clock terms.sent)) _ _ (λ h. refused_early_none s connection clock terms why.Clock)
     (λ h. reset_none s connection clock.moment terms))))
 
 denial_none : (s : Session) (connection : ℕ) (clock : Clock) (terms : Terms) (denial : Option Denial) → None_of (judged_denial s connection clock terms denial)
 denial_none s connection clock terms None = terms_none s connection clock terms
-denial_none s connection clock terms (Some denial) = refuses_none s connection terms (word.LogoutFor denial.text) notice.Denied
+denial_none s connection clock terms (Some denial) = early_none s connection clock terms (word.LogoutFor denial.text) notice.Denied
 
 judged_none : (s : Session) (connection : ℕ) (clock : Clock) (terms : Terms) (denial : Option Denial) → None_of (judged s connection clock terms denial)
 judged_none s connection clock terms denial =
     choice None_of (not s.day.is_open) _ _
-    (λ h. refuses_none s connection terms (logout_of why.Closed denial) (notice.Refused why.Closed))
+    (λ h. early_none s connection clock terms (logout_of why.Closed denial) (notice.Refused why.Closed))
     (λ h. choice None_of s.day.is_suspended _ _
-    (λ h. refuses_none s connection terms (logout_of why.Suspended denial) (notice.Refused why.Suspended))
+    (λ h. early_none s connection clock terms (logout_of why.Suspended denial) (notice.Refused why.Suspended))
     (λ h. denial_none s connection clock terms denial))
 
 waits_none : (s : Session) (connection now : ℕ) (waiting : Option Waiting) → None_of (waits_for s connection now waiting)

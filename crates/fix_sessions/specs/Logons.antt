@@ -86,14 +86,40 @@ refuses s connection terms logout told =
 abbrev pub refused : Session → ℕ → Terms → Why → Turn
 refused s connection terms why = refuses s connection terms (word.Logout why) (notice.Refused why)
 
+-- A Logon that rows 4 and 5 refuse is held against row 7 first. Else the refused Logons of an engine
+-- that has lost its store would climb to the expected number, and what it sent under lower ones would
+-- be lost without a word.
+
+-- the session of an engine that has lost its store: no Logon is accepted
+abbrev pub locked : Session → Session
+locked s = record s { day = record s.day { is_locked = true } }
+
+-- whether the engine shows for the first time that it has lost its store: its number came before, and
+-- it makes its Logon after the last one that was accepted, or by a clock that shows nothing
+abbrev pub shows_loss : Day → Clock → Terms → Bool
+shows_loss d clock terms =
+    not d.is_locked && not terms.resets && nat_lt terms.number d.expected
+    && (nat_lt d.last_logon (value_or_zero terms.sent) || not (is_in_time clock terms.sent))
+
+-- the refusal keeps its words, and the operator is told of the store in the place of the refusal
+abbrev pub refuses_early : Session → ℕ → Clock → Terms → Word → Notice → Turn
+refuses_early s connection clock terms logout told =
+    if shows_loss s.day clock terms
+    then refuses (locked s) connection terms logout notice.LostStore
+    else refuses s connection terms logout told
+
+abbrev pub refused_early : Session → ℕ → Clock → Terms → Why → Turn
+refused_early s connection clock terms why =
+    refuses_early s connection clock terms (word.Logout why) (notice.Refused why)
+
 -- in the gateway's words, where it gives some
 abbrev pub logout_of : Why → Option Denial → Word
 logout_of why None = word.Logout why
 logout_of why (Some denial) = word.LogoutFor denial.text
 
-abbrev pub refused_for : Session → ℕ → Terms → Why → Option Denial → Turn
-refused_for s connection terms why denial =
-    refuses s connection terms (logout_of why denial) (notice.Refused why)
+abbrev pub refused_for : Session → ℕ → Clock → Terms → Why → Option Denial → Turn
+refused_for s connection clock terms why denial =
+    refuses_early s connection clock terms (logout_of why denial) (notice.Refused why)
 
 -- An answer.
 
@@ -202,7 +228,7 @@ abbrev pub too_low : Session → ℕ → Terms → Turn
 too_low s connection terms =
     let low = why.TooLow s.day.expected in
     if nat_lt s.day.last_logon (value_or_zero terms.sent)
-    then refuses (record s { day = record s.day { is_locked = true } }) connection terms (word.Logout low) notice.LostStore
+    then refuses (locked s) connection terms (word.Logout low) notice.LostStore
     else refused s connection terms low
 
 abbrev pub judged_number : Session → ℕ → ℕ → Terms → Turn
@@ -226,23 +252,23 @@ judged_reset s connection now terms =
 -- a Logon of wrong terms is refused
 abbrev pub judged_terms : Session → ℕ → Clock → Terms → Turn
 judged_terms s connection clock terms =
-    if not terms.is_plain then refused s connection terms why.Encrypted
-    else if not terms.is_fix50 then refused s connection terms why.Version
-    else if not (is_heartbeat terms.seconds) then refused s connection terms why.Heartbeat
-    else if not (is_in_time clock terms.sent) then refused s connection terms why.Clock
+    if not terms.is_plain then refused_early s connection clock terms why.Encrypted
+    else if not terms.is_fix50 then refused_early s connection clock terms why.Version
+    else if not (is_heartbeat terms.seconds) then refused_early s connection clock terms why.Heartbeat
+    else if not (is_in_time clock terms.sent) then refused_early s connection clock terms why.Clock
     else judged_reset s connection clock.moment terms
 
 -- one that the gateway does not take
 abbrev pub judged_denial : Session → ℕ → Clock → Terms → Option Denial → Turn
 judged_denial s connection clock terms None = judged_terms s connection clock terms
 judged_denial s connection clock terms (Some denial) =
-    refuses s connection terms (word.LogoutFor denial.text) notice.Denied
+    refuses_early s connection clock terms (word.LogoutFor denial.text) notice.Denied
 
 -- and one while the venue is closed or the firm suspended
 abbrev pub judged : Session → ℕ → Clock → Terms → Option Denial → Turn
 judged s connection clock terms denial =
-    if not s.day.is_open then refused_for s connection terms why.Closed denial
-    else if s.day.is_suspended then refused_for s connection terms why.Suspended denial
+    if not s.day.is_open then refused_for s connection clock terms why.Closed denial
+    else if s.day.is_suspended then refused_for s connection clock terms why.Suspended denial
     else judged_denial s connection clock terms denial
 
 -- Where another connection has the session.

@@ -270,7 +270,8 @@ abbrev pub ordered_day : Day → Clock → Order → Day
 ordered_day d clock order.Open = record d { is_open = true }
 ordered_day d clock order.Close = record d { is_open = false }
 ordered_day d clock order.Suspend = record d { is_suspended = true }
-ordered_day d clock order.Release = record d { is_suspended = false; is_locked = false }
+ordered_day d clock order.Resume = record d { is_suspended = false }
+ordered_day d clock order.Release = record d { is_locked = false }
 ordered_day d clock (order.Reset copies) = reset_day d clock copies
 
 -- the connection of a session that is reset ends
@@ -281,6 +282,7 @@ resets s =
 
 abbrev pub ordered_by : Session → ℕ → Order → Turn
 ordered_by s now order.Open = quiet s 0
+ordered_by s now order.Resume = quiet s 0
 ordered_by s now order.Release = quiet s 0
 ordered_by s now order.Close = logged_out s now (word.Logout why.Closed) s.phase
 ordered_by s now order.Suspend = logged_out s now (word.Logout why.Suspended) s.phase

@@ -119,6 +119,56 @@ fn refused<'a>(s: Session, connection: u64, terms: Terms, why: Why) -> Turn<'a>
     refuses(s, connection, terms, logout, Notice::Refused { why })
 }
 
+/// The session of an engine that has lost its store.
+fn locked(s: Session) -> Session
+    ensures { result ≡ spec.locked s }
+{
+    let day = Day {
+        is_locked: true,
+        ..s.day
+    };
+    Session { day, ..s }
+}
+
+/// Whether an engine shows for the first time that it has lost its store.
+fn shows_loss(d: &Day, clock: &Clock, terms: &Terms) -> bool
+    ensures { result ≡ spec.shows_loss d.now clock.now terms.now }
+{
+    let is_later = d.last_logon < value_or_zero(terms.sent);
+    !d.is_locked
+        && !terms.resets
+        && terms.number < d.expected
+        && (is_later || !is_in_time(clock, terms.sent))
+}
+
+/// A Logon is refused before its number is looked at, and the session is locked where the engine
+/// shows that it has lost its store.
+fn refuses_early<'a>(
+    s: Session,
+    connection: u64,
+    clock: &Clock,
+    terms: Terms,
+    logout: Word<'a>,
+    notice: Notice,
+) -> Turn<'a>
+    requires { s.day.next ≤ LAST_NUMBER }
+    ensures { result ≡ spec.refuses_early s connection clock.now terms logout.entry notice }
+{
+    if shows_loss(&s.day, clock, &terms) {
+        return refuses(locked(s), connection, terms, logout, Notice::LostStore);
+    }
+    refuses(s, connection, terms, logout, notice)
+}
+
+/// A Logon is refused early, for a reason.
+fn refused_early<'a>(s: Session, connection: u64, clock: &Clock, terms: Terms, why: Why) -> Turn<'a>
+    requires { s.day.next ≤ LAST_NUMBER }
+    ensures { result ≡ spec.refused_early s connection clock.now terms why }
+{
+    let logout = Word::Logout { why };
+    refuses_early(s, connection, clock, terms, logout, Notice::Refused { why })
+}
+
 /// A Logout in the gateway's words, where it gives some.
 fn logout_of<'a>(why: Why, denial: Option<Denial<'a>>) -> Word<'a>
     ensures { result ≡ spec.logout_of why denial.entry }
@@ -134,15 +184,16 @@ fn logout_of<'a>(why: Why, denial: Option<Denial<'a>>) -> Word<'a>
 fn refused_for<'a>(
     s: Session,
     connection: u64,
+    clock: &Clock,
     terms: Terms,
     why: Why,
     denial: Option<Denial<'a>>,
 ) -> Turn<'a>
     requires { s.day.next ≤ LAST_NUMBER }
-    ensures { result ≡ spec.refused_for s connection terms why denial.entry }
+    ensures { result ≡ spec.refused_for s connection clock.now terms why denial.entry }
 {
     let logout = logout_of(why, denial);
-    refuses(s, connection, terms, logout, Notice::Refused { why })
+    refuses_early(s, connection, clock, terms, logout, Notice::Refused { why })
 }
 
 /// Whether 789 is no number from 1 to the next that the venue will send.
@@ -167,17 +218,8 @@ fn too_low<'a>(s: Session, connection: u64, terms: Terms) -> Turn<'a>
     if s.day.last_logon >= value_or_zero(terms.sent) {
         return refused(s, connection, terms, why);
     }
-    let day = Day {
-        is_locked: true,
-        ..s.day
-    };
-    refuses(
-        Session { day, ..s },
-        connection,
-        terms,
-        Word::Logout { why },
-        Notice::LostStore,
-    )
+    let logout = Word::Logout { why };
+    refuses(locked(s), connection, terms, logout, Notice::LostStore)
 }
 
 /// Whether numbers may be reset by the firm: the venue was given nothing of it, and it is not known
@@ -217,16 +259,16 @@ fn judged_terms<'a>(s: Session, connection: u64, clock: &Clock, terms: Terms) ->
     ensures { result ≡ spec.judged_terms s connection clock.now terms }
 {
     if !terms.is_plain {
-        return refused(s, connection, terms, Why::Encrypted);
+        return refused_early(s, connection, clock, terms, Why::Encrypted);
     }
     if !terms.is_fix50 {
-        return refused(s, connection, terms, Why::Version);
+        return refused_early(s, connection, clock, terms, Why::Version);
     }
     if !is_heartbeat(terms.seconds) {
-        return refused(s, connection, terms, Why::Heartbeat);
+        return refused_early(s, connection, clock, terms, Why::Heartbeat);
     }
     if !is_in_time(clock, terms.sent) {
-        return refused(s, connection, terms, Why::Clock);
+        return refused_early(s, connection, clock, terms, Why::Clock);
     }
     if terms.resets && !(terms.number == 1 && may_reset(&s.day)) {
         return refused(s, connection, terms, Why::Reset);
@@ -247,17 +289,17 @@ fn judged<'a>(
     ensures { result ≡ spec.judged s connection clock.now terms denial.entry }
 {
     if !s.day.is_open {
-        return refused_for(s, connection, terms, Why::Closed, denial);
+        return refused_for(s, connection, clock, terms, Why::Closed, denial);
     }
     if s.day.is_suspended {
-        return refused_for(s, connection, terms, Why::Suspended, denial);
+        return refused_for(s, connection, clock, terms, Why::Suspended, denial);
     }
     let Some(denial) = denial else {
         return judged_terms(s, connection, clock, terms);
     };
     let Denial { text, .. } = denial;
     let logout = Word::LogoutFor { text };
-    refuses(s, connection, terms, logout, Notice::Denied)
+    refuses_early(s, connection, clock, terms, logout, Notice::Denied)
 }
 
 /// A TestRequest asks an old connection whether it is dead.

@@ -18,7 +18,9 @@ pub enum Order {
     Close,
     /// The firm is suspended, and logged out.
     Suspend,
-    /// It is suspended no more, and a session that has lost its store goes on.
+    /// The firm is suspended no more.
+    Resume,
+    /// A session whose engine has lost its store goes on.
     Release,
     /// Numbers begin at 1 again. The caller gives those messages of the venue that it keeps above
     /// [`crate::Day::had`] the numbers from 2 on, in their order, as copies.
@@ -38,6 +40,7 @@ pub fn ordered<'a>(session: &Session, clock: &Clock, order: Order) -> Turn<'a>
     let after = Session { day, ..s };
     match order {
         Order::Open => quiet(after, 0),
+        Order::Resume => quiet(after, 0),
         Order::Release => quiet(after, 0),
         Order::Close => {
             let why = Why::Closed;
@@ -65,8 +68,11 @@ fn ordered_day(d: Day, clock: &Clock, order: Order) -> Day
             is_suspended: true,
             ..d
         },
-        Order::Release => Day {
+        Order::Resume => Day {
             is_suspended: false,
+            ..d
+        },
+        Order::Release => Day {
             is_locked: false,
             ..d
         },

@@ -189,5 +189,6 @@ order_of kind copies =
     if kind == 0 then Some order.Open
     else if kind == 1 then Some order.Close
     else if kind == 2 then Some order.Suspend
-    else if kind == 3 then Some order.Release
-    else if kind == 4 then Some (order.Reset copies) else None
+    else if kind == 3 then Some order.Resume
+    else if kind == 4 then Some order.Release
+    else if kind == 5 then Some (order.Reset copies) else None

@@ -190,8 +190,8 @@ pub extern "C" fn fix_sessions_tick(
     tell(alloc, &setting, &turn, session, out, report)
 }
 
-/// An operator orders something: 0 open, 1 close, 2 suspend, 3 release, 4 reset, with so many
-/// copies. False as above, and at another number.
+/// An operator orders something: 0 open, 1 close, 2 suspend, 3 resume, 4 release, 5 reset, with so
+/// many copies. False as above, and at another number.
 #[unsafe(no_mangle)]
 pub extern "C" fn fix_sessions_ordered(
     alloc: Global,
@@ -232,8 +232,9 @@ fn order(kind: u32, copies: u64) -> Option<Order>
         0 => Some(Order::Open),
         1 => Some(Order::Close),
         2 => Some(Order::Suspend),
-        3 => Some(Order::Release),
-        4 => Some(Order::Reset { copies }),
+        3 => Some(Order::Resume),
+        4 => Some(Order::Release),
+        5 => Some(Order::Reset { copies }),
         _ => None,
     }
 }

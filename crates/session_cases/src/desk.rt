@@ -4,7 +4,7 @@
 //! |---|---|
 //! | `at TIME` | it is this time of day |
 //! | `desk NAME` | of several venues the Logon has to name this one (57) |
-//! | `open`, `close`, `suspend`, `release`, `reset` | an operator's order |
+//! | `open`, `close`, `suspend`, `resume`, `release`, `reset` | an operator's order |
 //! | `deny REASON NAME TEXT` | from then on the gateway takes no message, for this reason (380), of this name (379; `-`: none) and in this text (58) |
 //! | `take` | it takes them again |
 //! | `logout TEXT` | the gateway logs the firm out |
@@ -294,6 +294,7 @@ impl Place for Desk {
             "open" => self.order(call, Order::Open)?,
             "close" => self.order(call, Order::Close)?,
             "suspend" => self.order(call, Order::Suspend)?,
+            "resume" => self.order(call, Order::Resume)?,
             "release" => self.order(call, Order::Release)?,
             "reset" => {
                 let copies = self.store.renumber(self.session.day.had)?;

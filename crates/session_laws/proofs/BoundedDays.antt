@@ -259,6 +259,7 @@ ordered_day_fits : (d : Day) (clock : Clock) (o : Order) → DayFits d → DayFi
 ordered_day_fits d clock order.Open f = marked_fits d _ f refl refl refl refl refl refl
 ordered_day_fits d clock order.Close f = marked_fits d _ f refl refl refl refl refl refl
 ordered_day_fits d clock order.Suspend f = marked_fits d _ f refl refl refl refl refl refl
+ordered_day_fits d clock order.Resume f = marked_fits d _ f refl refl refl refl refl refl
 ordered_day_fits d clock order.Release f = marked_fits d _ f refl refl refl refl refl refl
 ordered_day_fits d clock (order.Reset copies) f = reset_fits d clock copies
 
@@ -271,6 +272,8 @@ ordered_fit : (s : Session) (clock : Clock) (o : Order) → SessionFits s → Tu
 unfolding ordered
 ordered_fit s clock order.Open f =
     quiet_fit _ (record { day = ordered_day_fits s.day clock order.Open f.day; phase = f.phase }) refl refl
+ordered_fit s clock order.Resume f =
+    quiet_fit _ (record { day = ordered_day_fits s.day clock order.Resume f.day; phase = f.phase }) refl refl
 ordered_fit s clock order.Release f =
     quiet_fit _ (record { day = ordered_day_fits s.day clock order.Release f.day; phase = f.phase }) refl refl
 ordered_fit s clock order.Close f =

@@ -3,7 +3,7 @@ use Rattle.std.proofs.Common.{◌≡◌, ℕ, ◌+◌, ◌*◌, ◌≤◌, Bool,
 use Rattle.std.proofs.lemmas.Bool.{false≢true}
 use Rattle.std.proofs.lemmas.Bool.Decides.{nat_tests}
 use Rattle.fix_sessions.specs.Outcomes.{ended}
-use Rattle.fix_sessions.specs.Logons.{refuses, refused, refused_for, logout_of, refusal_day, refusal_number, is_safe, too_low, accepts, accepted_day, answer_number, has_one, has_gap, first_wanted, split_of, expected_by, is_ahead, may_reset, judged_ahead, judged_number, judged_reset, judged_terms, judged_denial, judged, judged_by, waits_for, probed, first_by, value_or_zero, is_heartbeat, is_in_time, without}
+use Rattle.fix_sessions.specs.Logons.{locked, shows_loss, refuses, refuses_early, refused, refused_early, refused_for, logout_of, refusal_day, refusal_number, is_safe, too_low, accepts, accepted_day, answer_number, has_one, has_gap, first_wanted, split_of, expected_by, is_ahead, may_reset, judged_ahead, judged_number, judged_reset, judged_terms, judged_denial, judged, judged_by, waits_for, probed, first_by, value_or_zero, is_heartbeat, is_in_time, without}
 use Rattle.fix_sessions.specs.declared.messages.Reading.{Reading}
 use Rattle.fix_sessions.specs.declared.messages.Reading.TheVariants as reading
 use Rattle.fix_sessions.specs.declared.messages.Terms.{Terms}
@@ -73,11 +73,6 @@ refused_fit : (s : Session) (connection : ℕ) (terms : Terms) (y : Why) → Fit
     → TurnFits (refused s connection terms y)
 refused_fit s connection terms y f = refuses_fit s connection terms (word.Logout y) (notice.Refused y) f
 
-refused_for_fit : (s : Session) (connection : ℕ) (terms : Terms) (y : Why) (denial : Option Denial) → Fit s
-    → TurnFits (refused_for s connection terms y denial)
-refused_for_fit s connection terms y denial f =
-    refuses_fit s connection terms (logout_of y denial) (notice.Refused y) f
-
 locked_fits : (d : Day) → DayFits d → DayFits (record d { is_locked = true })
 locked_fits d f = record {
   expected = f.expected;
@@ -88,17 +83,35 @@ locked_fits d f = record {
   last_kept = f.last_kept;
 }
 
+locked_fit : (s : Session) → Fit s → Fit (locked s)
+locked_fit s f = record {
+  fits = record { day = locked_fits s.day f.fits.day; phase = f.fits.phase };
+  next = f.next;
+  expected = f.expected;
+}
+
+early_fit : (s : Session) (connection : ℕ) (clock : Clock) (terms : Terms) (w : Word) (told : Notice)
+    → Fit s → TurnFits (refuses_early s connection clock terms w told)
+early_fit s connection clock terms w told f =
+    choice TurnFits (shows_loss s.day clock terms) _ _
+    (λ h. refuses_fit (locked s) connection terms w notice.LostStore (locked_fit s f))
+    (λ h. refuses_fit s connection terms w told f)
+
+refused_early_fit : (s : Session) (connection : ℕ) (clock : Clock) (terms : Terms) (y : Why) → Fit s
+    → TurnFits (refused_early s connection clock terms y)
+refused_early_fit s connection clock terms y f =
+    early_fit s connection clock terms (word.Logout y) (notice.Refused y) f
+
+refused_for_fit : (s : Session) (connection : ℕ) (clock : Clock) (terms : Terms) (y : Why)
+    (denial : Option Denial) → Fit s → TurnFits (refused_for s connection clock terms y denial)
+refused_for_fit s connection clock terms y denial f =
+    early_fit s connection clock terms (logout_of y denial) (notice.Refused y) f
+
 too_low_fit : (s : Session) (connection : ℕ) (terms : Terms) → Fit s → TurnFits (too_low s connection terms)
 too_low_fit s connection terms f =
     let low = why.TooLow s.day.expected in
     choice TurnFits (nat_lt s.day.last_logon (value_or_zero terms.sent)) _ _
-    (λ h. refuses_fit (record s { day = record s.day { is_locked = true } }) connection terms (word.Logout low)
-    notice.LostStore
-    (record {
-      fits = record { day = locked_fits s.day f.fits.day; phase = f.fits.phase };
-      next = f.next;
-      expected = f.expected;
-    }))
+    (λ h. refuses_fit (locked s) connection terms (word.Logout low) notice.LostStore (locked_fit s f))
     (λ h. refused_fit s connection terms low f)
 
 -- A Logon that is accepted.
@@ -208,23 +221,23 @@ not_not false h = absurd (false≢true (sym h))
 terms_fit : (s : Session) (connection : ℕ) (clock : Clock) (terms : Terms) → Fit s → IsNumber terms.number
     → TurnFits (judged_terms s connection clock terms)
 terms_fit s connection clock terms f number =
-    choice TurnFits (not terms.is_plain) _ _ (λ h. refused_fit s connection terms why.Encrypted f)
-    (λ h. choice TurnFits (not terms.is_fix50) _ _ (λ h. refused_fit s connection terms why.Version f)
-    (λ h. choice TurnFits (not (is_heartbeat terms.seconds)) _ _ (λ h. refused_fit s connection terms why.Heartbeat f)
-    (λ beats. choice TurnFits (not (is_in_time clock terms.sent)) _ _ (λ h. refused_fit s connection terms why.Clock f)
+    choice TurnFits (not terms.is_plain) _ _ (λ h. refused_early_fit s connection clock terms why.Encrypted f)
+    (λ h. choice TurnFits (not terms.is_fix50) _ _ (λ h. refused_early_fit s connection clock terms why.Version f)
+    (λ h. choice TurnFits (not (is_heartbeat terms.seconds)) _ _ (λ h. refused_early_fit s connection clock terms why.Heartbeat f)
+    (λ beats. choice TurnFits (not (is_in_time clock terms.sent)) _ _ (λ h. refused_early_fit s connection clock terms why.Clock f)
     (λ h. reset_fit s connection clock.moment terms f number (not_not (is_heartbeat terms.seconds) beats)))))
 
 denial_fit : (s : Session) (connection : ℕ) (clock : Clock) (terms : Terms) (denial : Option Denial) → Fit s
     → IsNumber terms.number → TurnFits (judged_denial s connection clock terms denial)
 denial_fit s connection clock terms None f number = terms_fit s connection clock terms f number
 denial_fit s connection clock terms (Some denial) f number =
-    refuses_fit s connection terms (word.LogoutFor denial.text) notice.Denied f
+    early_fit s connection clock terms (word.LogoutFor denial.text) notice.Denied f
 
 judged_fit : (s : Session) (connection : ℕ) (clock : Clock) (terms : Terms) (denial : Option Denial) → Fit s
     → IsNumber terms.number → TurnFits (judged s connection clock terms denial)
 judged_fit s connection clock terms denial f number =
-    choice TurnFits (not s.day.is_open) _ _ (λ h. refused_for_fit s connection terms why.Closed denial f)
-    (λ h. choice TurnFits s.day.is_suspended _ _ (λ h. refused_for_fit s connection terms why.Suspended denial f)
+    choice TurnFits (not s.day.is_open) _ _ (λ h. refused_for_fit s connection clock terms why.Closed denial f)
+    (λ h. choice TurnFits s.day.is_suspended _ _ (λ h. refused_for_fit s connection clock terms why.Suspended denial f)
     (λ h. denial_fit s connection clock terms denial f number))
 
 probed_fits : (p : Phase) → PhaseFits p → PhaseFits (probed p)

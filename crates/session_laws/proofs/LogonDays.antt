@@ -130,6 +130,7 @@ unfolding ordered
 ordered_nothing s clock order.Open = (ordered_up s clock order.Open refl).nothing
 ordered_nothing s clock order.Close = (ordered_up s clock order.Close refl).nothing
 ordered_nothing s clock order.Suspend = (ordered_up s clock order.Suspend refl).nothing
+ordered_nothing s clock order.Resume = (ordered_up s clock order.Resume refl).nothing
 ordered_nothing s clock order.Release = (ordered_up s clock order.Release refl).nothing
 ordered_nothing s clock (order.Reset copies) =
     resets_nothing (record s { day = ordered_day s.day clock (order.Reset copies) })

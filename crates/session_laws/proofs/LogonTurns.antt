@@ -279,6 +279,7 @@ ordered_mine : (names : Names) (s : Session) (e : Event) (clock : Clock) (o : Or
     → Mine names s.phase e (ordered s clock o)
 unfolding ordered
 ordered_mine names s e clock order.Open = silent_mine names s.phase e _ refl (λ k h. h)
+ordered_mine names s e clock order.Resume = silent_mine names s.phase e _ refl (λ k h. h)
 ordered_mine names s e clock order.Release = silent_mine names s.phase e _ refl (λ k h. h)
 ordered_mine names s e clock order.Close =
     logged_out_mine names (record s { day = record s.day { is_open = false } }) e clock.moment (word.Logout why.Closed) refl

@@ -118,6 +118,7 @@ log_out_still s now reason = logged_out_still s now (word.LogoutFor reason) s.ph
 ordered_still : (s : Session) (clock : Clock) (o : Order) → is_order_to_reset o ≡ false → IsStill s.day (ordered s clock o)
 unfolding ordered
 ordered_still s clock order.Open unless = refl
+ordered_still s clock order.Resume unless = refl
 ordered_still s clock order.Release unless = refl
 ordered_still s clock order.Close unless =
     logged_out_still (record s { day = record s.day { is_open = false } }) clock.moment (word.Logout why.Closed) s.phase

@@ -2,7 +2,7 @@
 use Rattle.std.proofs.Common.{◌≡◌, ℕ, ◌+◌, Bool, true, false, ◌==◌, ◌&&◌, not, nat_lt, nat_le, ◌⊎◌, inl, inr, Option, Some, None, refl, sym, ap, subst, ◌∙◌, arith, if◌then◌else◌}
 use Rattle.std.proofs.lemmas.Bool.{false≢true}
 use Rattle.std.proofs.lemmas.Bool.Decides.{nat_tests}
-use Rattle.fix_sessions.specs.Logons.{refuses, refused, refused_for, logout_of, refusal_day, is_safe, too_low, accepts, answer_number, expected_by, is_ahead, may_reset, judged_ahead, judged_number, judged_reset, judged_terms, judged_denial, judged, judged_by, waits_for, value_or_zero, is_heartbeat, is_in_time, without}
+use Rattle.fix_sessions.specs.Logons.{locked, shows_loss, refuses, refuses_early, refused, refused_early, refused_for, logout_of, refusal_day, is_safe, too_low, accepts, answer_number, expected_by, is_ahead, may_reset, judged_ahead, judged_number, judged_reset, judged_terms, judged_denial, judged, judged_by, waits_for, value_or_zero, is_heartbeat, is_in_time, without}
 use Rattle.fix_sessions.specs.declared.messages.Terms.{Terms}
 use Rattle.fix_sessions.specs.declared.state.Clock.{Clock}
 use Rattle.fix_sessions.specs.declared.state.Day.{Day}
@@ -44,16 +44,28 @@ refused_moves : (s : Session) (connection : ℕ) (terms : Terms) (y : Why)
 refused_moves s connection terms y =
     inl (refuses_still s connection terms (word.Logout y) (notice.Refused y))
 
-refused_for_moves : (s : Session) (connection : ℕ) (terms : Terms) (y : Why) (denial : Option Denial)
-    → LogonMoves terms s.day (refused_for s connection terms y denial)
-refused_for_moves s connection terms y denial =
-    inl (refuses_still s connection terms (logout_of y denial) (notice.Refused y))
+early_still : (s : Session) (connection : ℕ) (clock : Clock) (terms : Terms) (w : Word) (told : Notice)
+    → IsStill s.day (refuses_early s connection clock terms w told)
+early_still s connection clock terms w told =
+    choice (IsStill s.day) (shows_loss s.day clock terms) _ _
+    (λ h. refuses_still (locked s) connection terms w notice.LostStore)
+    (λ h. refuses_still s connection terms w told)
+
+refused_early_moves : (s : Session) (connection : ℕ) (clock : Clock) (terms : Terms) (y : Why)
+    → LogonMoves terms s.day (refused_early s connection clock terms y)
+refused_early_moves s connection clock terms y =
+    inl (early_still s connection clock terms (word.Logout y) (notice.Refused y))
+
+refused_for_moves : (s : Session) (connection : ℕ) (clock : Clock) (terms : Terms) (y : Why)
+    (denial : Option Denial) → LogonMoves terms s.day (refused_for s connection clock terms y denial)
+refused_for_moves s connection clock terms y denial =
+    inl (early_still s connection clock terms (logout_of y denial) (notice.Refused y))
 
 too_low_moves : (s : Session) (connection : ℕ) (terms : Terms) → LogonMoves terms s.day (too_low s connection terms)
 too_low_moves s connection terms =
     let low = why.TooLow s.day.expected in
     choice (LogonMoves terms s.day) (nat_lt s.day.last_logon (value_or_zero terms.sent)) _ _
-    (λ h. inl (refuses_still (record s { day = record s.day { is_locked = true } }) connection terms (word.Logout low) notice.LostStore))
+    (λ h. inl (refuses_still (locked s) connection terms (word.Logout low) notice.LostStore))
     (λ h. refused_moves s connection terms low)
 
 -- the number that is expected once a Logon is accepted, by its 141 and its 34
@@ -148,25 +160,25 @@ reset_moves s connection now terms =
 terms_moves : (s : Session) (connection : ℕ) (clock : Clock) (terms : Terms)
     → LogonMoves terms s.day (judged_terms s connection clock terms)
 terms_moves s connection clock terms =
-    choice (LogonMoves terms s.day) (not terms.is_plain) _ _ (λ h. refused_moves s connection terms why.Encrypted)
-    (λ h. choice (LogonMoves terms s.day) (not terms.is_fix50) _ _ (λ h. refused_moves s connection terms why.Version)
-    (λ h. choice (LogonMoves terms s.day) (not (is_heartbeat terms.seconds)) _ _ (λ h. refused_moves s connection terms why.Heartbeat)
-    (λ h. choice (LogonMoves terms s.day) (not (is_in_time clock terms.sent)) _ _ (λ h. refused_moves s connection terms why.Clock)
+    choice (LogonMoves terms s.day) (not terms.is_plain) _ _ (λ h. refused_early_moves s connection clock terms why.Encrypted)
+    (λ h. choice (LogonMoves terms s.day) (not terms.is_fix50) _ _ (λ h. refused_early_moves s connection clock terms why.Version)
+    (λ h. choice (LogonMoves terms s.day) (not (is_heartbeat terms.seconds)) _ _ (λ h. refused_early_moves s connection clock terms why.Heartbeat)
+    (λ h. choice (LogonMoves terms s.day) (not (is_in_time clock terms.sent)) _ _ (λ h. refused_early_moves s connection clock terms why.Clock)
     (λ h. reset_moves s connection clock.moment terms))))
 
 denial_moves : (s : Session) (connection : ℕ) (clock : Clock) (terms : Terms) (denial : Option Denial)
     → LogonMoves terms s.day (judged_denial s connection clock terms denial)
 denial_moves s connection clock terms None = terms_moves s connection clock terms
 denial_moves s connection clock terms (Some denial) =
-    inl (refuses_still s connection terms (word.LogoutFor denial.text) notice.Denied)
+    inl (early_still s connection clock terms (word.LogoutFor denial.text) notice.Denied)
 
 judged_moves : (s : Session) (connection : ℕ) (clock : Clock) (terms : Terms) (denial : Option Denial)
     → LogonMoves terms s.day (judged s connection clock terms denial)
 judged_moves s connection clock terms denial =
     choice (LogonMoves terms s.day) (not s.day.is_open) _ _
-    (λ h. refused_for_moves s connection terms why.Closed denial)
+    (λ h. refused_for_moves s connection clock terms why.Closed denial)
     (λ h. choice (LogonMoves terms s.day) s.day.is_suspended _ _
-    (λ h. refused_for_moves s connection terms why.Suspended denial)
+    (λ h. refused_for_moves s connection clock terms why.Suspended denial)
     (λ h. denial_moves s connection clock terms denial))
 
 waits_still : (s : Session) (connection now : ℕ) (waiting : Option Waiting)

@@ -269,6 +269,7 @@ ordered_counts : (s : Session) (clock : Clock) (o : Order) → is_order_to_reset
     → Counts true s.day s.phase (ordered s clock o)
 unfolding ordered
 ordered_counts s clock order.Open unless = same_counts true s.day s.phase _ refl refl refl refl
+ordered_counts s clock order.Resume unless = same_counts true s.day s.phase _ refl refl refl refl
 ordered_counts s clock order.Release unless = same_counts true s.day s.phase _ refl refl refl refl
 ordered_counts s clock order.Close unless =
     let r = logged_out_counts (record s { day = record s.day { is_open = false } }) clock.moment (word.Logout why.Closed) refl in

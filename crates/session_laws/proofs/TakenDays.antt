@@ -158,6 +158,7 @@ log_out_up s now reason = logged_out_up s now (word.LogoutFor reason) s.phase
 pub ordered_up : (s : Session) (clock : Clock) (o : Order) → is_order_to_reset o ≡ false → Ups s.day (ordered s clock o)
 unfolding ordered
 ordered_up s clock order.Open unless = same s.day _ refl refl refl
+ordered_up s clock order.Resume unless = same s.day _ refl refl refl
 ordered_up s clock order.Release unless = same s.day _ refl refl refl
 ordered_up s clock order.Close unless =
     let u = logged_out_up (record s { day = record s.day { is_open = false } }) clock.moment (word.Logout why.Closed) s.phase in

@@ -2,7 +2,7 @@
 use Rattle.std.proofs.Common.{◌≡◌, ℕ, ◌≤◌, Bool, true, false, ◌==◌, ◌&&◌, not, nat_lt, nat_le, List, Option, Some, None, refl, sym, ◌∙◌, arith}
 use Rattle.std.proofs.lemmas.Bool.{false≢true}
 use Rattle.fix_sessions.specs.Heard.{logon_of}
-use Rattle.fix_sessions.specs.Logons.{refuses, refused, refused_for, logout_of, refusal_day, is_safe, too_low, accepts, accepted_day, answer_number, expected_by, has_gap, is_ahead, may_reset, judged_ahead, judged_number, judged_reset, judged_terms, judged_denial, judged, judged_by, waits_for, first_by, came_first, value_or_zero, is_heartbeat, is_in_time, without}
+use Rattle.fix_sessions.specs.Logons.{locked, shows_loss, refuses, refuses_early, refused, refused_early, refused_for, logout_of, refusal_day, is_safe, too_low, accepts, accepted_day, answer_number, expected_by, has_gap, is_ahead, may_reset, judged_ahead, judged_number, judged_reset, judged_terms, judged_denial, judged, judged_by, waits_for, first_by, came_first, value_or_zero, is_heartbeat, is_in_time, without}
 use Rattle.fix_sessions.specs.declared.state.Clock.{Clock}
 use Rattle.fix_sessions.specs.declared.state.Day.{Day}
 use Rattle.fix_sessions.specs.declared.state.Phase.{Phase}
@@ -33,18 +33,32 @@ refuses_up s connection terms w told =
 refused_up : (s : Session) (connection : ℕ) (terms : Terms) (y : Why) → Ups s.day (refused s connection terms y)
 refused_up s connection terms y = refuses_up s connection terms (word.Logout y) (notice.Refused y)
 
-refused_for_up : (s : Session) (connection : ℕ) (terms : Terms) (y : Why) (denial : Option Denial) → Ups s.day (refused_for s connection terms y denial)
-refused_for_up s connection terms y denial = refuses_up s connection terms (logout_of y denial) (notice.Refused y)
+locked_up : (s : Session) (connection : ℕ) (terms : Terms) (w : Word) → Ups s.day (refuses (locked s) connection terms w notice.LostStore)
+locked_up s connection terms w =
+    let r = refuses_up (locked s) connection terms w notice.LostStore in
+    record {
+      nothing = r.nothing;
+      grows = record { up = r.grows.up; one = r.grows.one; was = r.grows.was };
+    }
+
+early_up : (s : Session) (connection : ℕ) (clock : Clock) (terms : Terms) (w : Word) (told : Notice)
+    → Ups s.day (refuses_early s connection clock terms w told)
+early_up s connection clock terms w told =
+    choice (Ups s.day) (shows_loss s.day clock terms) _ _
+    (λ h. locked_up s connection terms w) (λ h. refuses_up s connection terms w told)
+
+refused_early_up : (s : Session) (connection : ℕ) (clock : Clock) (terms : Terms) (y : Why) → Ups s.day (refused_early s connection clock terms y)
+refused_early_up s connection clock terms y = early_up s connection clock terms (word.Logout y) (notice.Refused y)
+
+refused_for_up : (s : Session) (connection : ℕ) (clock : Clock) (terms : Terms) (y : Why) (denial : Option Denial)
+    → Ups s.day (refused_for s connection clock terms y denial)
+refused_for_up s connection clock terms y denial = early_up s connection clock terms (logout_of y denial) (notice.Refused y)
 
 too_low_up : (s : Session) (connection : ℕ) (terms : Terms) → Ups s.day (too_low s connection terms)
 too_low_up s connection terms =
     let low = why.TooLow s.day.expected in
     choice (Ups s.day) (nat_lt s.day.last_logon (value_or_zero terms.sent)) _ _
-    (λ h. let r = refuses_up (record s { day = record s.day { is_locked = true } }) connection terms (word.Logout low) notice.LostStore in
-    record {
-      nothing = r.nothing;
-      grows = record { up = r.grows.up; one = r.grows.one; was = r.grows.was };
-    })
+    (λ h. locked_up s connection terms (word.Logout low))
     (λ h. refused_up s connection terms low)
 
 -- numbers are reset only while the venue was given nothing
@@ -104,20 +118,20 @@ reset_up s connection now terms =
 
 terms_up : (s : Session) (connection : ℕ) (clock : Clock) (terms : Terms) → Ups s.day (judged_terms s connection clock terms)
 terms_up s connection clock terms =
-    choice (Ups s.day) (not terms.is_plain) _ _ (λ h. refused_up s connection terms why.Encrypted)
-    (λ h. choice (Ups s.day) (not terms.is_fix50) _ _ (λ h. refused_up s connection terms why.Version)
-    (λ h. choice (Ups s.day) (not (is_heartbeat terms.seconds)) _ _ (λ h. refused_up s connection terms why.Heartbeat)
-    (λ h. choice (Ups s.day) (not (is_in_time clock terms.sent)) _ _ (λ h. refused_up s connection terms why.Clock)
+    choice (Ups s.day) (not terms.is_plain) _ _ (λ h. refused_early_up s connection clock terms why.Encrypted)
+    (λ h. choice (Ups s.day) (not terms.is_fix50) _ _ (λ h. refused_early_up s connection clock terms why.Version)
+    (λ h. choice (Ups s.day) (not (is_heartbeat terms.seconds)) _ _ (λ h. refused_early_up s connection clock terms why.Heartbeat)
+    (λ h. choice (Ups s.day) (not (is_in_time clock terms.sent)) _ _ (λ h. refused_early_up s connection clock terms why.Clock)
     (λ h. reset_up s connection clock.moment terms))))
 
 denial_up : (s : Session) (connection : ℕ) (clock : Clock) (terms : Terms) (denial : Option Denial) → Ups s.day (judged_denial s connection clock terms denial)
 denial_up s connection clock terms None = terms_up s connection clock terms
-denial_up s connection clock terms (Some denial) = refuses_up s connection terms (word.LogoutFor denial.text) notice.Denied
+denial_up s connection clock terms (Some denial) = early_up s connection clock terms (word.LogoutFor denial.text) notice.Denied
 
 judged_up : (s : Session) (connection : ℕ) (clock : Clock) (terms : Terms) (denial : Option Denial) → Ups s.day (judged s connection clock terms denial)
 judged_up s connection clock terms denial =
-    choice (Ups s.day) (not s.day.is_open) _ _ (λ h. refused_for_up s connection terms why.Closed denial)
-    (λ h. choice (Ups s.day) s.day.is_suspended _ _ (λ h. refused_for_up s connection terms why.Suspended denial)
+    choice (Ups s.day) (not s.day.is_open) _ _ (λ h. refused_for_up s connection clock terms why.Closed denial)
+    (λ h. choice (Ups s.day) s.day.is_suspended _ _ (λ h. refused_for_up s connection clock terms why.Suspended denial)
     (λ h. denial_up s connection clock terms denial))
 
 waits_up : (s : Session) (connection now : ℕ) (waiting : Option Waiting) → Ups s.day (waits_for s connection now waiting)

@@ -3,7 +3,7 @@
 use Rattle.std.proofs.Common.{◌≡◌, ℕ, ◌+◌, ◌≤◌, Bool, true, false, ◌==◌, ◌&&◌, not, nat_lt, ◌⊎◌, inl, inr, Option, Some, None, is_some, refl, sym, ◌∙◌, arith}
 use Rattle.std.proofs.lemmas.Bool.Decides.{nat_tests}
 use Rattle.fix_sessions.specs.Outcomes.{quiet, ended}
-use Rattle.fix_sessions.specs.Logons.{refuses, refused, refused_for, refusal_day, refusal_number, is_safe, too_low, accepts, accepted_day, answer_number, has_one, expected_by, is_ahead, may_reset, judged_ahead, judged_number, judged_reset, judged_terms, judged_denial, judged, judged_by, waits_for, probed, first_by, value_or_zero, is_heartbeat, is_in_time, without}
+use Rattle.fix_sessions.specs.Logons.{locked, shows_loss, refuses, refuses_early, refused, refused_early, refused_for, refusal_day, refusal_number, is_safe, too_low, accepts, accepted_day, answer_number, has_one, expected_by, is_ahead, may_reset, judged_ahead, judged_number, judged_reset, judged_terms, judged_denial, judged, judged_by, waits_for, probed, first_by, value_or_zero, is_heartbeat, is_in_time, without}
 use Rattle.fix_sessions.specs.Rows.{below}
 use Rattle.session_laws.specs.Kept.{entered, Within}
 use Rattle.session_laws.specs.Logons.{sends}
@@ -103,20 +103,37 @@ refused_first : (s : Session) (connection : ℕ) (terms : Terms) (y : Why)
 refused_first s connection terms y =
     refuses_first s connection terms (word.Logout y) (notice.Refused y) refl
 
-refused_for_first : (s : Session) (connection : ℕ) (terms : Terms) (y : Why) (denial : Option Denial)
-    → First s connection (refused_for s connection terms y denial)
-refused_for_first s connection terms y None =
-    refuses_first s connection terms (word.Logout y) (notice.Refused y) refl
-refused_for_first s connection terms y (Some denial) =
-    refuses_first s connection terms (word.LogoutFor denial.text) (notice.Refused y) refl
+-- a session that is locked is as it was
+locked_first : (s : Session) (connection : ℕ) (terms : Terms) (w : Word)
+    → is_own_word w ≡ true → First s connection (refuses (locked s) connection terms w notice.LostStore)
+locked_first s connection terms w own =
+    let r = refuses_first (locked s) connection terms w notice.LostStore own in
+    record { on = r.on; whose = r.whose; most = r.most; kept = r.kept; new = r.new; sound = r.sound; own = r.own }
+
+early_first : (s : Session) (connection : ℕ) (clock : Clock) (terms : Terms) (w : Word) (told : Notice)
+    → is_own_word w ≡ true → First s connection (refuses_early s connection clock terms w told)
+early_first s connection clock terms w told own =
+    choice (First s connection) (shows_loss s.day clock terms) _ _
+    (λ h. locked_first s connection terms w own) (λ h. refuses_first s connection terms w told own)
+
+refused_early_first : (s : Session) (connection : ℕ) (clock : Clock) (terms : Terms) (y : Why)
+    → First s connection (refused_early s connection clock terms y)
+refused_early_first s connection clock terms y =
+    early_first s connection clock terms (word.Logout y) (notice.Refused y) refl
+
+refused_for_first : (s : Session) (connection : ℕ) (clock : Clock) (terms : Terms) (y : Why)
+    (denial : Option Denial) → First s connection (refused_for s connection clock terms y denial)
+refused_for_first s connection clock terms y None =
+    early_first s connection clock terms (word.Logout y) (notice.Refused y) refl
+refused_for_first s connection clock terms y (Some denial) =
+    early_first s connection clock terms (word.LogoutFor denial.text) (notice.Refused y) refl
 
 too_low_first : (s : Session) (connection : ℕ) (terms : Terms)
     → First s connection (too_low s connection terms)
 too_low_first s connection terms =
     let low = why.TooLow s.day.expected in
     choice (First s connection) (nat_lt s.day.last_logon (value_or_zero terms.sent)) _ _
-    (λ h. let r = refuses_first (record s { day = record s.day { is_locked = true } }) connection terms (word.Logout low) notice.LostStore refl in
-    record { on = r.on; whose = r.whose; most = r.most; kept = r.kept; new = r.new; sound = r.sound; own = r.own })
+    (λ h. locked_first s connection terms (word.Logout low) refl)
     (λ h. refused_first s connection terms low)
 
 accepted_up : (d : Day) (terms : Terms) → d.next ≤ (accepted_day d terms).next
@@ -166,23 +183,23 @@ reset_first s connection now terms =
 terms_first : (s : Session) (connection : ℕ) (clock : Clock) (terms : Terms)
     → First s connection (judged_terms s connection clock terms)
 terms_first s connection clock terms =
-    choice (First s connection) (not terms.is_plain) _ _ (λ h. refused_first s connection terms why.Encrypted)
-    (λ h. choice (First s connection) (not terms.is_fix50) _ _ (λ h. refused_first s connection terms why.Version)
-    (λ h. choice (First s connection) (not (is_heartbeat terms.seconds)) _ _ (λ h. refused_first s connection terms why.Heartbeat)
-    (λ h. choice (First s connection) (not (is_in_time clock terms.sent)) _ _ (λ h. refused_first s connection terms why.Clock)
+    choice (First s connection) (not terms.is_plain) _ _ (λ h. refused_early_first s connection clock terms why.Encrypted)
+    (λ h. choice (First s connection) (not terms.is_fix50) _ _ (λ h. refused_early_first s connection clock terms why.Version)
+    (λ h. choice (First s connection) (not (is_heartbeat terms.seconds)) _ _ (λ h. refused_early_first s connection clock terms why.Heartbeat)
+    (λ h. choice (First s connection) (not (is_in_time clock terms.sent)) _ _ (λ h. refused_early_first s connection clock terms why.Clock)
     (λ h. reset_first s connection clock.moment terms))))
 
 denial_first : (s : Session) (connection : ℕ) (clock : Clock) (terms : Terms) (denial : Option Denial)
     → First s connection (judged_denial s connection clock terms denial)
 denial_first s connection clock terms None = terms_first s connection clock terms
 denial_first s connection clock terms (Some denial) =
-    refuses_first s connection terms (word.LogoutFor denial.text) notice.Denied refl
+    early_first s connection clock terms (word.LogoutFor denial.text) notice.Denied refl
 
 judged_first : (s : Session) (connection : ℕ) (clock : Clock) (terms : Terms) (denial : Option Denial)
     → First s connection (judged s connection clock terms denial)
 judged_first s connection clock terms denial =
-    choice (First s connection) (not s.day.is_open) _ _ (λ h. refused_for_first s connection terms why.Closed denial)
-    (λ h. choice (First s connection) s.day.is_suspended _ _ (λ h. refused_for_first s connection terms why.Suspended denial)
+    choice (First s connection) (not s.day.is_open) _ _ (λ h. refused_for_first s connection clock terms why.Closed denial)
+    (λ h. choice (First s connection) s.day.is_suspended _ _ (λ h. refused_for_first s connection clock terms why.Suspended denial)
     (λ h. denial_first s connection clock terms denial))
 
 -- who asks the old connection leaves it the session

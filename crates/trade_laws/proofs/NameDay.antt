@@ -348,3 +348,12 @@ module _ (lone : LoneQuotes) (words : WordsOfDay) (config : Configuration)
       let begins = begins_it (hits two last.facts) (answers two duties) (notices two last.facts)
       (tells two duties) kept.same (ordered_length two duties kept.ordered) in
       record { later = begins.0; begins = begins.1 }
+
+  -- where the investor has no duty left the two lists are one
+  pub names_both : pending (actor.Firm investor) last ≡ [] → hits two last.facts ≡ notices two last.facts
+  names_both idle =
+      let kept = walk [] steps refl start in
+      sym (append-nil (hits two last.facts))
+      ∙ ap (λ (l : List Duty). hits two last.facts ++ answers two l) (sym idle) ∙ kept.same
+      ∙ ap (λ (l : List Duty). notices two last.facts ++ tells two l) idle
+      ∙ append-nil (notices two last.facts)

@@ -8,6 +8,7 @@
 //!   on threads that a list of steps sends as it is recorded.
 //! - [`a_trade_has_one_name`]: the k-th answer 297=0 to an investor's hits on a dealer's quotes, and
 //!   the dealer's k-th notice 694=1 on requests of that investor, are of one request.
+//! - [`a_trade_is_named_on_both_sides`]: where no duty is left, each of the one has its other.
 //! - [`no_duty_is_left_on_a_live_day`]: on a live day no duty is left behind a line, so that law
 //!   holds after each.
 //!
@@ -21,7 +22,7 @@ mod sides;
 mod woven;
 
 pub use live_laws::no_duty_is_left_on_a_live_day;
-pub use names::a_trade_has_one_name;
+pub use names::{a_trade_has_one_name, a_trade_is_named_on_both_sides};
 pub use sent::both_sides_of_a_trade_are_sent_it;
 pub use sides::both_sides_of_a_trade_agree;
 pub use woven::both_sides_of_a_trade_are_sent_it_on_threads;

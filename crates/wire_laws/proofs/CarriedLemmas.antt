@@ -5,7 +5,7 @@ use Rattle.std.specs.Cmp.Lexicographic.{pointwise}
 use Rattle.fix_fields.specs.Frame.{Field}
 use Rattle.wire_messages.specs.ToFirm.{VenueMessage, referred, timed, told_fields, to_firm, venue_fields, without_added}
 use Rattle.wire_messages.proofs.BackLemmas.{plain_of, reads_back, moment_back}
-use Rattle.wire_laws.specs.Carried.{AreCarried, AreRead, AreSame, IsCarried, Saying, blank, blanked, said_by_venue, said_on_wire, saying_in, value_in}
+use Rattle.wire_laws.specs.Carried.{AreCarried, AreMade, AreRead, AreSame, IsCarried, IsMade, Saying, blank, blanked, said_by_venue, said_on_wire, saying_in, value_in}
 
 -- 45 of a Reject is left empty whatever it was
 blank_by : (a p q : Bool) (number : List ℕ) (field : Field) → (field.0 == 45) ≡ a
@@ -85,9 +85,9 @@ blanked_wire reference told m =
 some_fields : (xs ys : List Field) → Some xs ≡ Some ys → xs ≡ ys
 some_fields xs ys is = cc
 
-pub carried_once : (bytes : List ℕ) (number other_number : ℕ) (told : Option Field) (body other : List Field)
-    → IsCarried bytes number told body → IsCarried bytes other_number told other → blanked body ≡ blanked other
-carried_once bytes number other_number told body other one two =
+pub made_once : (bytes : List ℕ) (number other_number : ℕ) (told : Option Field) (body other : List Field)
+    → IsMade bytes number told body → IsMade bytes other_number told other → blanked body ≡ blanked other
+made_once bytes number other_number told body other one two =
     let m = one.message in
     let n = two.message in
     let same : venue_fields m ≡ venue_fields n =
@@ -104,12 +104,12 @@ carried_once bytes number other_number told body other one two =
     ∙ sym (blanked_wire two.reference told n) ∙ ap blanked (sym two.is)
 
 pub all_same : (number : ℕ) (frames : List (List ℕ)) (tolds : List (Option Field)) (bodies others : List (List Field))
-    → AreCarried number frames tolds bodies → AreCarried number frames tolds others → AreSame bodies others
+    → AreMade number frames tolds bodies → AreMade number frames tolds others → AreSame bodies others
 all_same number frames tolds [] others one two = tt
 all_same number frames tolds (body ∷ bodies) [] one two = tt
 all_same number [] tolds (body ∷ bodies) (other ∷ others) one two = absurd one
 all_same number (frame ∷ frames) [] (body ∷ bodies) (other ∷ others) one two = absurd one
 all_same number (frame ∷ frames) (told ∷ tolds) (body ∷ bodies) (other ∷ others) one two = (
-  carried_once frame number number told body other one.0 two.0,
+  made_once frame number number told body other one.0 two.0,
   all_same (number + 1) frames tolds bodies others one.1 two.1,
 )

@@ -4,8 +4,27 @@ use Rattle.std.specs.Cmp.Lexicographic.{pointwise}
 use Rattle.fix_fields.specs.Frame.{Field, frame_of, value_of}
 use Rattle.wire_messages.specs.ToFirm.{IsOfVenue, IsTold, VenueMessage, has_added, to_firm, without_added}
 
--- A message of the venue under this number is carried as these fields: they are what `to_firm` gives of
--- it, with some number of the session's in 45 of a Reject, and with what is told beside it.
+-- These fields are made of a message of the venue under this number: they are what `to_firm` says of it,
+-- with some number of the session's in 45 of a Reject, and with what is told beside it.
+pub record IsMade (bytes : List ℕ) (number : ℕ) (told : Option Field) (body : List Field) : Type 0 where
+  pub reference : ℕ
+  pub message : VenueMessage
+  pub of_venue : IsOfVenue bytes number message
+  pub is : body ≡ to_firm reference told message
+
+-- The session is given what is made of the venue's messages, in their order, from this number on, each
+-- with what is told beside it: the first of them, or all. What is told may be anything, and no message
+-- need be one that reads back.
+abbrev pub AreMade : ℕ → List (List ℕ) → List (Option Field) → List (List Field) → Type 0
+AreMade number frames tolds [] = Unit {0}
+AreMade number [] tolds (body ∷ bodies) = ⊥
+AreMade number (frame ∷ frames) [] (body ∷ bodies) = ⊥
+AreMade number (frame ∷ frames) (told ∷ tolds) (body ∷ bodies) =
+    IsMade frame number told body × AreMade (number + 1) frames tolds bodies
+
+-- A message of the venue under this number is carried as these fields: they are made of it, and read
+-- back: what is told beside it is a reason or a trade's name, and the message itself has none of the
+-- fields that are added.
 pub record IsCarried (bytes : List ℕ) (number : ℕ) (told : Option Field) (body : List Field) : Type 0 where
   pub reference : ℕ
   pub message : VenueMessage

@@ -11,15 +11,15 @@ ghost use Rattle.session_laws.specs.Given.{given_bodies, of_venue};
 ghost use Rattle.session_laws.specs.Kept.{all_kept};
 ghost use Rattle.session_laws.specs.Stamps.{without_header};
 ghost use Rattle.wire_messages.specs.ToFirm.{VenueMessage, to_firm};
-ghost use Rattle.wire_laws.specs.Carried.{AreCarried, AreRead, AreSame};
+ghost use Rattle.wire_laws.specs.Carried.{AreCarried, AreMade, AreRead, AreSame};
 
 use session_laws::{what_is_kept_was_given, what_leaves_is_what_is_kept};
 
 /// A law: what is kept of the venue's messages, in the order of its numbers, reads back as the messages
 /// that the venue sent, each in its place, but for 45 of a Reject. And two sessions that are given the
-/// same messages keep the same. Between two resets by an operator, after every list of events. The
-/// premise is that the session is given what `to_firm` gives of the venue's messages, in their order.
-/// It does nothing.
+/// same messages keep the same, whether they read back or not. Between two resets by an operator, after
+/// every list of events. The premise is that the session is given what `to_firm` gives of the venue's
+/// messages, in their order. It does nothing.
 pub fn what_is_kept_reads_back()
     ensures read { (names : Names) (s : Session) (events : List Event) (frames : List (List ℕ))
         (tolds : List (Option Field)) → without_resets events ≡ true
@@ -28,8 +28,8 @@ pub fn what_is_kept_reads_back()
     ensures same { (names others : Names) (s other : Session) (events more : List Event)
         (frames : List (List ℕ)) (tolds : List (Option Field))
         → without_resets events ≡ true → without_resets more ≡ true
-        → AreCarried 1 frames tolds (given_bodies names s events)
-        → AreCarried 1 frames tolds (given_bodies others other more)
+        → AreMade 1 frames tolds (given_bodies names s events)
+        → AreMade 1 frames tolds (given_bodies others other more)
         → AreSame (of_venue (all_kept names s [] events))
         (of_venue (all_kept others other [] more)) }
 {

@@ -14,7 +14,7 @@ ghost use Rattle.step_replay.specs.declared.dues.Due.{Due};
 ghost use Rattle.step_replay.specs.declared.steps.Step.{Step};
 ghost use Rattle.venue_rows.specs.Rows.{Configuration, dealer_numbered};
 ghost use Rattle.venue_rows.specs.declared.dealer_rows.DealerRow.{DealerRow};
-ghost use Rattle.wire_laws.specs.Carried.{AreCarried, AreRead, AreSame};
+ghost use Rattle.wire_laws.specs.Carried.{AreCarried, AreMade, AreRead, AreSame};
 
 use crate::carrying::what_is_kept_reads_back;
 use step_replay::dealers_are_isolated;
@@ -39,7 +39,8 @@ pub fn dealers_are_read_back()
 /// of what was due to it in both, and both have the same words for what is noted, then what is kept of
 /// its n-th message (1181=n) is the same in both, byte for byte, but for 45 of a Reject. And whatever
 /// leaves of it is that, but for the session's header (`what_leaves_is_the_venues`). The sessions may
-/// differ in all that comes to them, as the steps of all firms may. It does nothing.
+/// differ in all that comes to them, as the steps of all firms may. Nothing is asked of the messages,
+/// nor of what is told beside them, but that it is the same in both. It does nothing.
 pub fn dealers_are_isolated_on_the_wire()
     ensures { (one other : Configuration) (steps others : List Step) (dealer number : ℕ)
         (row : DealerRow) (words : List (Option DealerNote) → List (Option Field))
@@ -49,11 +50,11 @@ pub fn dealers_are_isolated_on_the_wire()
         → venue.due_to dealer (venue.audit_trail one steps)
         ≡ venue.due_to number (venue.audit_trail other others)
         → without_resets events ≡ true → without_resets more ≡ true
-        → AreCarried 1 (venue.sent_to one dealer (venue.audit_trail one steps))
+        → AreMade 1 (venue.sent_to one dealer (venue.audit_trail one steps))
         (words (dealer_note_view one.date row
         (venue.due_to dealer (venue.audit_trail one steps))))
         (given_bodies names s events)
-        → AreCarried 1 (venue.sent_to other number (venue.audit_trail other others))
+        → AreMade 1 (venue.sent_to other number (venue.audit_trail other others))
         (words (dealer_note_view other.date row
         (venue.due_to number (venue.audit_trail other others))))
         (given_bodies more_names t more)

@@ -1,0 +1,4 @@
+mod AwardLemmas
+mod LaterLemmas
+mod SweepLemmas
+mod TurnLemmas

@@ -1,0 +1,4 @@
+pub mod Answered
+pub mod Awards
+pub mod Later
+pub mod Overdue

@@ -1,0 +1,484 @@
+-- What is left of a request that is accepted, and of a quote and a decline that take effect in a room.
+use Rattle.std.proofs.Common.{◌≡◌, ◌+◌, ℕ, Bool, true, false, List, [], ◌∷◌, ◌++◌, map}
+use Rattle.std.proofs.Common.{Option, Some, None, is_some, option_map, refl, inl}
+use Rattle.std.proofs.Common.{if◌then◌else◌, length, Result, Ok, Err, ◌&&◌}
+use Rattle.std.specs.Option.{option_to_list}
+use Rattle.market_terms.specs.declared.closes.HitRefusal.{HitRefusal}
+use Rattle.market_terms.specs.declared.closes.Reply.{Reply}
+use Rattle.market_terms.specs.declared.duties.Duty.{Duty}
+use Rattle.market_terms.specs.declared.duties.Duty.TheVariants as duty
+use Rattle.market_terms.specs.declared.rooms.Offer.{Offer}
+use Rattle.market_terms.specs.declared.rooms.ResponseRef.{ResponseRef}
+use Rattle.market_terms.specs.declared.rooms.RoomRef.{RoomRef}
+use Rattle.venue_rows.specs.Rows.{Configuration, dealer_numbered, has_room}
+use Rattle.venue_rows.specs.declared.investor_rows.InvestorRow.{InvestorRow}
+use Rattle.venue_places.specs.Dealers.{Dealer, acting_dealer, dealer_at, dealer_of, has_word_for, offer_of}
+use Rattle.venue_places.specs.Dealers.{word_for}
+use Rattle.venue_rows.specs.declared.dealer_rows.DealerRow.{DealerRow}
+use Rattle.venue_places.specs.declared.actors.Actor.{Actor}
+use Rattle.venue_places.specs.declared.actors.Actor.TheVariants as actor
+use Rattle.dealer_desk.specs.DealerOutput.{number_in}
+use Rattle.dealer_desk.specs.declared.events.DealerEvent.{DealerEvent}
+use Rattle.dealer_desk.specs.declared.events.DealerEvent.TheVariants as at_desk
+use Rattle.investor_desk.specs.InvestorDesk.{market_for, market_of}
+use Rattle.investor_desk.specs.InvestorFacts.{Asked, InvestorBook, InvestorFact, StandingRequest}
+use Rattle.investor_desk.specs.InvestorFacts as investor_facts
+use Rattle.investor_desk.specs.InvestorOutput as investor_output
+use Rattle.investor_desk.specs.InvestorRules.{InvestorMarket, investor_verdict}
+use Rattle.investor_desk.specs.declared.events.InvestorEvent.{InvestorEvent}
+use Rattle.investor_desk.specs.declared.events.InvestorEvent.TheVariants as at_investor
+use Rattle.investor_desk.specs.declared.standing.RequestClose.{RequestClose}
+use Rattle.investor_desk.specs.declared.standing.ShownOffer.{ShownOffer}
+use Rattle.investor_desk.specs.declared.verdicts.InvestorVerdict.{InvestorVerdict}
+use Rattle.investor_desk.specs.declared.verdicts.InvestorVerdict.TheVariants as asks
+use Rattle.request_room.specs.Book.{end_by, event_facts, expired, hit_outcome, may_expire, may_unpost, passed}
+use Rattle.request_room.specs.Book.{quote_posted, where_so}
+use Rattle.request_room.specs.RoomFacts.{Ended, Noted, Opened, Posted, Readied, RoomFact, Unposted, hears}
+use Rattle.request_room.specs.RoomFacts.{is_open, is_opening, is_vacant}
+use Rattle.request_room.specs.RoomFacts.{takes_quotes}
+use Rattle.request_room.specs.declared.ends.End.{End}
+use Rattle.request_room.specs.declared.quotes.PostedQuote.{PostedQuote}
+use Rattle.request_room.specs.declared.events.RoomEvent.{RoomEvent}
+use Rattle.request_room.specs.declared.events.RoomEvent.TheVariants as at_room
+use Rattle.quote_word.specs.declared.settled.Settled.{Settled}
+use Rattle.venue_steps.specs.InvestorSteps.{replies_to}
+use Rattle.venue_steps.specs.RoomSteps.{hit_word, where_follows}
+use Rattle.step_replay.specs.Actions.{Effect, QuoteRef, at_dealer, at_market, done_by, done_for, drop_at}
+use Rattle.step_replay.specs.Actions.{answer_to_hit, declined_by, dropped_by, hit_with, in_room, left_by_drop}
+use Rattle.step_replay.specs.Actions.{left_by, lifting, nothing, quote_asked, quote_with_word}
+use Rattle.step_replay.specs.Actions.{posted_by, settlement_of, verdict_on}
+use Rattle.step_replay.specs.Actions.{received_by_dealer, received_by_investor, where_known}
+use Rattle.step_replay.specs.AuditTrail.{AuditTrail}
+use Rattle.step_replay.specs.DealerTrail.{entries_of, rooms_by}
+use Rattle.step_replay.specs.DutyEffects.{duty_effect, message_effect, sweep_effect}
+use Rattle.step_replay.specs.EachLemmas.{Every, every_both, every_weaker}
+use Rattle.step_replay.specs.GrowthLemmas.{In}
+use Rattle.step_replay.specs.InvestorTrail as investor_trail
+use Rattle.step_replay.specs.InvestorTrail.{InvestorEntry}
+use Rattle.step_replay.specs.VenueFacts.{AtDealer, AtInvestor, Fact, InRoom, of_dealer, of_investor}
+use Rattle.step_replay.specs.VenueFacts.{of_room}
+use Rattle.day_parts.specs.ActionCases.{by_does, if_does, invested_does, numbered_does, told_does}
+use Rattle.day_parts.specs.ActionCases.{unless_does}
+use Rattle.day_parts.specs.KeptItems.{every_map}
+use Rattle.trade_laws.specs.Trades.{room_of}
+use Rattle.venue_laws.proofs.VenueParts.{duties_by}
+use Rattle.laws_rooms.specs.Told.{IsItsOffer}
+
+-- What adds no accepted request, and no quote and no decline of a room.
+
+abbrev pub IsOther : Fact → Type 0
+IsOther (InRoom room (Posted quote)) = ⊥
+IsOther (InRoom room (Noted dealer)) = ⊥
+IsOther (AtInvestor investor (investor_trail.AtDesk (Asked request))) = ⊥
+IsOther fact = Unit {0}
+
+pub record Quiet (effect : Effect) : Type 0 where
+  pub facts : Every IsOther effect.facts
+
+mapped : {A B : Type 0} (P : B → Type 0) (f : A → B) (xs : List A)
+    → Every (λ (x : A). P (f x)) xs → Every P (map f xs)
+mapped P f [] every = tt
+mapped P f (x ∷ xs) every = (every.0, mapped P f xs every.1)
+
+module _ (config : Configuration) (facts : List Fact) where
+  none : Quiet nothing
+  none = record { facts = tt }
+
+  desk_quiet : (dealer : Dealer) (event : DealerEvent) (duties : List Duty)
+      → Quiet (at_dealer config facts dealer event duties)
+  desk_quiet dealer event duties =
+      record {
+        facts = every_map IsOther (AtDealer dealer.number) (λ entry. tt)
+            (entries_of config.date dealer.row (of_dealer dealer.number facts) event);
+      }
+
+  received_quiet : (dealer : Dealer) (moment : ℕ) (bytes : List ℕ)
+      → Quiet (received_by_dealer config facts moment bytes dealer)
+  received_quiet dealer moment bytes =
+      let found = verdict_on config facts moment bytes dealer in
+      let trail = of_dealer dealer.number facts in
+      if_does Quiet none _ (at_dealer config facts dealer
+      (at_desk.Received moment bytes (settlement_of trail found)) (left_by trail moment found))
+      (desk_quiet dealer (at_desk.Received moment bytes (settlement_of trail found)) (left_by trail moment found))
+
+  abbrev AtRoom : RoomRef → RoomFact → Type 0
+  AtRoom room fact = IsOther (InRoom room fact)
+
+  so_quiet : (room : RoomRef) (is : Bool) (fact : RoomFact) → AtRoom room fact
+      → Every (AtRoom room) (where_so is fact)
+  so_quiet room true fact other = (other, tt)
+  so_quiet room false fact other = tt
+
+  end_quiet : (room : RoomRef) (outcome : Result End HitRefusal) (moment : ℕ)
+      → Every (AtRoom room) (end_by outcome moment)
+  end_quiet room (Ok award) moment = (tt, tt)
+  end_quiet room (Err why) moment = tt
+
+  abbrev IsNoPost : RoomEvent → Type 0
+  IsNoPost (at_room.Post dealer word price until) = ⊥
+  IsNoPost (at_room.Decline dealer) = ⊥
+  IsNoPost event = Unit {0}
+
+  event_quiet : (room : RoomRef) (known : List RoomFact) (event : RoomEvent) → IsNoPost event
+      → Every (AtRoom room) (event_facts known event)
+  unfolding event_facts
+  event_quiet room known (at_room.Open request) isnt = so_quiet room (is_vacant known) (Opened request) tt
+  event_quiet room known at_room.Ready isnt = so_quiet room (is_opening known) Readied tt
+  event_quiet room known (at_room.Post dealer word price until) isnt = absurd isnt
+  event_quiet room known (at_room.Unpost dealer word) isnt =
+      so_quiet room (may_unpost known dealer word) (Unposted dealer word) tt
+  event_quiet room known (at_room.Decline dealer) isnt = absurd isnt
+  event_quiet room known (at_room.Hit word moment settlement) isnt =
+      end_quiet room (hit_outcome known word moment settlement) moment
+  event_quiet room known (at_room.Pass moment) isnt = so_quiet room (is_open known) (Ended passed moment) tt
+  event_quiet room known (at_room.Expire moment) isnt =
+      so_quiet room (may_expire known moment) (Ended expired moment) tt
+
+  room_quiet : (room : RoomRef) (may : Bool) (event : RoomEvent) (duties : List Duty) → IsNoPost event
+      → Quiet (in_room config facts room may event duties)
+  room_quiet room may event duties isnt =
+      if_does Quiet none (has_room config room.investor room.n && may) _ (record {
+        facts = mapped IsOther (InRoom room) (event_facts (of_room room facts) event)
+            (event_quiet room (of_room room facts) event isnt);
+      })
+
+  -- What comes to an investor, and is no message of its own.
+  module _ (market : InvestorMarket) where
+    abbrev AtDesk : InvestorFact → Type 0
+    AtDesk fact = IsOther (AtInvestor market.firm (investor_trail.AtDesk fact))
+
+    abbrev AtThis : InvestorEntry → Type 0
+    AtThis entry = IsOther (AtInvestor market.firm entry)
+
+    gone_so : (number : ℕ) (found : Option ShownOffer)
+        → Every AtDesk (investor_output.gone_facts number found)
+    gone_so number None = tt
+    gone_so number (Some shown) = (tt, tt)
+
+    offer_so : (book : InvestorBook) (number : ℕ) (offer : Offer) (own : Option StandingRequest)
+        → Every AtDesk (investor_output.offer_facts book number offer own)
+    offer_so book number offer None = tt
+    offer_so book number offer (Some own) =
+        every_both AtDesk (investor_output.gone_facts number (investor_facts.offer_of_dealer own offer.dealer))
+        (investor_facts.Offered (investor_output.next_offer book number offer) ∷ [])
+        (gone_so number (investor_facts.offer_of_dealer own offer.dealer)) (tt, tt)
+
+    withdrawal_so : (number word : ℕ) (own : Option StandingRequest)
+        → Every AtDesk (investor_output.withdrawal_facts number word own)
+    withdrawal_so number word None = tt
+    withdrawal_so number word (Some own) = gone_so number (investor_facts.offer_with_word own word)
+
+    closed_so : (number : ℕ) (found : Option RequestClose)
+        → Every AtDesk (investor_output.closed_facts number found)
+    closed_so number None = tt
+    closed_so number (Some how) = (tt, tt)
+
+    answer_so : (book : InvestorBook) (number : ℕ) (response : ResponseRef) (answer : Reply)
+        (own : Option StandingRequest)
+        → Every AtDesk (investor_output.answer_facts book number response answer own)
+    answer_so book number response answer None = tt
+    answer_so book number response answer (Some own) =
+        closed_so number (investor_output.close_by_answer book response (investor_output.refusal_of answer))
+
+    expiry_so : (number : ℕ) (own : Option StandingRequest)
+        → Every AtDesk (investor_output.expiry_facts number own)
+    expiry_so number None = tt
+    expiry_so number (Some own) = (tt, tt)
+
+    market_quiet : (event : InvestorEvent) (duties : List Duty)
+        → Every AtDesk (investor_output.event_facts market
+        (investor_trail.book_by (of_investor market.firm facts)) event)
+        → Quiet (at_market facts market event duties)
+    unfolding investor_trail.entries_of
+    market_quiet event duties each =
+        let trail = of_investor market.firm facts in
+        let added = investor_output.event_facts market (investor_trail.book_by trail) event in
+        let messages = investor_output.written_from market (length (investor_trail.sent_by trail) + 1)
+        (investor_output.moment_of event)
+        (investor_output.event_messages market (investor_trail.book_by trail) event) in
+        record {
+          facts = mapped IsOther (AtInvestor market.firm)
+              (map investor_trail.AtDesk added ++ map investor_trail.Sent messages)
+              (every_both AtThis (map investor_trail.AtDesk added) (map investor_trail.Sent messages)
+              (mapped AtThis investor_trail.AtDesk added each)
+              (every_map AtThis investor_trail.Sent (λ bytes. tt) messages));
+        }
+
+  known_quiet : (request : ℕ) (quote : Option ℕ) (event : InvestorEvent) (market : InvestorMarket)
+      → Every (AtDesk market) (investor_output.event_facts market
+      (investor_trail.book_by (of_investor market.firm facts)) event)
+      → Quiet (where_known facts request quote event market)
+  known_quiet request quote event market each =
+      if_does Quiet none _ (at_market facts market event []) (market_quiet market event [] each)
+
+  -- what comes to the investor of a request
+  comes_quiet : (investor request : ℕ) (event : InvestorEvent)
+      → ((market : InvestorMarket) → Every (AtDesk market) (investor_output.event_facts market
+      (investor_trail.book_by (of_investor market.firm facts)) event))
+      → Quiet (done_for (market_for config investor) (where_known facts request None event))
+  comes_quiet investor request event each =
+      invested_does Quiet none config investor (where_known facts request None event)
+      (λ row. known_quiet request None event (market_of config investor row) (each (market_of config investor row)))
+
+  lifted_quiet : (found : Option QuoteRef) (outcome : Result End HitRefusal)
+      → Every IsOther (lifting found outcome)
+  lifted_quiet None outcome = tt
+  lifted_quiet (Some hit) (Ok award) = (tt, tt)
+  lifted_quiet (Some hit) (Err why) = tt
+
+  hit_quiet : (room : RoomRef) (response : ResponseRef) (word moment : ℕ) (settlement : Option Settled)
+      → Quiet (hit_with config facts room response word moment settlement)
+  hit_quiet room response word moment settlement =
+      let known = of_room room facts in
+      let lifted = lifting (quote_with_word config word) (hit_outcome known word moment settlement) in
+      let happened = event_facts known (at_room.Hit word moment settlement) in
+      record {
+        facts = every_both IsOther lifted (map (InRoom room) happened)
+            (lifted_quiet (quote_with_word config word) (hit_outcome known word moment settlement))
+            (mapped IsOther (InRoom room) happened
+            (event_quiet room known (at_room.Hit word moment settlement) tt));
+      }
+
+  abbrev IsNoPosting : Duty → Type 0
+  IsNoPosting (duty.Post room quote price valid_until moment) = ⊥
+  IsNoPosting (duty.Decline room moment) = ⊥
+  IsNoPosting d = Unit {0}
+
+  duty_quiet : (by : Actor) (d : Duty) → IsNoPosting d → Quiet (duty_effect config facts by d)
+  unfolding duty_effect investor_output.event_facts
+  duty_quiet by (duty.Open room ask dealers moment) isnt =
+      room_quiet room true (at_room.Open (record { ask = ask; dealers = dealers })) _ tt
+  duty_quiet by (duty.Show dealer room ask moment) isnt =
+      numbered_does Quiet none config dealer _ (λ row found. unless_does Quiet none _ _
+      (desk_quiet (dealer_of dealer row) (at_desk.Shown room ask moment) []))
+  duty_quiet by (duty.Ready room moment) isnt = room_quiet room true at_room.Ready [] tt
+  duty_quiet by (duty.Post room quote price valid_until moment) isnt = absurd isnt
+  duty_quiet by (duty.Relay room offer moment) isnt =
+      comes_quiet room.investor room.n (at_investor.QuoteCame room.n offer moment)
+      (λ market. let book = investor_trail.book_by (of_investor market.firm facts) in
+      offer_so market book room.n offer (investor_facts.open_request book room.n))
+  duty_quiet by (duty.Unpost room quote moment) isnt =
+      by_does Quiet none (acting_dealer config by) _ (λ dealer. room_quiet room _
+      (at_room.Unpost dealer.number (word_for config dealer quote)) _ tt)
+  duty_quiet by (duty.Gone room word moment) isnt =
+      comes_quiet room.investor room.n (at_investor.QuoteGone room.n word moment)
+      (λ market. let book = investor_trail.book_by (of_investor market.firm facts) in
+      withdrawal_so market room.n word (investor_facts.open_request book room.n))
+  duty_quiet by (duty.Decline room moment) isnt = absurd isnt
+  duty_quiet by (duty.Declined room moment) isnt =
+      by_does Quiet none (acting_dealer config by) _ (λ dealer. comes_quiet room.investor room.n
+      (at_investor.DealerDeclined room.n dealer.row.name moment) (λ market. tt))
+  duty_quiet by (duty.Hit room response word moment) isnt =
+      if_does Quiet none _ _ (hit_quiet room response word moment
+      (option_map (answer_to_hit facts) (quote_asked config (hit_word (of_room room facts) word moment))))
+  duty_quiet by (duty.Pass room response moment) isnt = room_quiet room true (at_room.Pass moment) _ tt
+  duty_quiet by (duty.Answer room response answer moment) isnt =
+      invested_does Quiet none config room.investor _ (λ row. if_does Quiet none (replies_to response.k answer) _
+      (known_quiet room.n response.k (at_investor.Answered room.n response answer moment)
+      (market_of config room.investor row)
+      (let book = investor_trail.book_by (of_investor room.investor facts) in
+      answer_so (market_of config room.investor row) book room.n response answer
+      (investor_facts.request_numbered book room.n))))
+  duty_quiet by (duty.Close room moment) isnt =
+      comes_quiet room.investor room.n (at_investor.Closed room.n moment)
+      (λ market. let book = investor_trail.book_by (of_investor market.firm facts) in
+      expiry_so market room.n (investor_facts.request_numbered book room.n))
+  duty_quiet by (duty.Tell dealer room close moment) isnt =
+      numbered_does Quiet none config dealer _
+      (λ row found. told_does Quiet none config facts (dealer_of dealer row) close moment
+      (number_in (rooms_by (of_dealer dealer facts)) room)
+      (λ number. desk_quiet (dealer_of dealer row) (at_desk.Told number close moment) []))
+  duty_quiet (actor.Firm number) (duty.Drop last moment) isnt =
+      numbered_does Quiet none config number (dropped_by config facts last moment)
+      (λ row found. if_does Quiet none _ (at_dealer config facts (dealer_of number row)
+      (drop_at (of_dealer number facts) last moment) (left_by_drop config facts last moment (dealer_of number row)))
+      (desk_quiet (dealer_of number row) (drop_at (of_dealer number facts) last moment)
+      (left_by_drop config facts last moment (dealer_of number row))))
+  duty_quiet actor.Clock (duty.Drop last moment) isnt = none
+
+  pub sweep_quiet : (room : RoomRef) (moment : ℕ) → Quiet (sweep_effect config facts room moment)
+  unfolding sweep_effect
+  sweep_quiet room moment = room_quiet room true (at_room.Expire moment) _ tt
+
+-- What is left of a request that is accepted, the opening of its room, and of a quote of a room, that
+-- it is relayed to its investor.
+
+pub record Relays (config : Configuration) (room : RoomRef) (quote : PostedQuote) (duties : List Duty)
+    : Type 0 where
+  pub offer : Offer
+  pub moment : ℕ
+  pub is_its : IsItsOffer config quote offer
+  pub left : In (duty.Relay room offer moment) duties
+
+abbrev pub FactIs : Configuration → Fact → AuditTrail → Type 0
+FactIs config (AtInvestor investor (investor_trail.AtDesk (Asked request))) venue =
+    (moment : ℕ) × In (duty.Open (room_of investor request.number) request.ask request.dealers moment)
+    (duties_by (actor.Firm investor) venue.caused)
+FactIs config (InRoom room (Posted quote)) venue =
+    (by : Actor) × Relays config room quote (duties_by by venue.caused)
+FactIs config (InRoom room (Noted dealer)) venue =
+    (moment : ℕ) × In (duty.Declined room moment) (duties_by (actor.Firm dealer) venue.caused)
+FactIs config fact venue = Unit {0}
+
+-- What an effect leaves of each of them.
+
+abbrev pub LeavesOf : Configuration → Actor → List Duty → Fact → Type 0
+LeavesOf config by duties (AtInvestor investor (investor_trail.AtDesk (Asked request))) =
+    (by ≡ actor.Firm investor) × (moment : ℕ)
+    × In (duty.Open (room_of investor request.number) request.ask request.dealers moment) duties
+LeavesOf config by duties (InRoom room (Posted quote)) = Relays config room quote duties
+LeavesOf config by duties (InRoom room (Noted dealer)) =
+    (by ≡ actor.Firm dealer) × (moment : ℕ) × In (duty.Declined room moment) duties
+LeavesOf config by duties fact = Unit {0}
+
+pub record Leaves (config : Configuration) (by : Actor) (effect : Effect) : Type 0 where
+  pub facts : Every (LeavesOf config by effect.duties) effect.facts
+
+pub quiet_leaves : (config : Configuration) (by : Actor) (effect : Effect) → Quiet effect → Leaves config by effect
+quiet_leaves config by effect quiet = record {
+  facts = every_weaker IsOther (LeavesOf config by effect.duties) each effect.facts quiet.facts;
+}
+  where
+    each : (fact : Fact) → IsOther fact → LeavesOf config by effect.duties fact
+    each (AtInvestor investor (investor_trail.AtDesk (Asked request))) is = absurd is
+    each (InRoom room (Posted quote)) is = absurd is
+    each (InRoom room (Noted dealer)) is = absurd is
+    each other is = tt
+
+-- a quote that is posted is relayed where it takes effect
+module _ (config : Configuration) (facts : List Fact) (by : Actor) (room : RoomRef)
+    (quote price : ℕ) (valid_until : Option ℕ) (moment number : ℕ) (row : DealerRow)
+    (found : dealer_numbered config number ≡ Some row) where
+  abbrev offer : Offer
+  offer = offer_of config (dealer_of number row) quote price valid_until
+
+  abbrev posted : PostedQuote
+  posted = quote_posted number (word_for config (dealer_of number row) quote) price valid_until
+
+  where_both : (is_room has_word hears_it takes : Bool) → Leaves config by (if is_room && (has_word && hears_it)
+      then record {
+        facts = map (InRoom room) (where_so takes (Posted posted));
+        duties = where_follows (hears_it && takes) (duty.Relay room offer moment);
+      }
+      else nothing)
+  where_both true true true true =
+      record {
+        facts = (
+          record {
+            offer = offer;
+            moment = moment;
+            is_its = record {
+              row = row;
+              is_dealer = found;
+              name = refl;
+              word = refl;
+              price = refl;
+              valid_until = refl;
+            };
+            left = inl refl;
+          },
+          tt,
+        );
+      }
+  where_both true true true false = record { facts = tt }
+  where_both true true false takes = record { facts = tt }
+  where_both true false hears_it takes = record { facts = tt }
+  where_both false has_word hears_it takes = record { facts = tt }
+
+  posted_leaves : Leaves config by
+      (posted_by config facts room quote price valid_until moment (dealer_of number row))
+  unfolding event_facts
+  posted_leaves =
+      where_both (has_room config room.investor room.n) (has_word_for config (dealer_of number row) quote)
+      (hears (of_room room facts) number) (takes_quotes (of_room room facts))
+
+-- a decline is told where it takes effect
+declined_leaves : (config : Configuration) (facts : List Fact) (room : RoomRef) (moment number : ℕ) (row : DealerRow)
+    → Leaves config (actor.Firm number) (declined_by config facts room moment (dealer_of number row))
+unfolding event_facts
+declined_leaves config facts room moment number row =
+    where_both (has_room config room.investor room.n) (hears (of_room room facts) number)
+    (takes_quotes (of_room room facts))
+  where
+    where_both : (is_room hears_it takes : Bool) → Leaves config (actor.Firm number) (if is_room && hears_it
+        then record {
+          facts = map (InRoom room) (where_so takes (Noted number));
+          duties = where_follows (hears_it && takes) (duty.Declined room moment);
+        }
+        else nothing)
+    where_both true true true = record { facts = ((refl, moment, inl refl), tt) }
+    where_both true true false = record { facts = tt }
+    where_both true false takes = record { facts = tt }
+    where_both false hears_it takes = record { facts = tt }
+
+module _ (config : Configuration) (facts : List Fact) where
+  pub duty_leaves : (by : Actor) (d : Duty) → Leaves config by (duty_effect config facts by d)
+  unfolding duty_effect
+  duty_leaves (actor.Firm number) (duty.Post room quote price valid_until moment) =
+      numbered_does (Leaves config (actor.Firm number)) (record { facts = tt }) config number
+      (posted_by config facts room quote price valid_until moment)
+      (λ row found.
+      posted_leaves config facts (actor.Firm number) room quote price valid_until moment number row found)
+  duty_leaves actor.Clock (duty.Post room quote price valid_until moment) = record { facts = tt }
+  duty_leaves (actor.Firm number) (duty.Decline room moment) =
+      numbered_does (Leaves config (actor.Firm number)) (record { facts = tt }) config number
+      (declined_by config facts room moment) (λ row found. declined_leaves config facts room moment number row)
+  duty_leaves actor.Clock (duty.Decline room moment) = record { facts = tt }
+  duty_leaves by other =
+      quiet_leaves config by (duty_effect config facts by other) (duty_quiet config facts by other tt)
+
+module _ (config : Configuration) (facts : List Fact) (firm : ℕ) where
+  idle_leaves : Leaves config (actor.Firm firm) nothing
+  idle_leaves = record { facts = tt }
+
+  module _ (row : InvestorRow) (moment : ℕ) (bytes : List ℕ) where
+    abbrev own : InvestorMarket
+    own = market_of config firm row
+
+    abbrev trail : List InvestorEntry
+    trail = of_investor firm facts
+
+    abbrev found : InvestorVerdict
+    found = investor_verdict own (investor_trail.book_by trail) moment bytes
+
+    abbrev waiting : List Duty
+    waiting = option_to_list (investor_output.verdict_duty own moment found)
+
+    abbrev AtFirm : InvestorEntry → Type 0
+    AtFirm entry = LeavesOf config (actor.Firm firm) waiting (AtInvestor firm entry)
+
+    by_verdict : (v : InvestorVerdict)
+        → Every (λ (fact : InvestorFact). LeavesOf config (actor.Firm firm)
+        (option_to_list (investor_output.verdict_duty own moment v)) (AtInvestor firm (investor_trail.AtDesk fact)))
+        (investor_output.verdict_facts v)
+    by_verdict (asks.RequestAccepted id request) = ((refl, moment, inl refl), tt)
+    by_verdict other = tt
+
+    asked_leaves : Leaves config (actor.Firm firm) (received_by_investor facts moment bytes own)
+    unfolding investor_trail.entries_of investor_output.event_facts
+    asked_leaves =
+        let added = investor_output.own_facts moment bytes found in
+        let messages = investor_output.written_from own (length (investor_trail.sent_by trail) + 1) moment
+        (investor_output.event_messages own (investor_trail.book_by trail) (at_investor.Received moment bytes)) in
+        record {
+          facts = mapped (LeavesOf config (actor.Firm firm) waiting) (AtInvestor firm)
+              (map investor_trail.AtDesk added ++ map investor_trail.Sent messages)
+              (every_both AtFirm (map investor_trail.AtDesk added) (map investor_trail.Sent messages)
+              (mapped AtFirm investor_trail.AtDesk added (tt, by_verdict found))
+              (every_map AtFirm investor_trail.Sent (λ text. tt) messages));
+        }
+
+  pub message_leaves : (moment : ℕ) (bytes : List ℕ)
+      → Leaves config (actor.Firm firm) (message_effect config facts firm moment bytes)
+  unfolding message_effect
+  message_leaves moment bytes = either (is_some (dealer_numbered config firm))
+    where
+      either : (b : Bool) → Leaves config (actor.Firm firm) (if b
+          then done_by (dealer_at config firm) (received_by_dealer config facts moment bytes)
+          else done_for (market_for config firm) (received_by_investor facts moment bytes))
+      either true = numbered_does (Leaves config (actor.Firm firm)) idle_leaves config firm
+          (received_by_dealer config facts moment bytes)
+          (λ row is. quiet_leaves config (actor.Firm firm) (received_by_dealer config facts moment bytes (dealer_of firm row))
+          (received_quiet config facts (dealer_of firm row) moment bytes))
+      either false = invested_does (Leaves config (actor.Firm firm)) idle_leaves config firm
+          (received_by_investor facts moment bytes) (λ row. asked_leaves row moment bytes)

@@ -1,0 +1,12 @@
+mod AskLemmas
+mod CloseDays
+mod CloseLemmas
+mod DeclineLemmas
+mod LeftLemmas
+mod ReplyDays
+mod ReplyDuties
+mod ReplyLemmas
+mod RoomLemmas
+mod SaidLemmas
+mod TellLemmas
+mod TurnShares

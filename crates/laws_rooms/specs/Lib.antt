@@ -1,0 +1,5 @@
+pub mod Declines
+pub mod Expiries
+pub mod Responses
+pub mod Shown
+pub mod Told

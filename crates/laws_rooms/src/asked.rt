@@ -1,0 +1,30 @@
+//! What is asked for is shown.
+ghost use Rattle.std.specs.Prelude.{ℕ, List};
+ghost use Rattle.investor_desk.specs.InvestorFacts.{Asked};
+ghost use Rattle.investor_desk.specs.declared.standing.AcceptedRequest.{AcceptedRequest};
+ghost use Rattle.laws_rooms.specs.Shown.{IsShownOnce};
+ghost use Rattle.step_replay.specs.AuditTrail as venue;
+ghost use Rattle.step_replay.specs.GrowthLemmas.{In};
+ghost use Rattle.step_replay.specs.VenueFacts.{of_dealer};
+ghost use Rattle.step_replay.specs.declared.steps.Step.{Step};
+ghost use Rattle.trade_laws.specs.LiveDuties.{NoDutyIsLeft};
+ghost use Rattle.trade_laws.specs.Trades.{at_investor, room_of};
+ghost use Rattle.venue_rows.specs.Rows.{Configuration};
+
+use dealer_desk::{limits_are_kept, what_is_asked_is_of_the_day};
+
+/// A law: each accepted request is shown. Where no duty is left, as behind each line of a live day,
+/// each request of an investor that was accepted was shown once to each dealer that it names. So it is
+/// in every venue, after every list of steps. It does nothing.
+pub fn each_accepted_request_is_shown()
+    ensures { (config : Configuration) (steps : List Step) (investor : ℕ)
+        (request : AcceptedRequest) (dealer : ℕ)
+        → NoDutyIsLeft (venue.audit_trail config steps)
+        → In (Asked request) (at_investor investor (venue.audit_trail config steps).facts)
+        → In dealer request.dealers
+        → IsShownOnce (of_dealer dealer (venue.audit_trail config steps).facts)
+        (room_of investor request.number) }
+{
+    limits_are_kept();
+    what_is_asked_is_of_the_day();
+}

@@ -1,0 +1,27 @@
+//! A decline comes to the investor of its request.
+ghost use Rattle.std.specs.Prelude.{ℕ, List};
+ghost use Rattle.laws_rooms.specs.Declines.{IsToldSo};
+ghost use Rattle.market_terms.specs.declared.rooms.RoomRef.{RoomRef};
+ghost use Rattle.request_room.specs.RoomFacts.{Noted};
+ghost use Rattle.step_replay.specs.AuditTrail as venue;
+ghost use Rattle.step_replay.specs.GrowthLemmas.{In};
+ghost use Rattle.step_replay.specs.VenueFacts.{of_room};
+ghost use Rattle.step_replay.specs.declared.steps.Step.{Step};
+ghost use Rattle.trade_laws.specs.LiveDuties.{NoDutyIsLeft};
+ghost use Rattle.venue_rows.specs.Rows.{Configuration};
+
+use dealer_desk::{limits_are_kept, what_is_asked_is_of_the_day};
+
+/// A law: each decline comes to its investor. Where no duty is left, as behind each line of a live day,
+/// of each dealer that declined in a room the room's investor was sent 297=11, with the request (131)
+/// and the dealer's name (448); or the request was closed at the investor's desk. So it is in every
+/// venue, after every list of steps. It does nothing.
+pub fn each_decline_comes_to_its_investor()
+    ensures { (config : Configuration) (steps : List Step) (room : RoomRef) (dealer : ℕ)
+        → NoDutyIsLeft (venue.audit_trail config steps)
+        → In (Noted dealer) (of_room room (venue.audit_trail config steps).facts)
+        → IsToldSo config (venue.audit_trail config steps).facts room dealer }
+{
+    limits_are_kept();
+    what_is_asked_is_of_the_day();
+}

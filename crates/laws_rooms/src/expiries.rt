@@ -1,0 +1,29 @@
+//! Each expiry is told, once.
+ghost use Rattle.std.specs.Prelude.{◌≡◌, ℕ, List, Some};
+ghost use Rattle.investor_desk.specs.InvestorDesk.{market_of};
+ghost use Rattle.laws_rooms.specs.Expiries.{AreExpired, requests_swept};
+ghost use Rattle.step_replay.specs.AuditTrail as venue;
+ghost use Rattle.step_replay.specs.declared.steps.Step.{Step};
+ghost use Rattle.trade_laws.specs.LiveDuties.{NoDutyIsLeft};
+ghost use Rattle.trade_laws.specs.Trades.{at_investor};
+ghost use Rattle.venue_rows.specs.Rows.{Configuration, investor_numbered};
+ghost use Rattle.venue_rows.specs.declared.investor_rows.InvestorRow.{InvestorRow};
+
+use dealer_desk::{limits_are_kept, what_is_asked_is_of_the_day};
+
+/// A law: each expiry is told once. Where no duty is left, as behind each line of a live day, the
+/// messages 297=7 of an investor name, in order, its requests whose rooms a sweep ended: there is one
+/// for each such room, and none for any other. So it is in every venue, after every list of steps. It
+/// does nothing.
+pub fn each_expiry_is_told_once()
+    ensures { (config : Configuration) (steps : List Step) (investor : ℕ) (row : InvestorRow)
+        → investor_numbered config investor ≡ Some row
+        → NoDutyIsLeft (venue.audit_trail config steps)
+        → AreExpired (market_of config investor row)
+        (at_investor investor (venue.audit_trail config steps).facts)
+        (venue.sent_to config investor (venue.audit_trail config steps))
+        (requests_swept config investor steps) }
+{
+    limits_are_kept();
+    what_is_asked_is_of_the_day();
+}

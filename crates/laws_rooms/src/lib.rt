@@ -1,0 +1,31 @@
+//! Laws of rooms that a firm asks for first: what is asked for is shown, and a room does not stay
+//! between the two. Each is a public function that does nothing, and its contract is the law.
+//!
+//! - [`no_room_is_left_opening`]: where no duty is left, no room is opening, and each dealer that a
+//!   room's request names was shown it.
+//! - [`each_accepted_request_is_shown`]: then each request that was accepted was shown once to each
+//!   dealer that it names.
+//! - [`each_quote_comes_to_its_investor`]: then each quote in a room was shown to its investor, or the
+//!   request was closed there.
+//! - [`each_decline_comes_to_its_investor`]: then of each decline in a room, too.
+//! - [`each_expiry_is_told_once`]: then 297=7 was sent once for each room that a sweep ended, and for no
+//!   other.
+//! - [`each_response_is_answered`]: then each hit and each pass of an investor was answered, in their
+//!   order.
+//!
+//! No code stands on this crate.
+#![tactic(auto)]
+
+mod asked;
+mod declines;
+mod expiries;
+mod quotes;
+mod responses;
+mod rooms;
+
+pub use asked::each_accepted_request_is_shown;
+pub use declines::each_decline_comes_to_its_investor;
+pub use expiries::each_expiry_is_told_once;
+pub use quotes::each_quote_comes_to_its_investor;
+pub use responses::each_response_is_answered;
+pub use rooms::no_room_is_left_opening;

@@ -1,0 +1,30 @@
+//! A quote in a room comes to its investor.
+ghost use Rattle.std.specs.Prelude.{ℕ, List};
+ghost use Rattle.laws_rooms.specs.Told.{CameToIt};
+ghost use Rattle.market_terms.specs.declared.rooms.RoomRef.{RoomRef};
+ghost use Rattle.request_room.specs.RoomFacts.{Posted};
+ghost use Rattle.request_room.specs.declared.quotes.PostedQuote.{PostedQuote};
+ghost use Rattle.step_replay.specs.AuditTrail as venue;
+ghost use Rattle.step_replay.specs.GrowthLemmas.{In};
+ghost use Rattle.step_replay.specs.VenueFacts.{of_room};
+ghost use Rattle.step_replay.specs.declared.steps.Step.{Step};
+ghost use Rattle.trade_laws.specs.LiveDuties.{NoDutyIsLeft};
+ghost use Rattle.trade_laws.specs.Trades.{at_investor};
+ghost use Rattle.venue_rows.specs.Rows.{Configuration};
+
+use dealer_desk::{limits_are_kept, what_is_asked_is_of_the_day};
+
+/// A law: each quote comes to its investor. Where no duty is left, as behind each line of a live day,
+/// each quote that took effect in a room was shown to the room's investor on that request, with its
+/// dealer, its price and its valid-until; or the request was closed at the investor's desk. So it is in
+/// every venue, after every list of steps. It does nothing.
+pub fn each_quote_comes_to_its_investor()
+    ensures { (config : Configuration) (steps : List Step) (room : RoomRef) (quote : PostedQuote)
+        → NoDutyIsLeft (venue.audit_trail config steps)
+        → In (Posted quote) (of_room room (venue.audit_trail config steps).facts)
+        → CameToIt config (at_investor room.investor (venue.audit_trail config steps).facts) room.n
+        quote }
+{
+    limits_are_kept();
+    what_is_asked_is_of_the_day();
+}

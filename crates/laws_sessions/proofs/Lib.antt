@@ -1,0 +1,4 @@
+mod CountedLemmas
+mod FedKept
+mod FedTurns
+mod FedLemmas

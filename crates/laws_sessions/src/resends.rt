@@ -1,0 +1,39 @@
+//! A resend comes to its end.
+ghost use Rattle.std.specs.Prelude.{◌≡◌, ◌≤◌, ◌<◌, ◌+◌, ◌-◌, ℕ, List, false, length};
+ghost use Rattle.fix_sessions.specs.Rows.{asked_of, highest_left, requested};
+ghost use Rattle.fix_fields.specs.Frame.{Field};
+ghost use Rattle.fix_sessions.specs.Sending.{wants};
+ghost use Rattle.fix_sessions.specs.declared.requests.Asked.TheVariants as asked;
+ghost use Rattle.fix_sessions.specs.declared.messages.Origin.{Origin};
+ghost use Rattle.fix_sessions.specs.declared.messages.Reading.{Reading};
+ghost use Rattle.fix_sessions.specs.declared.state.Line.{Line};
+ghost use Rattle.fix_sessions.specs.declared.state.Live.{Live};
+ghost use Rattle.fix_sessions.specs.declared.state.Phase.TheVariants as phase;
+ghost use Rattle.fix_sessions.specs.declared.state.Session.{Session};
+ghost use Rattle.fix_sessions.specs.declared.texts.Names.{Names};
+ghost use Rattle.session_laws.specs.Days.{Event, after};
+ghost use Rattle.session_laws.specs.Kept.{Entry, IsKept, Within};
+ghost use Rattle.laws_sessions.specs.Fed.{IsDue, IsFed, MayResend, times_left, wants_number};
+
+/// A law: a resend comes to its end. A ResendRequest that names numbers which have left makes the
+/// session want each of them again (`asked`). Take a session that is not spent, on a connection that has
+/// settled, whose resend has not gone past what has left. Let it be handed what it wants, as it was
+/// kept, turn by turn, and let nothing else come. Then it wants no number after as many turns as
+/// numbers are left to be sent again, and as many more as are left to be sent at first. And once it
+/// wants none, each kept message that was asked for has left once, unless it is the answer to a
+/// TestRequest; and so has each that had not left before. It does nothing.
+pub fn a_resend_comes_to_its_end()
+    ensures asked { (a : Live) (now : ℕ) (m : Origin) (first last : Reading) (low high : ℕ)
+        → asked_of (highest_left a.line) first last ≡ asked.Numbers low high
+        → (line : Line) × ((requested a now m first last).session.phase ≡ phase.On line)
+        × (line.again ≤ low) × (high < line.again_end) }
+    ensures ends { (names : Names) (s : Session) (line : Line) (kept : List Entry)
+        (events : List Event) → MayResend s line → IsFed names s kept events
+        → length events ≤ (line.again_end - line.again) + (s.day.next - line.fresh) }
+    ensures leaves { (names : Names) (s : Session) (line : Line) (kept : List Entry)
+        (events : List Event) (number : ℕ) (body : List Field)
+        → MayResend s line → Within 0 s.day.next kept → IsFed names s kept events
+        → wants_number (wants (after names s events)) ≡ false
+        → IsKept number body kept → IsDue line number body
+        → times_left names s number events ≡ 1 }
+{}

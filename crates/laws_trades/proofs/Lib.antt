@@ -1,0 +1,5 @@
+mod CancelDays
+mod CancelLemmas
+mod TimeDays
+mod TimeLemmas
+mod WithdrawalLemmas

@@ -1,0 +1,40 @@
+//! A cancel of all is answered.
+ghost use Rattle.std.specs.Prelude.{◌≡◌, ℕ, ◌+◌, List, [], ◌∷◌, ◌++◌, Some, length};
+ghost use Rattle.dealer_desk.specs.DealerRules.{dealer_verdict};
+ghost use Rattle.dealer_desk.specs.declared.verdicts.DealerVerdict.TheVariants.{DropsFollow};
+ghost use Rattle.laws_trades.specs.Cancels.{droppable, reports};
+ghost use Rattle.step_replay.specs.AuditTrail.{sent_to};
+ghost use Rattle.step_replay.specs.DealerTrail.{book_by};
+ghost use Rattle.step_replay.specs.LiveDays.{live_trail};
+ghost use Rattle.step_replay.specs.VenueFacts.{of_dealer};
+ghost use Rattle.step_replay.specs.declared.steps.Step.{Step};
+ghost use Rattle.step_replay.specs.declared.steps.Step.TheVariants.{In};
+ghost use Rattle.trade_laws.specs.LiveDuties.{NoDutyIsLeft};
+ghost use Rattle.venue_rows.specs.Rows.{Configuration, dealer_numbered};
+ghost use Rattle.venue_rows.specs.declared.dealer_rows.DealerRow.{DealerRow};
+
+use dealer_desk::{limits_are_kept, what_is_asked_is_of_the_day};
+use trade_laws::no_duty_is_left_on_a_live_day;
+
+/// A law: on a live day a cancel of all is answered by one report for each quote that was droppable, in
+/// their order: 297=17, or 297=5 where the quote was lifted. Take a message of a dealer whose verdict is
+/// that drops follow, on a day whose steps come one by one and leave no duty, before it and behind it
+/// (`no_duty_is_left_on_a_live_day`). Behind its line the dealer was sent these reports more, and
+/// nothing else. It does nothing.
+pub fn a_cancel_of_all_is_answered()
+    ensures { (config : Configuration) (steps : List Step) (dealer moment last : ℕ)
+        (row : DealerRow) (bytes : List ℕ) → dealer_numbered config dealer ≡ Some row
+        → dealer_verdict config.date row
+        (book_by (of_dealer dealer (live_trail config steps).facts)) moment bytes
+        ≡ DropsFollow last → NoDutyIsLeft (live_trail config steps)
+        → NoDutyIsLeft (live_trail config (steps ++ In dealer moment bytes ∷ []))
+        → sent_to config dealer (live_trail config (steps ++ In dealer moment bytes ∷ []))
+        ≡ sent_to config dealer (live_trail config steps)
+        ++ reports config.date row (of_dealer dealer (live_trail config steps).facts) moment
+        (length (sent_to config dealer (live_trail config steps)) + 1)
+        (droppable (of_dealer dealer (live_trail config steps).facts)) }
+{
+    limits_are_kept();
+    what_is_asked_is_of_the_day();
+    no_duty_is_left_on_a_live_day();
+}

@@ -1,0 +1,52 @@
+//! A trade has a time.
+ghost use Rattle.std.specs.Prelude.{◌≡◌, ℕ, List, Some, None};
+ghost use Rattle.dealer_desk.specs.DealerOutput.{moment_of};
+ghost use Rattle.investor_desk.specs.InvestorOutput as investor_output;
+ghost use Rattle.laws_trades.specs.TradeTimes.{IsAwarded, IsHitAt, IsSaidTo, IsToldAt, room_at};
+ghost use Rattle.laws_trades.specs.Withdrawals.{IsSaid};
+ghost use Rattle.market_terms.specs.declared.closes.Close.TheVariants.{Hit};
+ghost use Rattle.market_terms.specs.declared.rooms.RoomRef.{RoomRef};
+ghost use Rattle.quote_messages.specs.declared.out_messages.ClosingNotice.{ClosingNotice};
+ghost use Rattle.quote_messages.specs.declared.out_messages.OutMessage.TheVariants as out;
+ghost use Rattle.step_replay.specs.AuditTrail as venue;
+ghost use Rattle.step_replay.specs.GrowthLemmas.{In};
+ghost use Rattle.step_replay.specs.InvestorTrail.{sent_by};
+ghost use Rattle.step_replay.specs.VenueFacts.{of_dealer, of_investor};
+ghost use Rattle.step_replay.specs.declared.steps.Step.{Step};
+ghost use Rattle.venue_rows.specs.Rows.{Configuration, dealer_numbered};
+ghost use Rattle.venue_rows.specs.declared.dealer_rows.DealerRow.{DealerRow};
+
+use laws_answers::an_award_is_in_time;
+
+/// A law: a trade has a time, which is that of the hit. Where a room was awarded at a moment, a
+/// message of its investor came at that moment by which it hit a quote on that request (`hit`); and a
+/// room is awarded at one moment (`once`). A dealer's notice 694=1 bears it (`dealers`): the room of the
+/// request that it names was awarded at the moment of the notice (52). So does an investor's answer
+/// 297=0 to a hit (`investors`): each message to an investor is what an event at its desk says, at the
+/// moment of the event, and where it is such an answer a room of the investor was awarded then. That
+/// the moment is before the deadline and in the quote's validity says `an_award_is_in_time`. So it is
+/// in every venue, after every list of steps. It does nothing.
+pub fn a_trade_has_a_time()
+    ensures hit { (config : Configuration) (steps : List Step) (room : RoomRef) (moment : ℕ)
+        → IsAwarded (venue.audit_trail config steps).facts room moment
+        → IsHitAt config (venue.audit_trail config steps).facts room moment }
+    ensures once { (config : Configuration) (steps : List Step) (room : RoomRef)
+        (moment other : ℕ) → IsAwarded (venue.audit_trail config steps).facts room moment
+        → IsAwarded (venue.audit_trail config steps).facts room other → moment ≡ other }
+    ensures dealers { (config : Configuration) (steps : List Step) (dealer : ℕ) (row : DealerRow)
+        (bytes : List ℕ) (notice : ClosingNotice) → dealer_numbered config dealer ≡ Some row
+        → (is : IsSaid config.date row (of_dealer dealer (venue.audit_trail config steps).facts)
+        bytes) → is.message ≡ out.ClosingNotice notice → notice.close ≡ Hit
+        → IsToldAt (venue.audit_trail config steps).facts dealer notice.request.number
+        (moment_of is.event) }
+    ensures investors { (config : Configuration) (steps : List Step) (investor : ℕ)
+        (bytes : List ℕ)
+        → In bytes (sent_by (of_investor investor (venue.audit_trail config steps).facts))
+        → (is : IsSaidTo config (venue.audit_trail config steps).facts investor bytes)
+        × ((id request : List ℕ) (quote : ℕ)
+        → is.message ≡ out.HitReport id request quote None
+        → (own : ℕ) × IsAwarded (venue.audit_trail config steps).facts (room_at investor own)
+        (investor_output.moment_of is.event)) }
+{
+    an_award_is_in_time();
+}

@@ -1,0 +1,48 @@
+//! What is confirmed as withdrawn is never traded.
+ghost use Rattle.std.specs.Prelude.{◌≡◌, ℕ, List, Some, false};
+ghost use Rattle.dealer_desk.specs.DealerFacts.{Quoted};
+ghost use Rattle.dealer_desk.specs.declared.accepted.AcceptedQuote.{AcceptedQuote};
+ghost use Rattle.laws_trades.specs.Withdrawals.{Confirms, IsSaid};
+ghost use Rattle.step_replay.specs.AuditTrail as venue;
+ghost use Rattle.step_replay.specs.DealerTrail.{facts_of, was_lifted};
+ghost use Rattle.step_replay.specs.GrowthLemmas.{In};
+ghost use Rattle.step_replay.specs.VenueFacts.{of_dealer};
+ghost use Rattle.step_replay.specs.declared.steps.Step.{Step};
+ghost use Rattle.trade_laws.specs.Trades.{Trade};
+ghost use Rattle.venue_rows.specs.Rows.{Configuration, dealer_numbered};
+ghost use Rattle.venue_rows.specs.declared.dealer_rows.DealerRow.{DealerRow};
+
+use shown_laws::quotes_are_shown_once;
+use step_replay::no_quote_is_lifted_and_withdrawn;
+
+/// A law: what is confirmed as withdrawn is never traded. Each message that a dealer is sent is what
+/// an event at its desk says (`said`). Where it is 297=17 with the QuoteID (117) of a quote, or 297=0
+/// of a quote that replaces it, that quote is lifted by no hit (`unlifted`), and no trade is of it
+/// (`untraded`): neither before nor behind the message. By `both_sides_of_a_trade_agree` each 297=0
+/// to a hit and each 694=1 is of a trade where no duty is left. So it is in every venue, after every
+/// list of steps. It does nothing.
+pub fn what_is_withdrawn_is_never_traded()
+    ensures said { (config : Configuration) (steps : List Step) (dealer : ℕ) (row : DealerRow)
+        (bytes : List ℕ) → dealer_numbered config dealer ≡ Some row
+        → In bytes (venue.sent_to config dealer (venue.audit_trail config steps))
+        → IsSaid config.date row (of_dealer dealer (venue.audit_trail config steps).facts) bytes }
+    ensures unlifted { (config : Configuration) (steps : List Step) (dealer : ℕ) (row : DealerRow)
+        (bytes : List ℕ) (quote : AcceptedQuote) → dealer_numbered config dealer ≡ Some row
+        → (is : IsSaid config.date row (of_dealer dealer (venue.audit_trail config steps).facts)
+        bytes) → Confirms is.stood is.message quote
+        → In (Quoted quote)
+        (facts_of (of_dealer dealer (venue.audit_trail config steps).facts))
+        → was_lifted (of_dealer dealer (venue.audit_trail config steps).facts) quote.number
+        ≡ false }
+    ensures untraded { (config : Configuration) (steps : List Step) (dealer : ℕ) (row : DealerRow)
+        (bytes : List ℕ) (quote : AcceptedQuote) → dealer_numbered config dealer ≡ Some row
+        → (is : IsSaid config.date row (of_dealer dealer (venue.audit_trail config steps).facts)
+        bytes) → Confirms is.stood is.message quote
+        → In (Quoted quote)
+        (facts_of (of_dealer dealer (venue.audit_trail config steps).facts))
+        → (trade : Trade config (venue.audit_trail config steps).facts)
+        → trade.dealer ≡ dealer → trade.quote.id ≡ quote.id → ⊥ }
+{
+    no_quote_is_lifted_and_withdrawn();
+    quotes_are_shown_once();
+}

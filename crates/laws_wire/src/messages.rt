@@ -1,0 +1,31 @@
+//! What the venue sends.
+ghost use Rattle.std.specs.Prelude.{◌≡◌, ℕ, List, Option, Some, false};
+ghost use Rattle.fix_fields.specs.Frame.{Field, frame_of, value_of};
+ghost use Rattle.laws_wire.specs.VenueMessages.{IsWritten, venue_types};
+ghost use Rattle.session_laws.specs.Kept.{is_answer_body};
+ghost use Rattle.step_replay.specs.AuditTrail as venue;
+ghost use Rattle.step_replay.specs.GrowthLemmas.{In};
+ghost use Rattle.step_replay.specs.declared.steps.Step.{Step};
+ghost use Rattle.venue_rows.specs.Rows.{Configuration};
+ghost use Rattle.wire_laws.specs.Carried.{IsMade};
+
+/// A law: each message that a firm is sent is one of the venue's. It is the text of one of the messages
+/// of `OutMessage` (`written`); whoever reads it as a frame reads one of the venue's types in MsgType
+/// (35): 3, R, S, AG, AI or AJ (`typed`); and what is made of it for the wire is no Heartbeat (35=0),
+/// whatever is told beside it (`kept`). So of what a session keeps of the venue's messages none is an
+/// answer to a TestRequest, which alone a gap fill may cover. So it is in every venue, after every list
+/// of steps. It does nothing.
+pub fn each_message_is_of_a_type_of_the_venue()
+    ensures written { (config : Configuration) (steps : List Step) (firm : ℕ) (bytes : List ℕ)
+        → In bytes (venue.sent_to config firm (venue.audit_trail config steps))
+        → IsWritten bytes }
+    ensures typed { (config : Configuration) (steps : List Step) (firm : ℕ) (bytes : List ℕ)
+        (fields : List Field)
+        → In bytes (venue.sent_to config firm (venue.audit_trail config steps))
+        → frame_of bytes ≡ Some fields
+        → (kind : List ℕ) × (value_of 35 fields ≡ Some kind) × In kind venue_types }
+    ensures kept { (config : Configuration) (steps : List Step) (firm : ℕ) (bytes : List ℕ)
+        (number : ℕ) (told : Option Field) (body : List Field)
+        → In bytes (venue.sent_to config firm (venue.audit_trail config steps))
+        → IsMade bytes number told body → is_answer_body body ≡ false }
+{}

@@ -1,0 +1,4 @@
+pub mod Notes
+pub mod Recovered
+pub mod Puts
+pub mod Refusals
