@@ -1,33 +1,67 @@
 #!/usr/bin/env python3
-"""What has to be read to judge the headline: the files of definitions on which its two laws rest, by
-the `use` lines from the laws' own file downwards. Proofs are not among them: those are the prover's.
+"""What has to be read to judge a law: the files of definitions on which it rests, by the `use` lines from
+the law's own file downwards, and the types that these are about. Proofs are not among them: those are
+the prover's. With no name it lists the headline.
 
-    tools/reading_list.py
+    tools/reading_list.py [LAW..]
 
-A line counts that is not blank, no comment and no `use`.
+A line counts that is not blank, no comment, no attribute and no `use`.
 """
 
 from __future__ import annotations
 
 import re
 import sys
+from dataclasses import dataclass
 from pathlib import Path
 
-LAWS = "crates/step_replay/src/laws.rt"
 HEADLINE = ("dealers_are_sent_their_view", "dealers_are_isolated")
 
 USE = re.compile(
     r"^\s*(?:ghost |pub )?use Rattle\.(\w+)\.specs\.(\w+)(?:\.\{([^}]*)\}| as (\w+))?", re.MULTILINE
 )
+DECLARED = re.compile(
+    r"^\s*(?:ghost |pub )?use Rattle\.(\w+)\.specs\.declared\.((?:[a-z]\w*\.)+)"
+    r"(\w+)((?:\.\w+)*)(?:\.\{([^}]*)\}| as \w+)?",
+    re.MULTILINE,
+)
 Definitions = tuple[str, str]  # a crate, and a file of its specs/
 
 
-def clause_of(law: str, text: str) -> str:
-    """The contract of a law, a function with an empty body."""
-    found = re.search(r"^pub fn " + law + r"\(\)\n(.*?)^\{\}$", text, re.MULTILINE | re.DOTALL)
-    if found is None:
-        raise SystemExit(f"{LAWS} has no law {law}")
-    return found.group(1)
+@dataclass(frozen=True)
+class Law:
+    """A function that does nothing, and whose contract is the law."""
+
+    name: str
+    file: Path
+    text: str
+    contract: str
+
+
+@dataclass(frozen=True)
+class Declared:
+    """A type, or some constants, of a crate's code, of which definitions speak."""
+
+    crate: str
+    file: str
+    name: str
+
+
+def laws_of(root: Path) -> dict[str, Law]:
+    """Each public function without arguments and result that has a contract, by its name."""
+    found: dict[str, Law] = {}
+    for file in sorted((root / "crates").glob("*/src/**/*.rt")):
+        text = file.read_text(encoding="utf-8")
+        for match in re.finditer(r"^pub fn (\w+)\(\)\n(    ensures.*?)^\{", text, re.M | re.S):
+            found[match.group(1)] = Law(match.group(1), file, text, match.group(2))
+    return found
+
+
+def law_named(root: Path, name: str) -> Law:
+    law = laws_of(root).get(name)
+    if law is None:
+        raise SystemExit(f"no crate has a law {name}")
+    return law
 
 
 def cited_by(text: str, clauses: str) -> list[Definitions]:
@@ -54,40 +88,89 @@ def below(root: Path, cited: list[Definitions]) -> dict[Definitions, str]:
     return found
 
 
+def declared_in(texts: list[str]) -> set[Declared]:
+    """The types and constants that definitions name."""
+    found: set[Declared] = set()
+    for text in texts:
+        for crate, modules, name, owner, names in DECLARED.findall(text):
+            file = modules.rstrip(".").replace(".", "/")
+            if name != "TheConstants":
+                found.add(Declared(crate, file, name))
+                continue
+            constants = re.findall(r"(\w+)(?: as \w+)?", names) or re.findall(r"\w+", owner)
+            found |= {Declared(crate, file, constant) for constant in constants}
+    return found
+
+
 def lines_of(text: str) -> int:
-    """How many lines of definitions a file has."""
+    """How many lines of definitions a text has."""
+    others = ("use ", "pub use ", "--", "//", "#[")
     return sum(
-        1
-        for line in text.split("\n")
-        if line.strip() and not line.strip().startswith(("use ", "pub use ", "--"))
+        1 for line in text.split("\n") if line.strip() and not line.strip().startswith(others)
     )
 
 
-def reading_list(root: Path) -> str:
-    """The list as a table, a line a crate, the highest first."""
-    text = (root / LAWS).read_text(encoding="utf-8")
-    files = below(root, cited_by(text, "".join(clause_of(law, text) for law in HEADLINE)))
+def lines_declared(root: Path, declared: Declared) -> int:
+    """How many lines a type, or a constant, of the code has; none where it is std's."""
+    source = root / "crates" / declared.crate / "src"
+    path = next(
+        (p for p in (source / f"{declared.file}.rt", source / "lib.rt") if p.exists()), None
+    )
+    if path is None:
+        return 0
+    text = path.read_text(encoding="utf-8")
+    kind = r"^(?:pub(?:\([\w ]+\))? )?(?:struct|enum) " + declared.name + r"\b.*?(?:;$|^\})"
+    found = re.search(kind, text, re.MULTILINE | re.DOTALL)
+    if found is not None:
+        return lines_of(found.group(0))
+    return 1 if re.search(r"\bconst " + declared.name + r"\b", text) else 0
+
+
+def row_of(crate: str, files: dict[str, int], types: dict[str, int]) -> str:
+    """A crate's line of the table."""
+    named = [f"`{file}` {count}" for file, count in files.items()]
+    if types:
+        named.append(f"{len(types)} of `src/` {sum(types.values())}")
+    return f"| `{crate}` | {', '.join(named)} | {sum(files.values()) + sum(types.values())} |"
+
+
+def reading_list(root: Path, names: tuple[str, ...] = HEADLINE) -> str:
+    """The list of some laws as a table, a line a crate, the highest first."""
+    laws = [law_named(root, name) for name in names]
+    cited = [file for law in laws for file in cited_by(law.text, law.contract)]
+    files = below(root, cited)
+    declared = declared_in(list(files.values()))
     listed = (root / "crates.txt").read_text(encoding="utf-8").split("\n")
     crates = [line.split(":")[0].split()[0] for line in listed if ":" in line and line[0] != "#"]
     rows: list[str] = []
+    total = 0
     for crate in reversed(crates):
         counts = {
             file: lines_of(text) for (one, file), text in sorted(files.items()) if one == crate
         }
-        if counts:
-            named = ", ".join(f"`{file}` {count}" for file, count in counts.items())
-            rows.append(f"| `{crate}` | {named} | {sum(counts.values())} |")
-    total = sum(lines_of(one) for one in files.values())
-    head = ["| crate | files of `specs/`, with their lines | lines |", "|---|---|---|"]
+        types = {
+            one.name: lines_declared(root, one)
+            for one in sorted(declared, key=lambda d: (d.file, d.name))
+            if one.crate == crate
+        }
+        types = {name: count for name, count in types.items() if count}
+        if counts or types:
+            rows.append(row_of(crate, counts, types))
+            total += sum(counts.values()) + sum(types.values())
+    head = [
+        "| crate | files of `specs/` and types and constants of `src/`, with their lines | lines |",
+        "|---|---|---|",
+    ]
     return "\n".join([*head, *rows, f"| | {len(files)} files | {total} |"]) + "\n"
 
 
 def main() -> int:
     """Prints the list."""
-    if sys.argv[1:]:
+    if any(name.startswith("-") for name in sys.argv[1:]):
         print(__doc__, file=sys.stderr)
         return 2
-    print(reading_list(Path(__file__).resolve().parent.parent), end="")
+    root = Path(__file__).resolve().parent.parent
+    print(reading_list(root, tuple(sys.argv[1:]) or HEADLINE), end="")
     return 0
 
 

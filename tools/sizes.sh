@@ -30,10 +30,9 @@ functions() {
         END {print n}' "$log"
 }
 
-# edits FOLDER: how many wrong bodies stand there.
+# edits CRATE: how many wrong bodies it has, in the gate and beside it.
 edits() {
-    [ -d "$1" ] || { echo 0; return; }
-    find "$1" -name '*.edit' | wc -l
+    awk -v crate="$1" '$1 == crate {gate = $2; beside = $3 + $4} END {print gate + 0, beside + 0}' "$bodies"
 }
 
 # full_day: of a day of 64 dealers and 64 investors at the limits of a configuration, on threads, what
@@ -58,7 +57,9 @@ END
 }
 
 day=$(mktemp)
-trap 'rm -f "$day"' EXIT
+bodies=$(mktemp)
+trap 'rm -f "$day" "$bodies"' EXIT
+PYTHONPATH="$root" python3 -m tests.edits.wrong_bodies >"$bodies"
 crates=$(sed -n 's/^\([a-z0-9_]*\)[ a-z_=+0-9A-Z]*:.*/\1/p' "$root/crates.txt")
 echo '# Sizes and times'
 echo
@@ -72,10 +73,9 @@ for crate in $crates; do
     code=$(lines "$at/src" '*.rt')
     tests=$(test_lines "$at/src")
     case $crate in *_tests) tests=$code ;; esac
-    edits=$(edits "$at/must-fail")
-    beside=$(edits "$root/tests/edits/$crate")
+    edits=$(edits "$crate")
     echo "| \`$crate\` | $((code - tests)) | $(lines "$at/specs" '*.antt') |" \
-        "$(lines "$at/proofs" '*.antt') | $tests | $edits | $beside | $(functions "$crate") |"
+        "$(lines "$at/proofs" '*.antt') | $tests | ${edits% *} | ${edits#* } | $(functions "$crate") |"
 done
 echo
 full_day

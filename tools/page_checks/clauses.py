@@ -1,13 +1,16 @@
 """Each clause that the tables of docs/PROOFS.md name is one of that function, in the crate that
 gives it out.
 
-A row has a sentence, and the clauses that carry it: `CRATE::FUNCTION` (`CLAUSE`, `CLAUSE`), or
-`CRATE::TYPE::FUNCTION` for a method. Without names in parentheses the function has at least one
-clause that ensures something. A row that names no function says in words what carries it.
+A row names clauses as `CRATE::FUNCTION` (`CLAUSE`, `CLAUSE`), or `CRATE::TYPE::FUNCTION` for a
+method. Without names in parentheses the function has at least one clause that ensures something.
+A star at the end of a name stands for every function that the crate gives out whose name begins so.
+In a table with the head HEAD, which may have more columns, the second cell says what carries the
+first: clauses, or words.
 """
 
 from __future__ import annotations
 
+import fnmatch
 import re
 from pathlib import Path
 
@@ -16,11 +19,9 @@ from promises import FileReader, exported
 from .page import Checked
 
 PAGE = "docs/PROOFS.md"
-BEGIN = "<!-- checked by tools/page_checks/clauses.py -->"
-END = "<!-- end of what is checked -->"
 HEAD = "| what is promised | what carries it |"
 
-NAMED = re.compile(r"`(\w+)((?:::\w+)+)`(?: \((`\w+`(?:, `\w+`)*)\))?")
+NAMED = re.compile(r"`(\w+)((?:::\w+)*::(?:\w+|\w*\*))`(?: \((`\w+`(?:, `\w+`)*)\))?")
 Clauses = dict[str, set[str]]  # of a function by its name: what its clauses are called
 
 
@@ -60,37 +61,42 @@ class Crates:
         known = self.clauses(crate)
         if known is None:
             return f"there is no crate {crate}"
-        if function not in known:
+        named = fnmatch.filter(known, function)
+        if not named:
             return f"{crate} gives out no {function}"
-        if not known[function]:
-            return f"{crate}::{function} ensures nothing"
-        for clause in clauses:
-            if clause not in known[function]:
-                return f"{crate}::{function} has no clause {clause}"
+        for name in named:
+            if not known[name]:
+                return f"{crate}::{name} ensures nothing"
+            for clause in clauses:
+                if clause not in known[name]:
+                    return f"{crate}::{name} has no clause {clause}"
         return None
 
 
-def rows_of(text: str) -> list[tuple[int, str]]:
-    """The rows of the tables with the numbers of their lines, without their heads."""
-    begin = text.index(BEGIN)
-    first = text[:begin].count("\n") + 1
-    lines = text[begin : text.index(END)].split("\n")
-    return [
-        (first + at, line)
-        for at, line in enumerate(lines)
-        if line.startswith("| ") and line != HEAD
-    ]
+def rows_of(text: str) -> list[tuple[int, str, bool]]:
+    """Each row of a table: its line's number, and whether the table's head is HEAD."""
+    rows: list[tuple[int, str, bool]] = []
+    inside, promises = False, False
+    for number, line in enumerate(text.split("\n"), 1):
+        if line.startswith("|") and not inside:
+            promises = line.startswith(HEAD)
+        elif line.startswith("| "):
+            rows.append((number, line, promises))
+        inside = line.startswith("|")
+    return rows
 
 
 def check_clauses(root: Path) -> Checked:
-    """Each function of each row, with its clauses; and that no row is without a second cell."""
+    """Each function of each row, with its clauses; and that no promise is without what carries it."""
     checked = Checked()
     crates = Crates(root)
     text = (root / PAGE).read_text(encoding="utf-8")
-    for number, row in rows_of(text):
-        carried = row.split(" | ", 1)[1] if " | " in row else ""
-        checked.note(PAGE, number, None if carried.strip(" |") else "nothing carries this sentence")
-        for crate, name, clauses in NAMED.findall(carried):
+    for number, row, promises in rows_of(text):
+        if promises:
+            cells = row.strip("| ").split(" | ")
+            is_carried = len(cells) > 1 and cells[1].strip(" |")
+            checked.note(PAGE, number, None if is_carried else "nothing carries this sentence")
+        for crate, name, clauses in NAMED.findall(row):
             fault = crates.fault_of(crate, name.removeprefix("::"), re.findall(r"\w+", clauses))
             checked.note(PAGE, number, fault)
     return checked

@@ -11,19 +11,22 @@ OF_THE_KIT = {"Abort", "AllocError", "Data", "Display", "refl"}
 # take.
 ON_A_PAGE = [
     ("audit/README.md", "--strict"),  # of mypy
+    ("desk/README.md", "actual/actual"),  # counts the days of a bond
+    ("desk/README.md", "30/360"),  # counts the days of a bond
+    ("desk/README.md", "30E/360"),  # counts the days of a bond
+    ("desk/README.md", "actual/365"),  # counts the days of a bond
+    ("desk/README.md", "actual/360"),  # counts the days of a bond
     ("crates/quote_word/README.md", "Pens"),  # of the kit's logbook
     ("crates/all_cases/README.md", "data/PLACE-subject.cases"),  # a file that a reader writes
-    ("tests/edits/README.md", "FUNCTION-what.edit"),  # a file that a reader writes
-    ("CONTRIBUTING.md", "*-what.edit"),  # a file that a reader writes
     ("gateway/README.md", "192.0.2.0/24"),  # a network
-    ("deploy/README.md", "NAME_DATE"),  # stands for a schema of a reader's
-    ("deploy/README.md", "gw2"),  # a second host of a reader's
-    ("deploy/README.md", "10.77.0.0/24"),  # a network
-    ("deploy/README.md", "ETCD_*"),  # variables of etcd
-    ("deploy/README.md", "config.yml"),  # a file of Patroni's
-    ("deploy/README.md", "--now"),  # of systemctl
-    ("deploy/README.md", "Leader"),  # of patronictl
-    ("deploy/README.md", "Replica"),  # of patronictl
+    ("install/hosts/README.md", "NAME_DATE"),  # stands for a schema of a reader's
+    ("install/hosts/README.md", "gw2"),  # a second host of a reader's
+    ("install/hosts/README.md", "10.77.0.0/24"),  # a network
+    ("install/hosts/README.md", "ETCD_*"),  # variables of etcd
+    ("install/hosts/README.md", "config.yml"),  # a file of Patroni's
+    ("install/hosts/README.md", "--now"),  # of systemctl
+    ("install/hosts/README.md", "Leader"),  # of patronictl
+    ("install/hosts/README.md", "Replica"),  # of patronictl
     ("docs/SUPERVISING.md", "day-20261124.db"),  # a log of a reader's
     ("docs/SUPERVISING.md", "day_20261124"),  # a schema of a reader's
     ("docs/SUPERVISING.md", "sent.txt"),  # a list of a reader's
@@ -31,6 +34,8 @@ ON_A_PAGE = [
     ("docs/SUPERVISING.md", "DIR/now"),  # a link that the audit makes
     ("docs/SUPERVISING.md", "DIR/builds"),  # a folder of its
     ("docs/SUPERVISING.md", "parties.toml"),  # a file of a reader's
+    ("docs/SUPERVISING.md", "best-execution.html"),  # a page that the audit writes
+    ("CHANGELOG.md", "parties.toml"),  # a file of a reader's
 ]
 
 

@@ -2,7 +2,7 @@
 
 The rule. A span is cut at spaces, and each part is one of these, the first that fits:
   a path           has a slash, or ends as a file does: some file's or folder's path ends so; in a
-                   page of a crate a path in specs/, proofs/, src/ or must-fail/ is that crate's
+                   page of a crate a path in specs/, proofs/ or src/ is that crate's
   a flag           begins with two dashes: some program has it
   a field of FIX   digits, an equals sign: a dictionary of fix/ has the tag
   a qualified name has `::`: the first part and the last exist
@@ -23,7 +23,7 @@ from .vocabulary import Vocabulary
 
 ENDS = re.compile(
     r"[\w*.-]\.(?:rt|antt|py|sh|cpp|h|c|md|toml|yml|sql|cases|due|venue|xml|txt|lines|out"
-    r"|service|html|db|edit|png)$"
+    r"|service|html|db|edits|png)$"
 )
 NAME = re.compile(r"^[A-Za-z][A-Za-z0-9_]*$")
 END_OF_NAME = re.compile(r"^_[a-z_]+")
@@ -33,7 +33,7 @@ TAGGED = re.compile(r"^(\d{1,5})=")
 QUALIFIED = re.compile(r"^[A-Za-z_]\w*(?:::[A-Za-z_]\w*)+$")
 PLACED = re.compile(r"`([A-Za-z_][\w:]*)` \(`([\w./-]+\.\w+)`")
 CAPITALS = re.compile(r"^[A-Z][A-Z0-9]*$")
-OF_A_CRATE = ("specs/", "proofs/", "src/", "must-fail/")
+OF_A_CRATE = ("specs/", "proofs/", "src/")
 
 
 def folder_of(page: str, path: str) -> str:

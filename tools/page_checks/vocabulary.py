@@ -48,12 +48,12 @@ TEXTS = {
     ".service",
     ".html",
     ".css",
-    ".edit",
+    ".edits",
     ".suppressions",
     ".in",
     "",
 }
-ENDINGS = ["", ".rt", ".antt", ".cases", ".h", ".cpp", ".py", ".edit"]
+ENDINGS = ["", ".rt", ".antt", ".cases", ".h", ".cpp", ".py"]
 
 
 @dataclass
@@ -71,7 +71,7 @@ class Vocabulary:
     listed: str = ""
 
     def __post_init__(self) -> None:
-        self.listed = "\n".join(bodies_too(self.paths))
+        self.listed = "\n".join(self.paths)
 
     def has_path(self, path: str, crate: str) -> bool:
         """Whether the path of a file or a folder ends so; of a crate's own where one is named.
@@ -134,15 +134,10 @@ def with_folders(files: list[str]) -> list[str]:
     return sorted(folders | set(files))
 
 
-def bodies_too(paths: list[str]) -> list[str]:
-    """The paths, and of each wrong body in must-fail/ also CRATE/EDIT."""
-    return paths + [path.replace("/must-fail/", "/") for path in paths if "/must-fail/" in path]
-
-
 def ends_of(paths: list[str]) -> set[str]:
     """Each end of each path, cut at slashes."""
     ends: set[str] = set()
-    for path in bodies_too(paths):
+    for path in paths:
         parts = path.split("/")
         ends.update("/".join(parts[start:]) for start in range(len(parts)))
     return ends
