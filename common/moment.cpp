@@ -1,4 +1,4 @@
-#include "moment.h"
+#include "common/moment.h"
 
 #include <algorithm>
 #include <ctime>

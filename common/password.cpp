@@ -1,4 +1,4 @@
-#include "password.h"
+#include "common/password.h"
 
 #include <memory>
 #include <semaphore>

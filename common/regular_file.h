@@ -1,9 +1,12 @@
-// Whether a path is that of a file which can be read to its end. Plain C++, for both libraries.
-#ifndef GATEWAY_REGULAR_FILE_H
-#define GATEWAY_REGULAR_FILE_H
+// What kind of file a path is that of. Plain C++, for both libraries.
+#ifndef COMMON_REGULAR_FILE_H
+#define COMMON_REGULAR_FILE_H
 
 #include <filesystem>
 #include <system_error>
+
+#include <linux/magic.h>
+#include <sys/vfs.h>
 
 namespace gateway {
 
@@ -14,6 +17,13 @@ inline bool may_have_no_end(const std::filesystem::path &path) {
     const std::filesystem::file_status found = std::filesystem::status(path, fault);
     return std::filesystem::exists(found) && !std::filesystem::is_regular_file(found) &&
            !std::filesystem::is_directory(found);
+}
+
+// Whether what is written into a folder stays in memory; false where there is no such folder.
+inline bool is_in_memory(const std::filesystem::path &folder) {
+    struct statfs found {};
+    return ::statfs(folder.c_str(), &found) == 0 &&
+           (found.f_type == TMPFS_MAGIC || found.f_type == RAMFS_MAGIC);
 }
 
 } // namespace gateway

@@ -22,7 +22,7 @@ else()
     set(are_proved false)
     set(sessions ", sessions not proved: ${SESSION}")
 endif()
-set(text "#include \"version.h\"
+set(text "#include \"common/version.h\"
 
 namespace gateway {
 

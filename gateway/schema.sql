@@ -4,11 +4,12 @@
 -- The form of these tables: one row, the same in SQLite and PostgreSQL. A gateway of another form refuses the
 -- log, so no day has two. (Forms 1, in SQLite, and 2, in PostgreSQL, had no table connection, and neither
 -- received nor connection in entry. Form 3 had neither seal nor checkpoint, and no venue in entry 0. In form 4
--- outgoing had each message of a session as it left, and session two numbers.)
+-- outgoing had each message of a session as it left, and session two numbers. In forms 4 and 5 a checkpoint named neither
+-- the one before nor the day's end, and what is sealed and signed began with `mireseason log 4`.)
 CREATE TABLE form (
     number INTEGER NOT NULL
 );
-INSERT INTO form (number) VALUES (5);
+INSERT INTO form (number) VALUES (6);
 
 -- What the venue was given, in its order. Places have no gap.
 --
@@ -32,6 +33,8 @@ INSERT INTO form (number) VALUES (5);
 --                         its greatest error in microseconds: at each begin of a term, each five minutes, and
 --                         when STATE changes
 --     # clock TIME set BY        by how many microseconds the clock was set
+--     # gateway TIME NAME VERSION  which gateway speaks from now on (`gateway` of [log]), and what it says with --version:
+--                         at each start, and where one takes over
 -- What an act sets holds from its commit to the end of the day, for whoever writes the log. Fed after the configuration, `%%` and one line `#`, place P is line C + 2 + P of the
 -- venue's input, C being the lines of the configuration.
 --
@@ -92,6 +95,8 @@ CREATE TABLE connection (
     hash        BYTEA   NOT NULL
 );
 
+-- This table and the next two are a copy for readers: no gateway reads them, and no seal covers them.
+--
 -- What the venue gave for a firm: its frame as the venue wrote it, SOH as the byte 0x01. number is the
 -- venue's MsgSeqNum (34) to that firm, place that of the entry which it answers. What the venue notes beside it
 -- follows from the entries too, and stands in outgoing alone.
@@ -119,13 +124,14 @@ CREATE TABLE outgoing (
     copy    INTEGER NOT NULL, -- 1: it had another number in the epoch before, and was not known to have come
     dropped INTEGER NOT NULL, -- 1: a 35=3 or 35=j that is kept no longer, since the firm began with 141=Y
     type    TEXT    NOT NULL, -- 35
-    moment  TEXT    NOT NULL, -- when it was kept first, HH:MM:SS.sss in UTC: OrigSendingTime (122) of a resend
+    moment  TEXT    NOT NULL, -- OrigSendingTime (122) of a resend, HH:MM:SS.sss in UTC: of the venue's the moment of
+                              -- its entry, else when it was kept first
     bytes   BYTEA   NOT NULL,
     PRIMARY KEY (firm, epoch, number)
 );
 
--- The numbers of each session, by which it goes on after a restart and at another gateway (docs/SESSIONS.md). A row
--- comes in one transaction with what its numbers count, or with a later one: the number of an entry counts too.
+-- The numbers of each session (docs/SESSIONS.md). A row comes in one transaction with what its numbers count, or with
+-- a later one: the number of an entry counts too.
 CREATE TABLE session (
     firm         TEXT PRIMARY KEY,
     epoch        INTEGER NOT NULL, -- how often an operator has reset it
@@ -148,35 +154,49 @@ CREATE TABLE session (
 
 -- What no one can make who may write here and has no key of a gateway.
 --
--- Each transaction that puts rows into entry or connection puts one row here. Numbers begin at 1 and have no gap.
--- place is the last place of entry then, event that of connection (0 where it has none). mac is the HMAC-SHA-256,
--- under the secret of the log's gateways, of the text
---     mireseason log 4
+-- Each transaction that puts rows into entry or connection, or has session notes, puts one row here. Numbers begin at 1
+-- and have no gap. place is the last place of entry then, event that of connection (0 where it has none). notes are the
+-- session notes of the transaction, a line feed behind each (docs/RECOVERY.md has their form): what sessions did that no
+-- entry says. hash is the running hash of all session notes up to these. mac is the HMAC-SHA-256, under the secret of
+-- the log's gateways, of the text
+--     mireseason log 6
 --     venue NAME          as in entry 0
 --     day YYYYMMDD        of its configuration
 --     configuration HEX   the SHA-256 of that
 --     term TERM
 --     entry PLACE HEX     place, and the hash that the entry there has
 --     connection PLACE HEX   event, and the hash that the row there has; 64 zeros where event is 0
+--     seal NUMBER HEX     number and hash of this row
 -- (small hexadecimal digits, a line feed after each line). The hashes are those of the chains, so a seal covers
--- all that stands in these two tables up to it. The last seal is that of the last entry and the last row.
+-- all that stands in these two tables and in notes up to it. The last seal is that of the last entry and the last row.
+--
+-- Before the day opens a Logout uses up a number of its session, and there is no entry: place is -1 then, event 0, and
+-- the text has 64 zeros in place of both hashes and of the configuration's.
 CREATE TABLE seal (
     number INTEGER PRIMARY KEY,
     term   INTEGER NOT NULL, -- as in entry: of the gateway that sealed
     place  INTEGER NOT NULL,
     event  INTEGER NOT NULL,
+    notes  BYTEA   NOT NULL,
+    hash   BYTEA   NOT NULL,
     mac    BYTEA   NOT NULL
 );
 
--- The same for readers who have no secret. Less than a second after an entry, at each change of term and at the end
--- of the day the gateway that speaks signs where its log stands; numbers rise with each. signature is the Ed25519
--- signature, by that gateway's own key, of the text above with one more line
+-- The same for readers who have no secret. Less than a second after an entry, at each change of term and when it ends
+-- the gateway that speaks signs where its log stands. Numbers begin at 1 and have no gap. seal is the number of the last
+-- seal then. signature is the Ed25519 signature, by that gateway's own key, of the text above, whose seal is that one,
+-- with three more lines
 --     checkpoint NUMBER
--- A row here may come later than the entries behind it. What the last one does not cover, nobody has signed yet.
+--     before HEX          the signature of the checkpoint before; 128 zeros where there is none
+--     end yes|no          yes: the day's log ends there. One that is opened again goes on behind it, and gets another
+-- A row here may come later than the entries behind it. What the last one does not cover, nobody has signed yet. The
+-- gateway also keeps the last one outside of the database, once it is here.
 CREATE TABLE checkpoint (
     number    INTEGER PRIMARY KEY,
     term      INTEGER NOT NULL,
     place     INTEGER NOT NULL,
     event     INTEGER NOT NULL,
+    seal      INTEGER NOT NULL,
+    is_end    INTEGER NOT NULL, -- 1: yes
     signature BYTEA   NOT NULL
 );

@@ -63,7 +63,7 @@ BEGIN
     PERFORM speak(mine);
 END $$;
 
--- Entries and events of connections of another term than that of now are refused, whoever writes them.
+-- Entries, events of connections and seals of another term than that of now are refused, whoever writes them.
 CREATE FUNCTION refuse_other_terms() RETURNS TRIGGER LANGUAGE plpgsql AS $$
 BEGIN
     PERFORM speak(term) FROM (SELECT DISTINCT term FROM added) AS terms;
@@ -72,4 +72,6 @@ END $$;
 CREATE TRIGGER one_term AFTER INSERT ON entry REFERENCING NEW TABLE AS added
     FOR EACH STATEMENT EXECUTE FUNCTION refuse_other_terms();
 CREATE TRIGGER one_term AFTER INSERT ON connection REFERENCING NEW TABLE AS added
+    FOR EACH STATEMENT EXECUTE FUNCTION refuse_other_terms();
+CREATE TRIGGER one_term AFTER INSERT ON seal REFERENCING NEW TABLE AS added
     FOR EACH STATEMENT EXECUTE FUNCTION refuse_other_terms();

@@ -19,6 +19,7 @@ struct Request {
     std::string content_type;
     std::string address; // of the peer, without its port
     std::string if_none_match;
+    std::string authorization;
     std::map<std::string, std::string, std::less<>> cookies;
 };
 

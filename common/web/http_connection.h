@@ -1,10 +1,10 @@
 // One connection: its requests one after the other, or the WebSocket that it turns into.
-#ifndef WEB_VISIT_H
-#define WEB_VISIT_H
+#ifndef WEB_HTTP_CONNECTION_H
+#define WEB_HTTP_CONNECTION_H
 
 #include "cookies.h"
-#include "house.h"
-#include "wire_socket.h"
+#include "server_context.h"
+#include "websocket.h"
 
 #include <memory>
 #include <optional>
@@ -18,13 +18,16 @@
 
 namespace web {
 
-template <typename Stream> class Visit : public std::enable_shared_from_this<Visit<Stream>> {
+template <typename Stream>
+class HttpConnection : public std::enable_shared_from_this<HttpConnection<Stream>> {
   public:
-    Visit(std::shared_ptr<const House> house, Stream stream, Slots::Slot slot)
-        : house_(std::move(house)), stream_(std::move(stream)), slot_(std::move(slot)) {}
+    HttpConnection(std::shared_ptr<const ServerContext> context, Stream stream,
+                   ConnectionSlots::Slot slot)
+        : context_(std::move(context)), stream_(std::move(stream)), slot_(std::move(slot)) {}
 
     void start() {
-        lowest().expires_after(house_->limits.request_time);
+        wait();
+        lowest().expires_after(context_->limits.request_time);
         if constexpr (has_tls) {
             stream_.async_handshake(boost::asio::ssl::stream_base::server,
                                     [self = this->shared_from_this()](Fault fault) {
@@ -44,11 +47,21 @@ template <typename Stream> class Visit : public std::enable_shared_from_this<Vis
 
     auto &lowest() { return boost::beast::get_lowest_layer(stream_); }
 
+    // What waits for its peer makes room for who comes.
+    void wait() {
+        slot_.wait([weak = this->weak_from_this()] {
+            if (const auto self = weak.lock()) {
+                self->lowest().close();
+            }
+        });
+    }
+
     void read() {
+        wait();
         parser_.emplace();
-        parser_->header_limit(static_cast<std::uint32_t>(house_->limits.header_bytes));
-        parser_->body_limit(house_->limits.body_bytes);
-        lowest().expires_after(house_->limits.request_time);
+        parser_->header_limit(static_cast<std::uint32_t>(context_->limits.header_bytes));
+        parser_->body_limit(context_->limits.body_bytes);
+        lowest().expires_after(context_->limits.request_time);
         boost::beast::http::async_read(
             stream_, buffer_, *parser_,
             [self = this->shared_from_this()](Fault fault, std::size_t) { self->took(fault); });
@@ -61,34 +74,35 @@ template <typename Stream> class Visit : public std::enable_shared_from_this<Vis
         if (fault) {
             return close();
         }
+        slot_.work();
         const Wire &wire = parser_->get();
         const std::string_view host = text(wire[boost::beast::http::field::host]);
         const std::string_view origin = text(wire[boost::beast::http::field::origin]);
-        if (!house_->names.is_host(host)) {
+        if (wire.count(boost::beast::http::field::host) > 1 || !context_->names.is_host(host)) {
             return write(Response{403, "text/plain; charset=utf-8", "another host\n", {}}, false);
         }
         const bool upgrades = boost::beast::websocket::is_upgrade(wire);
         const bool reads = wire.method() == boost::beast::http::verb::get && !upgrades;
-        if (!reads && !house_->names.is_own_origin(origin, host)) {
+        if (!reads && !context_->names.is_own_origin(origin, host)) {
             return write(Response{403, "text/plain; charset=utf-8", "another origin\n", {}}, false);
         }
         upgrades ? upgrade() : answer();
     }
 
     void upgrade() {
-        std::shared_ptr<SocketUser> user = house_->site.take_socket(request());
+        std::shared_ptr<SocketUser> user = context_->site.take_socket(request());
         if (!user) {
             return write(Response{403, "text/plain; charset=utf-8", "not logged in\n", {}}, false);
         }
         lowest().expires_never();
-        std::make_shared<WireSocket<Stream>>(house_->limits, std::move(stream_), std::move(slot_),
-                                             std::move(user))
+        std::make_shared<WebSocket<Stream>>(context_->limits, std::move(stream_), std::move(slot_),
+                                            std::move(user))
             ->start(parser_->release());
     }
 
     void answer() {
         lowest().expires_never(); // while the site thinks
-        house_->site.answer(request(), [self = this->shared_from_this()](Response response) {
+        context_->site.answer(request(), [self = this->shared_from_this()](Response response) {
             self->write(std::move(response), self->parser_->get().keep_alive());
         });
     }
@@ -104,6 +118,7 @@ template <typename Stream> class Visit : public std::enable_shared_from_this<Vis
         request.body = wire.body();
         request.content_type = text(wire[boost::beast::http::field::content_type]);
         request.if_none_match = text(wire[boost::beast::http::field::if_none_match]);
+        request.authorization = text(wire[boost::beast::http::field::authorization]);
         request.cookies = cookies_of(text(wire[boost::beast::http::field::cookie]));
         request.address = slot_.address();
         return request;
@@ -123,7 +138,8 @@ template <typename Stream> class Visit : public std::enable_shared_from_this<Vis
         response_.keep_alive(keeps);
         response_.body() = std::move(response.body);
         response_.prepare_payload();
-        lowest().expires_after(house_->limits.request_time);
+        wait();
+        lowest().expires_after(context_->limits.request_time);
         http::async_write(stream_, response_,
                           [self = this->shared_from_this(), keeps](Fault fault, std::size_t) {
                               !fault &&keeps ? self->read() : self->close();
@@ -160,9 +176,9 @@ template <typename Stream> class Visit : public std::enable_shared_from_this<Vis
         return {view.data(), view.size()};
     }
 
-    std::shared_ptr<const House> house_;
+    std::shared_ptr<const ServerContext> context_;
     Stream stream_;
-    Slots::Slot slot_;
+    ConnectionSlots::Slot slot_;
     boost::beast::flat_buffer buffer_;
     std::optional<boost::beast::http::request_parser<boost::beast::http::string_body>> parser_;
     boost::beast::http::response<boost::beast::http::string_body> response_;

@@ -1,6 +1,6 @@
 #include "server.h"
 
-#include "house.h"
+#include "server_context.h"
 
 #include <chrono>
 #include <optional>
@@ -36,13 +36,13 @@ asio::ssl::context tls_of(const Certificate &certificate) {
     return tls;
 }
 
-tcp::acceptor listening(asio::io_context &io, const Door &door) {
-    const tcp::endpoint place(asio::ip::make_address(door.address), door.port);
+tcp::acceptor listening(asio::io_context &io, const ServerSettings &settings) {
+    const tcp::endpoint place(asio::ip::make_address(settings.address), settings.port);
     try {
         return tcp::acceptor(io, place);
     } catch (const boost::system::system_error &fault) {
-        throw std::runtime_error("can't listen on " + door.address + ":" +
-                                 std::to_string(door.port) + ": " + fault.code().message());
+        throw std::runtime_error("can't listen on " + settings.address + ":" +
+                                 std::to_string(settings.port) + ": " + fault.code().message());
     }
 }
 
@@ -50,19 +50,19 @@ tcp::acceptor listening(asio::io_context &io, const Door &door) {
 
 class Server::Listener : public std::enable_shared_from_this<Listener> {
   public:
-    Listener(asio::io_context &io, const Door &door, Site &site)
-        : acceptor_(listening(io, door)), pause_(io),
-          slots_(std::make_shared<Slots>(door.limits.connections,
-                                         door.limits.connections_per_address)),
-          house_(std::make_shared<const House>(
-              House{Names(door, port()), door.limits, door.certificate.has_value(), site})) {
-        if (door.certificate) {
-            tls_.emplace(tls_of(*door.certificate));
+    Listener(asio::io_context &io, const ServerSettings &settings, Site &site)
+        : acceptor_(listening(io, settings)), pause_(io),
+          slots_(std::make_shared<ConnectionSlots>(settings.limits.connections,
+                                                   settings.limits.connections_per_address)),
+          context_(std::make_shared<const ServerContext>(ServerContext{
+              Names(settings, port()), settings.limits, settings.certificate.has_value(), site})) {
+        if (settings.certificate) {
+            tls_.emplace(tls_of(*settings.certificate));
         }
     }
 
     unsigned short port() const { return acceptor_.local_endpoint().port(); }
-    std::string address() const { return house_->names.address(); }
+    std::string address() const { return context_->names.address(); }
 
     void accept() {
         acceptor_.async_accept(
@@ -100,29 +100,29 @@ class Server::Listener : public std::enable_shared_from_this<Listener> {
         if (fault) {
             return; // it is gone
         }
-        std::optional<Slots::Slot> slot = slots_->take(peer.address().to_string());
+        std::optional<ConnectionSlots::Slot> slot = slots_->take(peer.address().to_string());
         if (!slot) {
             return;
         }
         // Two small messages in a row cost 40 ms otherwise.
         socket.set_option(tcp::no_delay(true), fault);
         if (tls_) {
-            serve_tls(house_, std::move(socket), *tls_, std::move(*slot));
+            serve_tls(context_, std::move(socket), *tls_, std::move(*slot));
         } else {
-            serve_plain(house_, std::move(socket), std::move(*slot));
+            serve_plain(context_, std::move(socket), std::move(*slot));
         }
     }
 
     tcp::acceptor acceptor_;
     asio::steady_timer pause_;
-    std::shared_ptr<Slots> slots_;
-    std::shared_ptr<const House> house_;
+    std::shared_ptr<ConnectionSlots> slots_;
+    std::shared_ptr<const ServerContext> context_;
     std::optional<asio::ssl::context> tls_;
 };
 
-Server::Server(asio::io_context &io, const Door &door, Site &site) {
-    check(door);
-    listener_ = std::make_shared<Listener>(io, door, site);
+Server::Server(asio::io_context &io, const ServerSettings &settings, Site &site) {
+    check(settings);
+    listener_ = std::make_shared<Listener>(io, settings, site);
     listener_->accept();
 }
 

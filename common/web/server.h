@@ -1,10 +1,10 @@
-// Serves a site by HTTP/1.1 and WebSocket, over TLS where the door has a certificate. It looks at
-// Host and Origin itself, sets the headers that keep a page closed to other sites, and has a limit
-// for everything that a peer may send or leave unread.
+// Serves a site by HTTP/1.1 and WebSocket, over TLS where its settings have a certificate. It looks
+// at Host and Origin itself, sets the headers that keep a page closed to other sites, and has a
+// limit for everything that a peer may send or leave unread.
 #ifndef WEB_SERVER_H
 #define WEB_SERVER_H
 
-#include "door.h"
+#include "server_settings.h"
 #include "site.h"
 
 #include <memory>
@@ -17,8 +17,8 @@ namespace web {
 class Server {
   public:
     // Listens from now on; the site has to outlive the io_context's run. Throws std::runtime_error
-    // with what is wrong with the door.
-    Server(boost::asio::io_context &io, const Door &door, Site &site);
+    // with what is wrong with the settings.
+    Server(boost::asio::io_context &io, const ServerSettings &settings, Site &site);
     ~Server();
     Server(const Server &) = delete;
     Server &operator=(const Server &) = delete;

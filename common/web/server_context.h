@@ -1,10 +1,10 @@
 // What all connections of a server share.
-#ifndef WEB_HOUSE_H
-#define WEB_HOUSE_H
+#ifndef WEB_SERVER_CONTEXT_H
+#define WEB_SERVER_CONTEXT_H
 
-#include "door.h"
+#include "connection_slots.h"
+#include "server_settings.h"
 #include "site.h"
-#include "slots.h"
 
 #include <memory>
 
@@ -13,7 +13,7 @@
 
 namespace web {
 
-struct House {
+struct ServerContext {
     Names names;
     Limits limits;
     bool has_tls;
@@ -21,10 +21,10 @@ struct House {
 };
 
 // Serves one connection, to its end.
-void serve_plain(std::shared_ptr<const House> house, boost::asio::ip::tcp::socket socket,
-                 Slots::Slot slot);
-void serve_tls(std::shared_ptr<const House> house, boost::asio::ip::tcp::socket socket,
-               boost::asio::ssl::context &tls, Slots::Slot slot);
+void serve_plain(std::shared_ptr<const ServerContext> context, boost::asio::ip::tcp::socket socket,
+                 ConnectionSlots::Slot slot);
+void serve_tls(std::shared_ptr<const ServerContext> context, boost::asio::ip::tcp::socket socket,
+               boost::asio::ssl::context &tls, ConnectionSlots::Slot slot);
 
 } // namespace web
 

@@ -1,4 +1,4 @@
-#include "door.h"
+#include "server_settings.h"
 
 #include <stdexcept>
 
@@ -25,30 +25,30 @@ std::string host_of(const std::string &name, unsigned short port, bool has_tls) 
 
 } // namespace
 
-void check(const Door &door) {
-    if (is_loopback(door.address)) {
+void check(const ServerSettings &settings) {
+    if (is_loopback(settings.address)) {
         return;
     }
-    if (!door.certificate) {
-        throw std::runtime_error("listening on " + door.address +
+    if (!settings.certificate) {
+        throw std::runtime_error("listening on " + settings.address +
                                  ", beyond this machine, needs a certificate and its key");
     }
-    if (door.hosts.empty()) {
-        throw std::runtime_error("listening on " + door.address +
+    if (settings.hosts.empty()) {
+        throw std::runtime_error("listening on " + settings.address +
                                  " needs 'hosts', the names by which browsers reach it");
     }
 }
 
-Names::Names(const Door &door, unsigned short port)
-    : scheme_(door.certificate ? "https://" : "http://") {
-    const bool has_tls = door.certificate.has_value();
-    hosts_.insert(door.hosts.begin(), door.hosts.end());
-    if (is_loopback(door.address)) {
+Names::Names(const ServerSettings &settings, unsigned short port)
+    : scheme_(settings.certificate ? "https://" : "http://") {
+    const bool has_tls = settings.certificate.has_value();
+    hosts_.insert(settings.hosts.begin(), settings.hosts.end());
+    if (is_loopback(settings.address)) {
         for (const char *name : {"127.0.0.1", "localhost", "[::1]"}) {
             hosts_.insert(host_of(name, port, has_tls));
         }
     }
-    first_ = door.hosts.empty() ? host_of("127.0.0.1", port, has_tls) : door.hosts.front();
+    first_ = settings.hosts.empty() ? host_of("127.0.0.1", port, has_tls) : settings.hosts.front();
 }
 
 bool Names::is_host(std::string_view host) const {

@@ -1,6 +1,6 @@
 // Where a server listens, by which names it is reached, and its limits.
-#ifndef WEB_DOOR_H
-#define WEB_DOOR_H
+#ifndef WEB_SERVER_SETTINGS_H
+#define WEB_SERVER_SETTINGS_H
 
 #include <chrono>
 #include <cstddef>
@@ -29,7 +29,7 @@ struct Limits {
     std::chrono::seconds request_time{10}; // from the connection, or the last answer, to a request
 };
 
-struct Door {
+struct ServerSettings {
     std::string address = "127.0.0.1";
     unsigned short port = 0;                // 0: one that the system gives
     std::vector<std::string> hosts;         // what Host may say beside the loopback's names
@@ -39,13 +39,13 @@ struct Door {
 
 // Throws std::runtime_error where people beyond this machine would be served without TLS, or by no
 // name.
-void check(const Door &door);
+void check(const ServerSettings &settings);
 
 // The names by which a server is reached, and the origins of its own pages. A page of another host,
 // be it one that resolves to this address, and one of another port have others.
 class Names {
   public:
-    Names(const Door &door, unsigned short port);
+    Names(const ServerSettings &settings, unsigned short port);
 
     bool is_host(std::string_view host) const;
     bool is_own_origin(std::string_view origin, std::string_view host) const;

@@ -1,4 +1,4 @@
-#include "files.h"
+#include "static_files.h"
 
 #include "secrets.h"
 
@@ -28,7 +28,7 @@ const char *content_type_of(std::string_view name) {
 
 } // namespace
 
-void Files::add(const std::string &name, std::string text) {
+void StaticFiles::add(const std::string &name, std::string text) {
     const char *type = content_type_of(name);
     if (type == nullptr) {
         throw std::runtime_error(name + ": no page, style, script or picture");
@@ -37,7 +37,7 @@ void Files::add(const std::string &name, std::string text) {
     files_[name] = File{type, std::move(text), tag};
 }
 
-void Files::add_folder(const std::string &folder) {
+void StaticFiles::add_folder(const std::string &folder) {
     for (const fs::directory_entry &entry : fs::directory_iterator(folder)) {
         const std::string name = entry.path().filename();
         if (content_type_of(name) == nullptr || !entry.is_regular_file()) {
@@ -52,7 +52,7 @@ void Files::add_folder(const std::string &folder) {
     }
 }
 
-std::optional<Response> Files::find(const Request &request) const {
+std::optional<Response> StaticFiles::find(const Request &request) const {
     if (request.method != Method::get || request.path.empty() || request.path.front() != '/') {
         return {};
     }

@@ -1,6 +1,6 @@
 // The files of a site, held in memory: no request opens a file.
-#ifndef WEB_FILES_H
-#define WEB_FILES_H
+#ifndef WEB_STATIC_FILES_H
+#define WEB_STATIC_FILES_H
 
 #include "exchange.h"
 
@@ -11,7 +11,7 @@
 
 namespace web {
 
-class Files {
+class StaticFiles {
   public:
     // The name's ending says what it is: html, css, js or svg. Throws std::runtime_error.
     void add(const std::string &name, std::string text);

@@ -1,8 +1,8 @@
 // A WebSocket on its connection.
-#ifndef WEB_WIRE_SOCKET_H
-#define WEB_WIRE_SOCKET_H
+#ifndef WEB_WEBSOCKET_H
+#define WEB_WEBSOCKET_H
 
-#include "house.h"
+#include "server_context.h"
 
 #include <deque>
 #include <memory>
@@ -16,10 +16,10 @@
 namespace web {
 
 template <typename Stream>
-class WireSocket final : public Socket, public std::enable_shared_from_this<WireSocket<Stream>> {
+class WebSocket final : public Socket, public std::enable_shared_from_this<WebSocket<Stream>> {
   public:
-    WireSocket(const Limits &limits, Stream stream, Slots::Slot slot,
-               std::shared_ptr<SocketUser> user)
+    WebSocket(const Limits &limits, Stream stream, ConnectionSlots::Slot slot,
+              std::shared_ptr<SocketUser> user)
         : limits_(limits), ws_(std::move(stream)), slot_(std::move(slot)), user_(std::move(user)) {
         ws_.set_option(boost::beast::websocket::stream_base::timeout{
             limits_.request_time, std::chrono::seconds(20), true});
@@ -110,7 +110,7 @@ class WireSocket final : public Socket, public std::enable_shared_from_this<Wire
 
     const Limits limits_;
     boost::beast::websocket::stream<Stream, false> ws_; // nothing is deflated
-    Slots::Slot slot_;
+    ConnectionSlots::Slot slot_;
     std::shared_ptr<SocketUser> user_;
     boost::beast::flat_buffer buffer_;
     std::deque<std::shared_ptr<const std::string>> waiting_;

@@ -2,8 +2,8 @@
 #ifndef GATEWAY_FUZZ_BOOK_H
 #define GATEWAY_FUZZ_BOOK_H
 
-#include "engine.h"
 #include "rig.h"
+#include "session/session_host.h"
 
 #include <map>
 #include <set>

@@ -1,9 +1,10 @@
 #include "rig.h"
 
 #include "book.h"
-#include "conversation.h"
-#include "line.h"
-#include "sessions.h"
+#include "session/conversation.h"
+#include "session/engine_events.h"
+#include "session/sessions.h"
+#include "session/transport.h"
 #include "strict.h"
 
 #include <algorithm>
@@ -29,7 +30,7 @@ class Unheard final : public EngineEvents {
 };
 
 // One connection, without a network.
-class Caller final : public Line {
+class Caller final : public Transport {
   public:
     Caller(unsigned number, const Sessions &sessions, Unheard &events, Book &book)
         : number_(number), book_(book), talk_(sessions, events, *this) {}

@@ -62,13 +62,18 @@ bool may_not_reset(const Day &day, const Logon &logon) {
     return logon.is_reset && (logon.number != 1 || day.was_taken || has_venues);
 }
 
-// Row 7, and its second sentence.
+// Row 7.
 bool is_below(const Day &day, const Logon &logon) {
     return !logon.is_reset && logon.number < day.expected;
 }
 
-bool has_lost_store(const Day &day, const Logon &logon) {
-    return is_below(day, logon) && instant_of(*logon.sent) > day.last_logon;
+// Row 7 of a Logon that came to it, and of one that row 4 or 5 refuses: the latter's time may be
+// none, or off.
+bool has_lost_store(const Event &event, const Day &day, const Logon &logon) {
+    if (day.is_locked || !is_below(day, logon)) {
+        return false;
+    }
+    return !is_of_now(logon.sent, event.clock) || instant_of(*logon.sent) > day.last_logon;
 }
 
 // Row 4.
@@ -112,10 +117,10 @@ std::optional<std::string> refusal_of(const Event &event, const Logon &logon, co
     return wrong_number(day, logon);
 }
 
-void refuse_logon(Turn &turn, const Logon &logon, Text why) {
+void refuse_logon(Turn &turn, const Event &event, const Logon &logon, Text why) {
     Day &day = turn.session.day;
     turn.notice = Notice::refused;
-    if (why == reasons::too_low(day.expected) && has_lost_store(day, logon)) {
+    if (has_lost_store(event, day, logon)) {
         day.is_locked = true;
         turn.notice = Notice::lost_store;
     }
@@ -208,7 +213,7 @@ void accept(Turn &turn, const Event &event, const Logon &logon) {
 void judge_logon(Turn &turn, const Event &event) {
     const Logon logon = logon_of(event);
     if (const std::optional<std::string> why = refusal_of(event, logon, turn.session.day)) {
-        refuse_logon(turn, logon, *why);
+        refuse_logon(turn, event, logon, *why);
         return;
     }
     accept(turn, event, logon);

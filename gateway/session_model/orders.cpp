@@ -58,8 +58,10 @@ void obey(Turn &turn, const Clock &clock, Order order, std::uint64_t copies) {
         day.is_suspended = true;
         log_out_by_gateway(turn, clock, reasons::SUSPENDED);
         break;
-    case Order::release:
+    case Order::resume:
         day.is_suspended = false;
+        break;
+    case Order::release:
         day.is_locked = false;
         break;
     case Order::reset:

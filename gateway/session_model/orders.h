@@ -6,7 +6,7 @@
 
 namespace session_model {
 
-enum class Order : std::uint32_t { open, close, suspend, release, reset };
+enum class Order : std::uint32_t { open, close, suspend, resume, release, reset };
 
 // `copies`: so many messages of the venue get new numbers at a reset.
 void obey(Turn &turn, const Clock &clock, Order order, std::uint64_t copies);

@@ -1,18 +1,21 @@
 // mireseason-gateway CONFIG
-#include "accept_loss.h"
-#include "admin_peer.h"
-#include "begun_files.h"
-#include "check_settings.h"
-#include "confinement.h"
-#include "make_keys.h"
-#include "moment.h"
-#include "password.h"
-#include "private_file.h"
-#include "service.h"
-#include "start_check.h"
-#include "venue_rules.h"
-#include "version.h"
+#include "base/private_file.h"
+#include "common/moment.h"
+#include "common/password.h"
+#include "common/version.h"
+#include "config/start_configuration.h"
+#include "config/venue_rules.h"
+#include "log/make_keys.h"
+#include "operator/admin_peer.h"
+#include "recovery/accept_loss.h"
+#include "service/restart_forecast.h"
+#include "service/service.h"
+#include "service/start_check.h"
+#include "session/check_settings.h"
+#include "venue/confinement.h"
 
+#include <algorithm>
+#include <chrono>
 #include <csignal>
 #include <iostream>
 #include <memory>
@@ -104,7 +107,7 @@ class Signals {
                 if (signal == SIGHUP) {
                     service.ask_to_renew();
                 } else if (signal > 0) {
-                    service.ask_to_stop(signal == SIGTERM ? "SIGTERM" : "SIGINT");
+                    service.ask_to_stop("the operator has stopped the gateway");
                 }
             }
         });
@@ -114,6 +117,39 @@ class Signals {
     sigset_t set_{};
 };
 
+// Says what a start now would do.
+gateway::RestartForecast tell_restart(const std::string &path) {
+    gateway::RestartForecast forecast = gateway::forecast_restart(
+        path, std::chrono::floor<std::chrono::seconds>(std::chrono::system_clock::now()));
+    for (const std::string &sentence : forecast.sentences) {
+        std::cout << sentence << std::endl;
+    }
+    return forecast;
+}
+
+// Tells what the files are. Throws std::runtime_error with the first fault.
+void check_files(const std::string &path, const std::string &day, bool runs,
+                 const gateway::RestartForecast &forecast) {
+    gateway::ConfigFiles files;
+    const std::vector<gateway::Config> configs = forecast.has_begun
+                                                     ? gateway::read_next_configs(files, path, day)
+                                                     : gateway::read_configs(files, path, day);
+    for (const gateway::Config &config : configs) {
+        const bool is_next = forecast.has_begun && !config.firms.has_own_date;
+        gateway::check_start(config, is_next ? config.firms.date : day, runs);
+        std::cout << path << " is a configuration of " << config.firms.names.size() << " firms for "
+                  << (forecast.files_are_others ? "the day after " : "") << day << '\n';
+        for (const std::string &told : gateway::kept_out(config, day)) {
+            if (std::ranges::find(forecast.sentences, told) == forecast.sentences.end()) {
+                std::cout << told << '\n';
+            }
+        }
+    }
+    if (const auto doubt = gateway::doubt_about(configs.front())) {
+        std::cerr << "mireseason-gateway: in doubt: " << *doubt << '\n';
+    }
+}
+
 // Nothing is written, and no port is listened at.
 int check(const std::string &path, const std::string &day) {
     // A program of the venue that does not take what it is given may have ended already.
@@ -122,21 +158,25 @@ int check(const std::string &path, const std::string &day) {
         std::cerr << "mireseason-gateway: --date takes a day as eight digits\n";
         return 2;
     }
-    gateway::ConfigFiles files;
     const auto running = gateway::running_gateway(path);
     if (running) {
         std::cout << "a gateway runs with it, process " << *running << ", and has its ports\n";
     }
-    const std::vector<gateway::Config> configs = gateway::read_configs(files, path, day);
-    for (const gateway::Config &config : configs) {
-        gateway::check_start(config, day, running.has_value());
-        std::cout << path << " is a configuration of " << config.firms.names.size() << " firms for "
-                  << day << '\n';
+    const bool is_today = day == gateway::today();
+    const auto forecast = is_today ? tell_restart(path) : gateway::RestartForecast();
+    try {
+        check_files(path, day, running.has_value(), forecast);
+        return forecast.goes_well ? 0 : 1;
+    } catch (const std::exception &fault) {
+        std::cerr << "mireseason-gateway: " << fault.what() << '\n';
+        // Before the day has begun a start reads these files, and ends at the fault.
+        if (forecast.has_begun && forecast.goes_well) {
+            std::cerr
+                << "mireseason-gateway: so the status is 1, although a restart now goes well: "
+                   "mend it before the next day\n";
+        }
+        return 1;
     }
-    if (const auto doubt = gateway::doubt_about(configs.front())) {
-        std::cerr << "mireseason-gateway: in doubt: " << *doubt << '\n';
-    }
-    return 0;
 }
 
 int serve(const std::string &path) {
@@ -147,12 +187,12 @@ int serve(const std::string &path) {
     // take over.
     gateway::check_settings(configs.front().engine);
     gateway::make_files_private();
-    gateway::SupervisorSocket supervisor;
+    gateway::SystemdSocket systemd;
     const auto recent = std::make_shared<gateway::RecentEvents>(kept_events);
     const auto events = make_events(configs.front().event_level, recent);
     const Signals signals;
     gateway::Service service(path, std::move(files), std::move(configs), events, recent,
-                             std::move(supervisor));
+                             std::move(systemd));
     const std::jthread watching = signals.watch(service);
     return service.run();
 }

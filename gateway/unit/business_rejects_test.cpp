@@ -2,8 +2,8 @@
 #define DOCTEST_CONFIG_IMPLEMENT_WITH_MAIN
 #include <doctest/doctest.h>
 
-#include "business.h"
 #include "check.h"
+#include "firms/business_rejects.h"
 
 #include <algorithm>
 #include <string>

@@ -3,7 +3,7 @@
 #include <doctest/doctest.h>
 
 #include "check.h"
-#include "clock_watch.h"
+#include "health/clock_watch.h"
 
 #include <chrono>
 

@@ -3,9 +3,9 @@
 #define DOCTEST_CONFIG_IMPLEMENT_WITH_MAIN
 #include <doctest/doctest.h>
 
+#include "log/sqlite_statement.h"
 #include "log_days.h"
 #include "log_schema.h"
-#include "sqlite_statement.h"
 
 #include <cstdlib>
 
@@ -54,27 +54,28 @@ void connections(Database &database) {
             message.connection = number;
             day.log.append_message("F0", message, "x", Log::Committer::caller);
             day.log.commit();
-            const ConnectionState state = database.reader()->connections();
+            const ConnectionState state = connections_in(*database.reader());
             same(number, state.greatest, "the greatest number");
             check_event(state.last.value(), logon, 2 * number - 1, day.last + number - 1);
             same(number, database.reader()->last_entry()->connection.value_or(0), "of the entry");
             const ConnectionEvent end = event_of(connection_events::end, number);
             same(0U, day.log.put_connection(end), "the number of an end");
             day.log.flush();
-            check_event(database.reader()->connections().last.value(), end, 2 * number,
+            check_event(connections_in(*database.reader()).last.value(), end, 2 * number,
                         day.last + number);
         }
-        check(database.reader()->connections().open.empty(), "a connection that has ended is open");
+        check(connections_in(*database.reader()).open.empty(),
+              "a connection that has ended is open");
         open = day.log.put_connection(event_of(connection_events::logon, {}));
     }
-    const ConnectionState state = database.reader()->connections();
+    const ConnectionState state = connections_in(*database.reader());
     same<std::size_t>(1, state.open.size(), "connections without an end");
     same(open, state.open.at(0).number.value_or(0), "the one without an end");
     DayThatGoesOn again(database);
     same(open + 1, again.log.put_connection(event_of(connection_events::logon, {})),
          "the number of the first connection after a start");
     again.log.flush();
-    check(database.reader()->connections().last->before == state.last->hash,
+    check(connections_in(*database.reader()).last->before == state.last->hash,
           "an event does not follow on the one before a start");
 }
 
@@ -157,7 +158,7 @@ void another_form(const std::filesystem::path &folder) {
     } catch (const std::runtime_error &fault) {
         told = fault.what();
     }
-    same(file + " has tables of form 1, and this gateway's are of form 5: no day spans two forms, "
+    same(file + " has tables of form 1, and this gateway's are of form 6: no day spans two forms, "
                 "so it ends with the version of the gateway that began it",
          told, "the cause");
 }

@@ -3,14 +3,15 @@
 #define GATEWAY_TESTS_DOOR_SCENE_H
 
 #include "check.h"
-#include "conversation.h"
-#include "frame.h"
-#include "line.h"
+#include "common/frame.h"
 #include "no_events.h"
-#include "sessions.h"
+#include "session/conversation.h"
+#include "session/sessions.h"
+#include "session/transport.h"
 #include "still_clock.h"
 
 #include <chrono>
+#include <functional>
 #include <map>
 #include <string>
 #include <string_view>
@@ -69,6 +70,9 @@ class Book final : public SessionHost {
                        const std::string &why) override {
         refusals.push_back(why);
     }
+    void may_have_lost_store(const std::string &firm, const NumberClimb &climb) override {
+        climbs.push_back(fmt::format("{} {} {} {}", firm, climb.from, climb.to, climb.refused));
+    }
     void connection_ended(const std::string &, std::uint32_t connection,
                           const std::string &) override {
         calls.push_back(fmt::format("ended {}", connection));
@@ -116,6 +120,9 @@ class Book final : public SessionHost {
         for (auto at = kept.lower_bound(from); at != kept.end() && found.size() < limit; ++at) {
             found.push_back(at->second);
         }
+        if (const auto happens = std::exchange(happens_at_next_read, nullptr)) {
+            happens();
+        }
         return found;
     }
     std::uint64_t count_kept(const std::string &, std::uint32_t behind) override {
@@ -151,10 +158,12 @@ class Book final : public SessionHost {
     Taken denial;                        // of what the venue is to be given
     std::vector<std::string> judged;     // the names
     std::vector<std::string> refusals;   // their words
+    std::vector<std::string> climbs;     // FIRM FROM TO REFUSED
     std::vector<std::string> calls;
     std::map<std::uint32_t, KeptMessage> kept;
-    std::vector<std::size_t> reads; // of what is kept, and how many each could have
-    std::size_t sent_again = 0;     // by the firm's rate
+    std::vector<std::size_t> reads;             // of what is kept, and how many each could have
+    std::function<void()> happens_at_next_read; // before what was read is back
+    std::size_t sent_again = 0;                 // by the firm's rate
     SessionNumbers numbers;
     int logons = 0; // that have not ended
     std::uint64_t last_ticket = 0;
@@ -202,7 +211,7 @@ class Gate final : public NoEvents {
 
 // What is said to a peer, with bars, until its connection ends. What is the session's own has to be
 // in the log before, and the entry that the venue answers before its answer.
-class Ear final : public Line {
+class Ear final : public Transport {
   public:
     explicit Ear(Book &book) : book_(book) {}
 
@@ -294,6 +303,7 @@ inline void Scene::give(std::uint32_t number, const std::string &type, const std
     Delivery delivery;
     delivery.session = delivery.firm = "F";
     delivery.number = delivery.place = number;
+    delivery.moment = 9 * 60 * 60 * 1000;
     delivery.type = type;
     delivery.wire = framed(with_soh(fmt::format("35={}|1181={}|{}", type, number, body)));
     sessions.deliver(delivery);

@@ -54,7 +54,7 @@ class HeldDatabase final : public Database {
 };
 
 // The places that a venue was given.
-class Given final : public Committed::Reader {
+class Given final : public EntryFeed::Reader {
   public:
     void entries_came(const std::vector<LoggedEntry> &entries) override {
         const std::lock_guard lock(mutex_);
@@ -76,15 +76,15 @@ class Given final : public Committed::Reader {
 // A log that begins, and who is given its entries.
 struct HeldDay {
     explicit HeldDay(HeldDatabase &database)
-        : log(database, committed, clock, metrics, Log::Start{},
+        : log(database, feed, clock, metrics, Log::Start{},
               [this](const std::string &cause) { told = cause; }) {
-        committed.tell(&given);
+        feed.tell(&given);
     }
 
     DayClock clock{today()};
     Metrics metrics;
     Given given;
-    Committed committed{0};
+    EntryFeed feed{0};
     std::string told; // of the log's failure
     Log log;
 };
@@ -120,17 +120,17 @@ TEST_CASE("given, and the commit fails") {
 // Of a batch that is larger than what is kept as a rule, too: the database does not have it.
 TEST_CASE("kept until the database has them") {
     constexpr std::uint32_t count = 10;
-    Committed committed(0);
+    EntryFeed feed(0);
     std::vector<LoggedEntry> entries(count);
     for (std::uint32_t at = 0; at < count; ++at) {
         entries[at].entry.place = at + 1;
         entries[at].entry.line.assign(1 << 20, 'x');
     }
-    committed.put_ahead(entries);
-    same<std::size_t>(count, committed.from(1).value().size(), "entries that are being committed");
-    committed.are_stored();
-    check(!committed.from(1), "10 MiB are kept");
-    check(committed.from(count).value().size() == 1, "the last one is not kept");
+    feed.put_ahead(entries);
+    same<std::size_t>(count, feed.from(1).value().size(), "entries that are being committed");
+    feed.are_stored();
+    check(!feed.from(1), "10 MiB are kept");
+    check(feed.from(count).value().size() == 1, "the last one is not kept");
 }
 
 } // namespace

@@ -3,11 +3,11 @@
 #define DOCTEST_CONFIG_IMPLEMENT_WITH_MAIN
 #include <doctest/doctest.h>
 
-#include "arrivals.h"
 #include "check.h"
-#include "log.h"
-#include "rate.h"
-#include "shares.h"
+#include "common/rate.h"
+#include "log/arrivals.h"
+#include "log/fair_share.h"
+#include "log/log.h"
 
 #include <algorithm>
 #include <chrono>
@@ -51,7 +51,7 @@ TEST_CASE("in the order of receipt") {
 
 // Two of a batch, three that are not answered, and four of all firms.
 TEST_CASE("shares of firms") {
-    Shares shares({2, 3, 4});
+    FairShare shares({2, 3, 4});
     shares.put("A");
     check(shares.has_room("A"), "no second one in a batch");
     shares.put("A");
@@ -75,7 +75,7 @@ TEST_CASE("shares of firms") {
 
 // What is in the next batch counts for all firms together, too.
 TEST_CASE("a share of all firms") {
-    Shares shares({4, 4, 3});
+    FairShare shares({4, 4, 3});
     shares.committed("A", 1);
     shares.put("A");
     check(shares.has_room("B"), "no third one of all");
@@ -137,14 +137,14 @@ class GatedDatabase final : public Database {
 struct GatedLog {
     explicit GatedLog(ShareLimits shares) {
         start.shares = shares;
-        log = std::make_unique<Log>(database, committed, clock, metrics, std::move(start),
+        log = std::make_unique<Log>(database, feed, clock, metrics, std::move(start),
                                     [](const std::string &cause) { std::cerr << cause << '\n'; });
     }
 
     GatedDatabase database;
     DayClock clock{today()};
     Metrics metrics;
-    Committed committed{0};
+    EntryFeed feed{0};
     Log::Start start;
     std::unique_ptr<Log> log;
 };

@@ -4,7 +4,7 @@
 #include <doctest/doctest.h>
 
 #include "check.h"
-#include "feeder.h"
+#include "venue/feeder.h"
 
 #include <chrono>
 #include <filesystem>
@@ -31,7 +31,7 @@ Entry behind(const Entry &before) {
 // A log, and what a process has to be given of it.
 class Source {
   public:
-    explicit Source(const std::string &file) : database_(open_sqlite(file)), committed_(old) {
+    explicit Source(const std::string &file) : database_(open_sqlite(file)), entry_feed_(old) {
         last_.line = "day";
         last_.hash = hash_of(last_);
         first_hash_ = last_.hash;
@@ -48,16 +48,16 @@ class Source {
         for (std::uint32_t each = 0; each < count; ++each) {
             entries.push_back({next(), {}});
         }
-        committed_.put(entries);
+        entry_feed_.put(entries);
     }
     // An entry that does not follow on the last one.
     void put_stranger() {
         Entry entry = behind(last_);
         entry.before = Digest{};
-        committed_.put({{entry, {}}});
+        entry_feed_.put({{entry, {}}});
     }
 
-    Feeder::Log log() { return {*database_, committed_, first_hash_}; }
+    Feeder::Log log() { return {*database_, entry_feed_, first_hash_}; }
     const std::string &text() const { return text_; }
     std::uint32_t last_place() const { return last_.place; }
 
@@ -69,7 +69,7 @@ class Source {
     }
 
     std::unique_ptr<Database> database_;
-    Committed committed_;
+    EntryFeed entry_feed_;
     Entry last_;
     Digest first_hash_{};
     std::string text_ = "head\n";
@@ -122,16 +122,16 @@ void a_broken_chain(const std::string &file) {
 
 // Of long lines few are kept: a slower venue reads them from the database.
 TEST_CASE("kept by their bytes") {
-    Committed committed(0);
+    EntryFeed feed(0);
     for (std::uint32_t place = 1; place <= 10; ++place) {
         Entry entry;
         entry.place = place;
         entry.line.assign(1 << 20, 'x');
-        committed.put({{entry, {}}});
+        feed.put({{entry, {}}});
     }
-    check(!committed.from(1), "10 MiB are kept");
-    same<std::size_t>(2, committed.from(9).value().size(), "the last two");
-    check(committed.from(11).value().empty(), "an entry that is still to come");
+    check(!feed.from(1), "10 MiB are kept");
+    same<std::size_t>(2, feed.from(9).value().size(), "the last two");
+    check(feed.from(11).value().empty(), "an entry that is still to come");
 }
 
 // One that is killed ends with what it has started, which has the same output.

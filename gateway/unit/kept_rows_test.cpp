@@ -3,7 +3,7 @@
 #include <doctest/doctest.h>
 
 #include "check.h"
-#include "kept_rows.h"
+#include "session/kept_rows.h"
 
 #include <cstdint>
 #include <vector>

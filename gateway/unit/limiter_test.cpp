@@ -3,10 +3,10 @@
 #define DOCTEST_CONFIG_IMPLEMENT_WITH_MAIN
 #include <doctest/doctest.h>
 
+#include "base/limiter.h"
+#include "base/printable.h"
 #include "check.h"
-#include "limiter.h"
-#include "operator_events.h"
-#include "printable.h"
+#include "health/operator_events.h"
 
 #include <sstream>
 
@@ -110,7 +110,7 @@ TEST_CASE("lines") {
     unsigned strangers = 0;
     told.tell_strangers_to([&](const ConnectionFacts &, const std::string &) { ++strangers; });
     const ConnectionFacts facts{"[2001:db8:1111:2222:3333:4444:5555:6666]:65535",
-                                std::string(5000, 'C'), true};
+                                "CCC\n\x1b[2K" + std::string(5000, 'C'), true};
     for (int count = 0; count < 1000; ++count) {
         told.stranger(facts, "too many strangers of an address", std::string(9000, '\n'));
         told.logon_refused("DEALERS1", facts, "wrong password");
@@ -124,8 +124,9 @@ TEST_CASE("lines") {
     }
     same(22U, count, "lines");
     const std::string text = written.str();
-    for (const char *part : {"refused what=\"wrong password\" firm=DEALERS1 address=[2001:db8:",
-                             "left out what=\"wrong password\" lines=990", "certificate=\"CCC"}) {
+    for (const char *part :
+         {"refused what=\"wrong password\" firm=DEALERS1 address=[2001:db8:",
+          "left out what=\"wrong password\" lines=990", "certificate=\"CCC??[2KC"}) {
         check(text.find(part) != std::string::npos, std::string("no line has ") + part);
     }
 }

@@ -6,7 +6,7 @@
 // threads that append a message of 200 bytes and wait until it is committed, again and again.
 // Prints the messages a second of all logs together, and how long one waited.
 #include "check.h"
-#include "log.h"
+#include "log/log.h"
 #include "log_schema.h"
 
 #include <algorithm>
@@ -27,11 +27,11 @@ class BenchLog {
   public:
     BenchLog(const std::string &connection, unsigned number)
         : schema_(log_schema("log_bench", number)), connection_(connection), clock_(today()),
-          committed_(0), database_(open_postgres({connection, schema_, "log_bench"})) {
+          entry_feed_(0), database_(open_postgres({connection, schema_, "log_bench"})) {
         Log::Start start;
         start.term = database_->take_over().value();
         start.last = begin(start.term);
-        log_ = std::make_unique<Log>(*database_, committed_, clock_, metrics_, std::move(start),
+        log_ = std::make_unique<Log>(*database_, entry_feed_, clock_, metrics_, std::move(start),
                                      [](const std::string &cause) { std::cerr << cause << '\n'; });
     }
     ~BenchLog() {
@@ -72,7 +72,7 @@ class BenchLog {
     std::string connection_;
     DayClock clock_;
     Metrics metrics_;
-    Committed committed_;
+    EntryFeed entry_feed_;
     std::unique_ptr<Database> database_;
     std::unique_ptr<Log> log_;
 };

@@ -3,7 +3,7 @@
 #define GATEWAY_TESTS_LOG_DAYS_H
 
 #include "check.h"
-#include "log.h"
+#include "log/log.h"
 
 #include <filesystem>
 #include <iostream>
@@ -31,13 +31,13 @@ inline Log::Came came(std::uint32_t number) {
 struct DayThatGoesOn {
     explicit DayThatGoesOn(Database &database)
         : start(start_of(database)), last(start.last.place),
-          log(database, committed, clock, metrics, Log::Start(start),
+          log(database, feed, clock, metrics, Log::Start(start),
               [](const std::string &cause) { std::cerr << cause << '\n'; }) {}
 
     static Log::Start start_of(Database &database) {
         Log::Start start;
         start.last = database.reader()->last_entry().value();
-        start.connections = database.reader()->connections();
+        start.connections = connections_in(*database.reader());
         start.term = start.last.term;
         return start;
     }
@@ -46,7 +46,7 @@ struct DayThatGoesOn {
     const std::uint32_t last;
     DayClock clock{today()};
     Metrics metrics;
-    Committed committed{last};
+    EntryFeed feed{last};
     Log log;
 };
 

@@ -12,8 +12,8 @@
 namespace gateway::tests {
 
 // A name that no other process has, and no other number of this one. It is that of a day's log, as
-// the owner of the logs wants it where they have one (deploy/config/database.sql): of a day that is
-// long over.
+// the owner of the logs wants it where they have one (install/hosts/config/database.sql): of a day
+// that is long over.
 inline std::string log_schema(std::string_view test, unsigned number = 0) {
     return fmt::format("{}_{}_{}_20000101", test, ::getpid(), number);
 }

@@ -5,10 +5,10 @@
 #include <doctest/doctest.h>
 
 #include "check.h"
-#include "frame.h"
+#include "common/frame.h"
+#include "log/sqlite_statement.h"
 #include "log_days.h"
 #include "log_schema.h"
-#include "sqlite_statement.h"
 
 #include <cstdlib>
 #include <filesystem>
@@ -116,24 +116,6 @@ void write_from(Log &log, std::uint32_t thread) {
     }
 }
 
-void check_rows(LogReader &reader) {
-    check_chain(reader, threads * messages + 1);
-    const auto states = reader.states();
-    same<std::size_t>(threads, states.size(), "firms");
-    for (const auto &[firm, state] : states) {
-        same(messages, state.entries, firm + "'s entries");
-        same(messages, state.last_number, firm + "'s last number");
-        same(messages, state.sent, firm + "'s messages");
-        same(messages + 1, state.kept, firm + "'s session");
-        same(messages, state.carried, firm + "'s last message that is carried");
-        same(messages + 1, state.session.numbers.expected, firm + "'s next number");
-    }
-    same<std::string>("frame", reader.sent("F1", messages, 5).at(0).bytes, "a message");
-    same<std::size_t>(3, reader.outgoing("F1", 0, 3, 3).size(), "messages of a session");
-    same<std::size_t>(0, reader.outgoing("F1", 1, 2, 3).size(), "messages after a reset");
-    same(messages - 4, reader.count_kept("F1", 0, 5), "messages behind the fifth number");
-}
-
 void many_threads(Database &database) {
     DayClock clock(today());
     Metrics metrics;
@@ -142,8 +124,8 @@ void many_threads(Database &database) {
     start.term = start.last.term;
     start.waiting = 16;
     {
-        Committed committed(0);
-        Log log(database, committed, clock, metrics, std::move(start),
+        EntryFeed feed(0);
+        Log log(database, feed, clock, metrics, std::move(start),
                 [](const std::string &cause) { std::cerr << cause << '\n'; });
         std::vector<std::jthread> writers;
         for (std::uint32_t thread = 0; thread < threads; ++thread) {
@@ -157,7 +139,7 @@ void many_threads(Database &database) {
              log.append_clock_behind(threads * messages, Moment{0}).value_or(0),
              "a sweep after the last entry");
     }
-    check_rows(*database.reader());
+    check_chain(*database.reader(), threads * messages + 1);
 }
 
 // While messages are held a sweep is not, and they come after it.
@@ -194,11 +176,11 @@ void a_message_alone(Database &database) {
         // The log's own thread was at it already: on a machine with much else to do.
         log.flush();
     }
-    same(last + 1, day.committed.last_place(), "the place that was committed");
+    same(last + 1, day.feed.last_place(), "the place that was committed");
     same<std::size_t>(1, database.reader()->entries(last + 1, 9).size(), "entries in the log");
     log.append_message("F0", came(messages + 3), "x", Log::Committer::caller);
     log.flush();
-    same(last + 2, day.committed.last_place(), "the place that was left to the log");
+    same(last + 2, day.feed.last_place(), "the place that was left to the log");
 }
 
 // Whether a message is taken with so many allocations.
@@ -264,8 +246,8 @@ TEST_CASE("a commit that fails") {
     Metrics metrics;
     std::string told;
     {
-        Committed committed(0);
-        Log log(database, committed, clock, metrics, Log::Start{},
+        EntryFeed feed(0);
+        Log log(database, feed, clock, metrics, Log::Start{},
                 [&told](const std::string &cause) { told = cause; });
         log.wait(log.append_message("F", came(1), "x"));
         const auto ticket = log.append_message("F", came(2), "x");
@@ -293,13 +275,13 @@ TEST_CASE("a commit that fails at its caller") {
     Metrics metrics;
     std::string told;
     {
-        Committed committed(0);
-        Log log(database, committed, clock, metrics, Log::Start{},
+        EntryFeed feed(0);
+        Log log(database, feed, clock, metrics, Log::Start{},
                 [&told](const std::string &cause) { told = cause; });
         log.append_message("F", came(1), "x", Log::Committer::caller);
         log.commit();
         check(!log.failure().empty(), "the log has not failed");
-        check(committed.is_closed(), "the venue is given more");
+        check(feed.is_closed(), "the venue is given more");
         check(!log.is_committed(1), "a commit that failed is taken for one");
     }
     same<std::string>("the log could not be written: no room", told, "what is told");
@@ -371,13 +353,50 @@ void after_a_crash(const std::filesystem::path &folder) {
 }
 
 // In a file of SQLite, or where TEST_POSTGRES names a database in a schema there, which stays.
+const char *const postgres = std::getenv("TEST_POSTGRES");
+unsigned schemas = 0;
+
 std::unique_ptr<Database> database_of(const std::filesystem::path &folder) {
-    static unsigned count = 0;
-    const char *connection = std::getenv("TEST_POSTGRES");
-    if (connection != nullptr) {
-        return open_postgres({connection, log_schema("log_test", ++count), "log_test"});
+    if (postgres != nullptr) {
+        return open_postgres({postgres, log_schema("log_test", ++schemas), "log_test"});
     }
     return open_sqlite(folder / "day.db");
+}
+
+// How many rows of the last one these are: `TABLE`, or `TABLE WHERE ..`.
+std::uint32_t counted(const std::filesystem::path &folder, const std::string &rows) {
+    const std::string text = "SELECT count(*) FROM " + rows;
+    if (postgres != nullptr) {
+        pqxx::connection connection(postgres);
+        pqxx::nontransaction work(connection);
+        work.exec("SET search_path TO " + work.quote_name(log_schema("log_test", schemas)));
+        return work.exec(text)[0][0].as<std::uint32_t>();
+    }
+    const auto connection = sqlite::connect(folder / "day.db", SQLITE_OPEN_READWRITE);
+    sqlite::Statement count(connection.get(), text);
+    return count.step() ? count.number(0) : 0;
+}
+
+// What no gateway reads.
+void check_copy(const std::filesystem::path &folder) {
+    same(threads * messages, counted(folder, "sent WHERE place = number"), "messages");
+    same(threads * messages, counted(folder, "outgoing WHERE sent = number - 1"), "what is kept");
+    same(threads, counted(folder, fmt::format("session WHERE expected = {}", messages + 1)),
+         "sessions");
+}
+
+// The gateway before may have put some of them there.
+void a_copy_again(Database &database, const std::filesystem::path &folder) {
+    Batch batch;
+    batch.is_repeated = true;
+    for (const std::uint32_t number : {messages, messages + 1}) {
+        batch.sent.push_back({"F1", number, number, "frame"});
+        batch.outgoing.push_back(
+            {"F1", 0, number + 1, number, false, false, "AI", "09:00:00.000", "wire"});
+    }
+    database.writer()->commit(batch);
+    same(threads * messages + 1, counted(folder, "sent"), "messages, each once");
+    same(threads * messages + 1, counted(folder, "outgoing"), "what is kept, each once");
 }
 
 // A day that many threads have written.
@@ -389,7 +408,9 @@ std::unique_ptr<Database> written_by_many(const std::filesystem::path &folder) {
 
 TEST_CASE("many threads") {
     const Scratch folder("log");
-    written_by_many(folder.path());
+    const auto database = written_by_many(folder.path());
+    check_copy(folder.path());
+    a_copy_again(*database, folder.path());
 }
 
 TEST_CASE("a held log") {

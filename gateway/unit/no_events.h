@@ -2,7 +2,7 @@
 #ifndef GATEWAY_TESTS_NO_EVENTS_H
 #define GATEWAY_TESTS_NO_EVENTS_H
 
-#include "engine.h"
+#include "session/engine_events.h"
 
 #include <string>
 

@@ -2,9 +2,11 @@
 #define DOCTEST_CONFIG_IMPLEMENT_WITH_MAIN
 #include <doctest/doctest.h>
 
-#include "admin_words.h"
 #include "check.h"
-#include "notes.h"
+#include "log/act_event.h"
+#include "log/notes.h"
+#include "log/session_note_line.h"
+#include "operator/admin_words.h"
 
 #include <string>
 #include <vector>
@@ -33,6 +35,13 @@ TEST_CASE("acts are one line") {
          }) {
         check(text_of(each.act) == each.text, text_of(each.act));
     }
+}
+
+TEST_CASE("an event has an act and its reason as two keys") {
+    check(event_of({"root(0)", "halt", "prices are \"odd\"\n"}) ==
+              "act=\"root(0) halt\" because=\"prices are \\x22odd\\x22\\x0a\"",
+          "quotation marks stand in none");
+    check(event_of({"root(0)", "resume", ""}) == "act=\"root(0) resume\"", "without a reason");
 }
 
 TEST_CASE("acts are short") {
@@ -95,6 +104,19 @@ TEST_CASE("busts are read") {
     }
 }
 
+TEST_CASE("admissions are read") {
+    const std::string line = "# act 09:00:00.123 a(1) admit DLR1 20261127 " + std::string(64, 'a');
+    for (const std::string &text : {line, line + " because=\"y\""}) {
+        check(admitted_in(note_of(text).value_or(Note{})) == "DLR1", text);
+    }
+    for (const std::string &text :
+         {line + " DLR2", std::string("# act 09:00:00.123 a(1) admit DLR1"),
+          "# clock 09:00:00.123 a(1) admit DLR1 20261127 " + std::string(64, 'a'),
+          std::string("# act 09:00:00.123 a(1) reload because=\"a(1) admit DLR1 20261127 x\"")}) {
+        check(!admitted_in(note_of(text).value_or(Note{})), text);
+    }
+}
+
 // What is written is read, whatever its bytes.
 TEST_CASE("requests are read") {
     std::string all;
@@ -112,6 +134,65 @@ TEST_CASE("requests are read") {
                              "1 text a%0", "2 text a", "1 xml a", " 1 text a", "1 text a\x01"}) {
         check(!request_of(line), fmt::format("a request is read: {}", line));
     }
+}
+
+// docs/RECOVERY.md has the form.
+const std::string none(64, '0');
+const std::vector<std::string> session_note_lines = {
+    "DLR1 0 A 1 2 0 0 " + none + " 09:00:00.000 63918406800000 N",
+    "DLR1 0 A 1 2 9 7 " + std::string(64, 'a') + " 09:00:00.000 63918406800000 Y",
+    "F 1 0 5 2 0 0 " + none + " 23:59:59.999",
+    "F 0 j 5 2 0 0 " + none + " 09:00:00.000 45=7\\x01372=R\\x0158=a \\x5c b\\x01",
+    "F 0 3 5 2 0 0 " + none + " 09:00:00.000 45=0\\x01373=1\\x01",
+    "F 2 R 0 999999990 4 0 " + none + " 09:00:00.000 17 16",
+    "F 0 L 0 2 0 0 " + none + " 09:00:00.000 locked",
+    "F 0 L 0 2 0 0 " + none + " 09:00:00.000 released 16",
+    "F 0 M 0 2 0 0 " + none + " 09:00:00.000",
+};
+
+TEST_CASE("session notes are read as they are written") {
+    for (const std::string &line : session_note_lines) {
+        const auto note = session_note_of(line);
+        REQUIRE_MESSAGE(note, line);
+        same(line, text_of(*note), "what is written of it");
+    }
+    same<std::string>("45=7|372=R|58=a \\ b|",
+                      with_bars(session_note_of(session_note_lines[3])->said.fields),
+                      "the fields of a BusinessMessageReject");
+    check(session_note_of(session_note_lines[5])->said.act == 16, "the act of a reset");
+    check(session_note_of(session_note_lines[5])->last == 17, "and the last entry before it");
+}
+
+// One note is one line, and says it in one way.
+TEST_CASE("what is no session note") {
+    for (const std::string &line : session_note_lines) {
+        const std::string before = line.substr(0, line.find(':') - 3); // its moment
+        for (const std::string &other :
+             {line + " ", line + "\n", " " + line, line.substr(1 + line.find(' ')), before,
+              before + " 24:00:00.000"}) {
+            check(!session_note_of(other), other);
+        }
+    }
+    const std::vector<std::string> wrong = {"F 00 M 0 2 0 0 " + none + " 09:00:00.000",
+                                            "F 0 X 0 2 0 0 " + none + " 09:00:00.000",
+                                            "F 0 M 0 +2 0 0 " + none + " 09:00:00.000",
+                                            "F 0 M 0 2 0 0 0 09:00:00.000",
+                                            "F 0 3 5 2 0 0 " + none + " 09:00:00.000 45=\\x41",
+                                            "F 0 L 0 2 0 0 " + none + " 09:00:00.000 open"};
+    for (const std::string &line : wrong) {
+        check(!session_note_of(line), line);
+    }
+}
+
+// By another implementation (the module hashlib of Python).
+TEST_CASE("running hashes") {
+    same<std::string>("3d13d9f8f81292b17d15bad8d71d1b9daa9574d1c49c72d8ee0a92faa4da1d7d",
+                      text_of(hash_of_message({}, "abc")), "of a message");
+    same<std::string>("17e13bbf066edac4defba5068b76054284d64a39a30eb4119ccb38485328710c",
+                      text_of(hash_of_notes({}, "x\ny z\n")), "of two notes");
+    check(hash_of_notes(hash_of_notes({}, "x\n"), "y z\n") == hash_of_notes({}, "x\ny z\n"),
+          "batch by batch");
+    check(hash_of_notes({}, "x") == Digest{}, "of what is no line");
 }
 
 } // namespace

@@ -4,10 +4,10 @@
 #define GATEWAY_TESTS_ONE_CONNECTION_H
 
 #include "check.h"
-#include "connection.h"
 #include "no_events.h"
 #include "said_now.h"
-#include "sessions.h"
+#include "session/connection.h"
+#include "session/sessions.h"
 
 #include <array>
 #include <atomic>

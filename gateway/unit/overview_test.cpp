@@ -4,12 +4,12 @@
 #include <doctest/doctest.h>
 
 #include "check.h"
-#include "condition.h"
-#include "engine.h"
-#include "firm_metrics.h"
-#include "hand_out.h"
-#include "open_requests.h"
-#include "overview.h"
+#include "config/configuration_for_firm.h"
+#include "health/condition.h"
+#include "health/firm_metrics.h"
+#include "service/overview.h"
+#include "session/session_event.h"
+#include "venue/open_requests.h"
 
 #include <stdexcept>
 
@@ -79,8 +79,11 @@ TEST_CASE("refusals are told apart") {
 }
 
 TEST_CASE("conditions say what is wrong") {
-    Condition now{Phase::ready, "20261127", Pulse::Silent{"the venue", 14s}};
+    Condition now{Phase::ready, "20261127", Liveness::Silent{"the venue", 14s}};
     check(!now.fault() && now.words() == "ready: 20261127", "14 seconds are none");
+    now.not_taken = {"an operator has halted the venue", "the disk is full"};
+    check(now.words() == "ready: 20261127 (an operator has halted the venue; the disk is full)",
+          now.words());
     now.silent->time = 15s;
     check(now.words() == "the venue has not worked for 15 s (ready: 20261127)", now.words());
     check(now.has_started() && !Condition{Phase::opens, "", {}}.has_started() &&
@@ -88,13 +91,28 @@ TEST_CASE("conditions say what is wrong") {
               Condition{Phase::closed, "", {}}.has_started() &&
               Condition{Phase::stands_by, "", {}}.has_started(),
           "it has started where it waits, stands by, or is ready");
-    Pulse pulse;
-    check(!pulse.longest(), "nobody has said anything");
-    pulse.put("the log");
-    pulse.put("the venue", 20s);
-    check(pulse.longest()->part == "the venue" && pulse.longest()->time >= 20s, "the longest");
-    pulse.put("the venue");
-    check(pulse.longest()->time < 20s, "it works again");
+    Liveness liveness;
+    check(!liveness.longest(), "nobody has said anything");
+    liveness.put("the log");
+    liveness.put("the venue", 20s);
+    check(liveness.longest()->part == "the venue" && liveness.longest()->time >= 20s,
+          "the longest");
+    liveness.put("the venue");
+    check(liveness.longest()->time < 20s, "it works again");
+}
+
+TEST_CASE("a page says what a firm should be asked") {
+    Overview seen;
+    seen.firms.resize(2);
+    seen.firms[0].firm = "DLR1";
+    seen.firms[0].is_on = true;
+    seen.firms[0].doubt = text_of(NumberClimb{1, 92, 91});
+    seen.firms[1].firm = "DLR2";
+    const std::string page = html_of(seen);
+    check(page.find("<td>on, may have lost its store from=1 to=92 refused=91</td>") !=
+              std::string::npos,
+          "of DLR1");
+    check(page.find("<td>off</td>") != std::string::npos, "and nothing of DLR2");
 }
 
 TEST_CASE("pages show text as text") {
@@ -147,18 +165,18 @@ quantity = 888000000
 )";
 
 TEST_CASE("hand outs tell a firm its own") {
-    const toml::table dealer = toml::parse(hand_out(venue_text, "DLR1"));
+    const toml::table dealer = toml::parse(configuration_for_firm(venue_text, "DLR1"));
     check(dealer["bond"][0]["id"] == "BONDA0000001" && dealer["bond"][0]["grid"] == 128 &&
               dealer["bond"][0]["name"] == "Treasury 4 % 2034" && dealer["version"] == 2,
           "the bonds");
     check(dealer["dealer"][0]["exposure"] == 250000000 && dealer["dealer"][0]["traders"][1] == "T7",
           "its own row");
     check(dealer["dealer"][1]["name"] == "DLR2", "the other dealer's name");
-    const std::string text = hand_out(venue_text, "DLR1");
+    const std::string text = configuration_for_firm(venue_text, "DLR1");
     for (const char *secret : {"777000000", "T2", "INV1", "INV2", "888000000", "T9"}) {
         check(text.find(secret) == std::string::npos, std::string("a dealer is told ") + secret);
     }
-    const std::string investor = hand_out(venue_text, "INV1");
+    const std::string investor = configuration_for_firm(venue_text, "INV1");
     check(toml::parse(investor)["investor"][0]["quantity"] == 5000000, "an investor's own row");
     for (const char *secret : {"777000000", "250000000", "T1", "INV2", "888000000"}) {
         check(investor.find(secret) == std::string::npos,
@@ -166,7 +184,7 @@ TEST_CASE("hand outs tell a firm its own") {
     }
     bool refused = false;
     try {
-        hand_out(venue_text, "NOBODY");
+        configuration_for_firm(venue_text, "NOBODY");
     } catch (const std::runtime_error &fault) {
         refused = fault.what() == std::string("the venue has no firm NOBODY");
     }

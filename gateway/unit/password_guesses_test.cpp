@@ -2,9 +2,9 @@
 #define DOCTEST_CONFIG_IMPLEMENT_WITH_MAIN
 #include <doctest/doctest.h>
 
-#include "address_range.h"
 #include "check.h"
-#include "guesses.h"
+#include "config/address_range.h"
+#include "firms/password_guesses.h"
 
 #include <chrono>
 
@@ -17,8 +17,8 @@ using namespace std::chrono_literals;
 // Twice as long each time, up to a quarter of a second; a minute later it begins anew. Other
 // addresses wait for nothing.
 TEST_CASE("cost of guesses") {
-    Guesses::Clock::time_point now{1h};
-    Guesses guesses([&now] { return now; });
+    PasswordGuesses::Clock::time_point now{1h};
+    PasswordGuesses guesses([&now] { return now; });
     check(guesses.judged_from("a") <= now, "an address that has not guessed waits");
     for (const auto pause : {10ms, 20ms, 40ms, 80ms, 160ms, 250ms, 250ms, 250ms, 250ms}) {
         guesses.wrong("a");
@@ -35,7 +35,7 @@ TEST_CASE("cost of guesses") {
 
 // Of more addresses than are remembered none is refused, and memory has its bound.
 TEST_CASE("many addresses") {
-    Guesses guesses;
+    PasswordGuesses guesses;
     for (int number = 0; number < 10000; ++number) {
         guesses.wrong(fmt::format("192.0.2.{}", number));
     }

@@ -6,7 +6,7 @@
 
 #include "check.h"
 #include "door_scene.h"
-#include "refusal_words.h"
+#include "session/refusal_words.h"
 
 #include <algorithm>
 #include <atomic>
@@ -238,7 +238,7 @@ TEST_CASE("a reset") {
         scene.give(2);
         talk.say(message_of("S", 3, "58=a|b|"));
         talk.ear.heard();
-        scene.session().reset();
+        scene.session().reset(1);
         talk.serve();
         check(talk.ear.ends, "the connection stays");
         check_calls({}, talk.ear.heard(), "what it is told");
@@ -273,10 +273,10 @@ TEST_CASE("suspended") {
     again.say(logon_of(3));
     check_calls({refusal_words::suspended}, scene.book.refusals, "its next Logon");
     again.end();
-    scene.session().release_firm();
-    Talk released(scene);
-    released.say(logon_of(3));
-    check(std::ranges::count(scene.book.calls, "accepted 2") == 1, "it is not released");
+    scene.session().resume();
+    Talk resumed(scene);
+    resumed.say(logon_of(3));
+    check(std::ranges::count(scene.book.calls, "accepted 2") == 1, "it is not resumed");
 }
 
 // ---------------------------------------------------------------- connections of one firm
@@ -358,7 +358,7 @@ class Watch final : public SessionHost {
 };
 
 // What is said to a peer of many threads.
-class SafeEar final : public Line {
+class SafeEar final : public Transport {
   public:
     bool send(std::string_view) override { return !ends_; }
     void finish(const std::string &) override { ends_ = true; }

@@ -4,9 +4,9 @@
 #include <doctest/doctest.h>
 
 #include "check.h"
-#include "frame.h"
-#include "reasons.h"
-#include "records.h"
+#include "common/frame.h"
+#include "log/reasons.h"
+#include "log/records.h"
 
 namespace gateway::tests {
 

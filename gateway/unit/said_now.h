@@ -3,7 +3,7 @@
 #define GATEWAY_TESTS_SAID_NOW_H
 
 #include "check.h"
-#include "frame.h"
+#include "common/frame.h"
 
 #include <chrono>
 #include <string>

@@ -1,13 +1,13 @@
 // Seals and checkpoints: what somebody who may write the database, and has no key, can make a start
-// believe; a log that was cut off, was put back, or is another's; and a notary that is in time.
+// believe; a log that was cut off, was put back, or is another's; and a signer that is in time.
 #define DOCTEST_CONFIG_IMPLEMENT_WITH_MAIN
 #include <doctest/doctest.h>
 
+#include "base/private_file.h"
 #include "check.h"
+#include "log/log_guard.h"
+#include "log/sqlite_statement.h"
 #include "log_days.h"
-#include "log_guard.h"
-#include "private_file.h"
-#include "sqlite_statement.h"
 #include "test_keys.h"
 
 #include <chrono>
@@ -63,12 +63,14 @@ class Place {
         }
     }
     // An SQL literal of bytes.
-    std::string literal(const Digest &digest) const {
-        return fmt::format(fmt::runtime(is_postgres() ? "'\\x{}'" : "x'{}'"), text_of(digest));
-    }
+    std::string literal(const Digest &digest) const { return literal_of(text_of(digest)); }
+    std::string no_bytes() const { return literal_of(""); }
     const fs::path &folder() const { return folder_; }
 
   private:
+    std::string literal_of(const std::string &digits) const {
+        return fmt::format(fmt::runtime(is_postgres() ? "'\\x{}'" : "x'{}'"), digits);
+    }
     bool is_postgres() const { return !connection_.empty(); }
     std::string file() const { return (folder_ / "day.db").string(); }
 
@@ -85,19 +87,22 @@ LogGuard guard_at(const Place &place) {
     return {sealer_at(place.folder()), place.folder() / "checkpoints", silent};
 }
 
-// Appends so many messages, each with what happened to a connection, and signs the end.
-void write_some(Database &database, LogGuard &guard, std::uint32_t term, std::uint32_t count) {
+// Appends so many messages, each with what happened to a connection, and signs where the log ends,
+// as the end of the day or not.
+void write_some(Database &database, LogGuard &guard, std::uint32_t term, std::uint32_t count,
+                bool is_end_of_day = true) {
     Log::Start start = DayThatGoesOn::start_of(database);
     start.term = term;
     start.sealer = guard.sealer();
-    start.seals = guard.seals();
+    start.seals = guard.sealed().seal;
+    start.notes = guard.sealed().notes;
     const std::uint32_t last = start.last.place;
     DayClock clock{today()};
     Metrics metrics;
-    Committed committed{last};
-    Log log(database, committed, clock, metrics, std::move(start),
+    EntryFeed feed{last};
+    Log log(database, feed, clock, metrics, std::move(start),
             [](const std::string &cause) { std::cerr << cause << '\n'; });
-    const auto notary = guard.notary(log);
+    const auto signer = guard.signer(log);
     for (std::uint32_t number = 1; number <= count; ++number) {
         ConnectionEvent event;
         event.event = connection_events::stranger;
@@ -105,11 +110,11 @@ void write_some(Database &database, LogGuard &guard, std::uint32_t term, std::ui
         log.put_connection(event);
         log.wait(log.append_message("F", came(last + number), "x"));
     }
-    notary->end();
+    signer->end(is_end_of_day);
 }
 
-// A day of some messages, of a gateway that ended well.
-void write_day(const Place &place, std::uint32_t count) {
+// A day of some messages, of a gateway that ended well, at the day's end or before it.
+void write_day(const Place &place, std::uint32_t count, bool is_end_of_day = true) {
     const auto database = place.open();
     LogGuard guard = guard_at(place);
     Entry first;
@@ -119,9 +124,9 @@ void write_day(const Place &place, std::uint32_t count) {
     first.hash = hash_of(first);
     Batch batch;
     batch.entries.push_back(first);
-    batch.seal = guard.begin(first);
+    batch.seal = guard.begin(*database->reader(), first);
     database->writer()->commit(batch);
-    write_some(*database, guard, first.term, count);
+    write_some(*database, guard, first.term, count, is_end_of_day);
 }
 
 // What a start says of the log; empty where it takes it.
@@ -186,8 +191,8 @@ std::string chain_anew(const Place &place, std::uint32_t from) {
 
 std::string seal_row(const Place &place, std::uint32_t number, const Entry &entry,
                      const Digest &mac) {
-    return fmt::format("INSERT INTO seal VALUES ({}, {}, {}, 5, {});", number, entry.term,
-                       entry.place, place.literal(mac));
+    return fmt::format("INSERT INTO seal VALUES ({}, {}, {}, 5, {}, {}, {});", number, entry.term,
+                       entry.place, place.no_bytes(), place.literal(Digest{}), place.literal(mac));
 }
 
 // What is done to a log of six entries and seals while no gateway runs, and what a start says.
@@ -231,6 +236,14 @@ const std::vector<Act> &acts() {
                     "DELETE FROM seal WHERE place > 3; DELETE FROM checkpoint WHERE place > 3;";
          },
          "not accepted: the log ends at entry 3: it was cut off, or is an old backup"},
+        {"the last checkpoint taken out",
+         [](const Place &) {
+             return "DELETE FROM checkpoint WHERE number = (SELECT max(number) FROM checkpoint);";
+         },
+         "is not there: the log was cut off, or is an old backup"},
+        {"the last checkpoint is no end any more",
+         [](const Place &) { return "UPDATE checkpoint SET is_end = 0;"; },
+         "is another one: the log was cut off, or is an old backup"},
     };
     return all;
 }
@@ -303,8 +316,9 @@ void one_that_follows(const fs::path &folder, const std::string &connection) {
     LogGuard other(sealer_at(place.folder()), place.folder() / "other", silent);
     other.check_found(*reader);
     other.read_on(*reader);
-    place.run("INSERT INTO checkpoint SELECT number + 100, term, place, event, signature FROM "
-              "checkpoint ORDER BY number DESC LIMIT 1;");
+    place.run(
+        "INSERT INTO checkpoint SELECT number + 100, term, place, event, seal, is_end, signature "
+        "FROM checkpoint ORDER BY number DESC LIMIT 1;");
     bool refused = false;
     try {
         other.read_on(*reader);
@@ -321,29 +335,97 @@ void one_that_follows(const fs::path &folder, const std::string &connection) {
     other.check_end(*reader, reader->last_entry().value());
 }
 
+// The end of a day whose gateway was gone by then is signed by the next one, and not where the log
+// is another than it was left.
+void ended_late(const fs::path &folder, const std::string &connection) {
+    const Place place(folder / "sealed_days", connection);
+    write_day(place, 5, false);
+    const auto ends = [&] {
+        const auto database = place.open();
+        const auto term = database->take_over().value();
+        guard_at(place).sign_end(*database->reader(), *database->writer(), term);
+        return database->reader()->last_checkpoint().value();
+    };
+    const std::string moment = place.open()->reader()->entries(5, 1).at(0).moment;
+    place.run("UPDATE entry SET moment = '00:00:00.001' WHERE place = 5;");
+    CHECK_THROWS_WITH_AS(ends(), doctest::Contains("entry 5"), std::runtime_error);
+    place.run(fmt::format("UPDATE entry SET moment = '{}' WHERE place = 5;", moment));
+    const Checkpoint last = place.open()->reader()->last_checkpoint().value();
+    CHECK_FALSE(last.is_end);
+    const Checkpoint end = ends();
+    CHECK(end.is_end);
+    same(last.number + 1, end.number, "its number");
+    CHECK(end.before == last.signature);
+    const CheckpointFile file(place.folder() / "checkpoints", sealer_at(place.folder()));
+    CHECK(file.read().value() == end);
+    same<std::string>("", start(place), "a start after it");
+}
+
+// A batch of session notes alone, put by a session.
+void put_notes(const Place &place, const std::vector<std::string> &notes) {
+    const auto database = place.open();
+    LogGuard guard = guard_at(place);
+    const auto reader = database->reader();
+    guard.check_found(*reader);
+    guard.check_end(*reader, reader->last_entry().value());
+    Log::Start begin = DayThatGoesOn::start_of(*database);
+    begin.term = database->take_over().value();
+    begin.sealer = guard.sealer();
+    begin.seals = guard.sealed().seal;
+    begin.notes = guard.sealed().notes;
+    DayClock clock{today()};
+    Metrics metrics;
+    EntryFeed feed{begin.last.place};
+    Log log(*database, feed, clock, metrics, std::move(begin), [](const std::string &) {});
+    Log::SessionChange change;
+    change.row.firm = "F";
+    change.notes = notes;
+    log.wait(log.put(std::move(change)));
+}
+
+// They are sealed as entries are: no start takes others.
+void session_notes_are_sealed(const fs::path &folder, const std::string &connection) {
+    const Place place(folder / "noted_days", connection);
+    write_day(place, 2, false);
+    put_notes(place, {"F 0 5 2 1 0 0", "F 0 1 3 1 0 0"});
+    put_notes(place, {"F 0 0 4 1 0 0"});
+    const std::vector<Seal> seals = place.open()->reader()->seals(1, 99);
+    same<std::string>("F 0 5 2 1 0 0\nF 0 1 3 1 0 0\n", seals.at(seals.size() - 2).notes, "two");
+    same<std::string>("F 0 0 4 1 0 0\n", seals.back().notes, "and one");
+    same<std::string>("", start(place), "a start");
+    place.run("UPDATE seal SET notes = mac WHERE number = (SELECT max(number) FROM seal)");
+    told(start(place), "the log was changed at or before entry 2", "other notes");
+}
+
 // No seal is good for another venue, day, configuration, term, place or hash.
 void of_one_log(const fs::path &folder) {
     const auto keys = test_keys(folder / "seal_keys");
     const LogName log{"north", "20261127", sha256("a")};
-    const Position at{1, 2, sha256("b"), 3, sha256("c")};
-    const Seal seal = Sealer(log, keys).seal(1, at);
-    const Checkpoint signed_here = Sealer(log, keys).sign(1, at);
+    const Position at{1, 2, sha256("b"), 3, sha256("c"), 4, sha256("d")};
+    const Seal seal = Sealer(log, keys).seal(at);
+    const Checkpoint signed_here = Sealer(log, keys).sign({1, at, {}, false, {}});
     const auto refuses = [&](const LogName &name, const Position &where, const std::string &what) {
         const Sealer other(name, keys);
-        check(!other.is_sealed({1, where, seal.mac}), what + ": a seal of another log is right");
-        check(!other.is_signed({1, where, signed_here.signature}), what + ": so is a signature");
+        check(!other.is_sealed({where, seal.mac}), what + ": a seal of another log is right");
+        check(!other.is_signed({1, where, {}, false, signed_here.signature}),
+              what + ": so is a signature");
     };
     check(Sealer(log, keys).is_sealed(seal), "its own seal is wrong");
     check(Sealer(log, keys).is_signed(signed_here), "its own signature is wrong");
-    check(!Sealer(log, keys).is_signed({2, at, signed_here.signature}), "another number");
+    const Signature &signature = signed_here.signature;
+    check(!Sealer(log, keys).is_signed({2, at, {}, false, signature}), "another number");
+    check(!Sealer(log, keys).is_signed({1, at, signature, false, signature}), "another before");
+    check(!Sealer(log, keys).is_signed({1, at, {}, true, signature}), "an end");
     refuses({"south", "20261127", sha256("a")}, at, "venue");
     refuses({"north", "20261128", sha256("a")}, at, "day");
     refuses({"north", "20261127", sha256("x")}, at, "configuration");
-    refuses(log, {2, 2, sha256("b"), 3, sha256("c")}, "term");
-    refuses(log, {1, 3, sha256("b"), 3, sha256("c")}, "place");
-    refuses(log, {1, 2, sha256("x"), 3, sha256("c")}, "hash");
-    refuses(log, {1, 2, sha256("b"), 4, sha256("c")}, "event");
-    refuses(log, {1, 2, sha256("b"), 3, sha256("x")}, "hash of the event");
+    refuses(log, {2, 2, sha256("b"), 3, sha256("c"), 4, sha256("d")}, "term");
+    refuses(log, {1, 3, sha256("b"), 3, sha256("c"), 4, sha256("d")}, "place");
+    refuses(log, {1, 2, sha256("x"), 3, sha256("c"), 4, sha256("d")}, "hash");
+    refuses(log, {1, 2, sha256("b"), 4, sha256("c"), 4, sha256("d")}, "event");
+    refuses(log, {1, 2, sha256("b"), 3, sha256("x"), 4, sha256("d")}, "hash of the event");
+    refuses(log, {1, 2, sha256("b"), 3, sha256("c"), 5, sha256("d")}, "seal");
+    refuses(log, {1, 2, sha256("b"), 3, sha256("c"), 4, sha256("x")}, "hash of the notes");
     make_keys(folder / "seal_keys_of_others", {"gateway"});
     const Sealer stranger(log, test_keys(folder / "seal_keys_of_others"));
     check(!stranger.is_sealed(seal) && !stranger.is_signed(signed_here), "other keys");
@@ -420,12 +502,13 @@ void in_time(const fs::path &folder) {
     guard.check_end(*reader, reader->last_entry().value());
     Log::Start begin = DayThatGoesOn::start_of(*database);
     begin.sealer = guard.sealer();
-    begin.seals = guard.seals();
+    begin.seals = guard.sealed().seal;
+    begin.notes = guard.sealed().notes;
     DayClock clock{today()};
     Metrics metrics;
-    Committed committed{begin.last.place};
-    Log log(*database, committed, clock, metrics, std::move(begin), [](const std::string &) {});
-    const auto notary = guard.notary(log);
+    EntryFeed feed{begin.last.place};
+    Log log(*database, feed, clock, metrics, std::move(begin), [](const std::string &) {});
+    const auto signer = guard.signer(log);
     const CheckpointFile file(place.folder() / "checkpoints", guard.sealer());
     for (std::uint32_t number = 10; number < 13; ++number) {
         log.wait(log.append_message("F", came(number), "x"));
@@ -445,7 +528,7 @@ void tell_cost(const fs::path &folder) {
     Position at;
     const std::clock_t begin = std::clock();
     for (int number = 0; number < count; ++number) {
-        at.hash = sealer.seal(1, at).mac;
+        at.hash = sealer.seal(at).mac;
     }
     const double took = static_cast<double>(std::clock() - begin) / CLOCKS_PER_SEC;
     std::cout << fmt::format("a seal takes {:.2f} microseconds\n", took * 1e6 / count);
@@ -475,6 +558,16 @@ TEST_CASE("nothing kept") {
 TEST_CASE("one that follows") {
     const Scratch folder("seal");
     one_that_follows(folder.path(), connection());
+}
+
+TEST_CASE("a day whose end is signed late") {
+    const Scratch folder("seal");
+    ended_late(folder.path(), connection());
+}
+
+TEST_CASE("session notes are sealed") {
+    const Scratch folder("seal");
+    session_notes_are_sealed(folder.path(), connection());
 }
 
 TEST_CASE("of one log") {

@@ -359,6 +359,21 @@ TEST_CASE("what is read for a resend") {
     check(counted >= given && counted < given + of_a_read, fmt::format("all count {}", counted));
 }
 
+// It leaves behind what was asked for, and no number is taken for one without a message.
+TEST_CASE("given while the log is read for a resend") {
+    Scene scene;
+    Talk talk(scene);
+    talk.settle();
+    scene.give(1);
+    scene.give(2);
+    talk.ear.heard();
+    scene.book.happens_at_next_read = [&] { scene.give(3); };
+    talk.say(message_of("2", 3, "7=3|16=0|"));
+    scene.give(4);
+    talk.serve();
+    check_calls({"3 AI again", "4 AI again", "5 AI", "6 AI"}, talk.ear.heard(), "what it is sent");
+}
+
 TEST_CASE("no logout while it settles") {
     for (const std::string &bytes :
          {message_of("S", 1, ""), logon_of(2), raw("35=S|49=F|56=VENUE|52=" + nine + "|")}) {

@@ -4,7 +4,7 @@
 #include <doctest/doctest.h>
 
 #include "check.h"
-#include "sweeper.h"
+#include "day/sweeper.h"
 
 #include <atomic>
 #include <iostream>
@@ -55,16 +55,16 @@ class MemoryDatabase final : public Database {
 struct DayWithADeadline {
     DayWithADeadline() {
         log.append_message("F", Log::Came{1, 1, {}}, "x");
-        answers.begin(0);
-        answers.put(1, Moment{0});
+        progress.begin(0);
+        progress.put(1, Moment{0});
     }
 
     MemoryDatabase database;
     DayClock clock{today()};
     Metrics metrics;
-    Committed committed{0};
-    Answers answers;
-    Log log{database, committed,    clock,
+    EntryFeed feed{0};
+    VenueProgress progress;
+    Log log{database, feed,         clock,
             metrics,  Log::Start{}, [](const std::string &cause) { std::cerr << cause << '\n'; }};
 };
 
@@ -92,10 +92,10 @@ template <typename Condition> bool comes(const Condition &condition) {
 TEST_CASE("a deadline that has come") {
     DayWithADeadline day;
     {
-        Sweeper sweeper(day.answers, day.log, day.clock);
+        Sweeper sweeper(day.progress, day.log, day.clock);
         sweeper.start();
-        check(comes([&] { return day.committed.last_place() == 2; }), "no sweep");
-        day.answers.put(2, std::nullopt);
+        check(comes([&] { return day.feed.last_place() == 2; }), "no sweep");
+        day.progress.put(2, std::nullopt);
     }
     const std::vector<Entry> entries = day.database.entries();
     same<std::size_t>(2, entries.size(), "entries");
@@ -110,7 +110,7 @@ class BusyFirm {
     ~BusyFirm() {
         is_over_ = true;
         // What is held for an answer goes on.
-        day_.answers.put(day_.log.last_place(), std::nullopt);
+        day_.progress.put(day_.log.last_place(), std::nullopt);
     }
     BusyFirm(const BusyFirm &) = delete;
     BusyFirm &operator=(const BusyFirm &) = delete;
@@ -142,7 +142,7 @@ class BusyFirm {
 TEST_CASE("a venue that does not answer") {
     DayWithADeadline day;
     day.log.append_message("F", Log::Came{2, 1, {}}, "x");
-    Sweeper sweeper(day.answers, day.log, day.clock);
+    Sweeper sweeper(day.progress, day.log, day.clock);
     sweeper.start();
     BusyFirm firm(day);
     check(comes([&] { return firm.held_behind().has_value(); }), "no message is held");
@@ -156,7 +156,7 @@ TEST_CASE("a venue that does not answer") {
 TEST_CASE("a sweep that is not answered") {
     DayWithADeadline day;
     day.log.append_message("F", Log::Came{2, 1, {}}, "x");
-    Sweeper sweeper(day.answers, day.log, day.clock);
+    Sweeper sweeper(day.progress, day.log, day.clock);
     sweeper.start();
     BusyFirm firm(day);
     // The venue answers what it has while a message is held, so the sweep comes before that one.
@@ -164,7 +164,7 @@ TEST_CASE("a sweep that is not answered") {
     // waited for.
     const bool is_swept = comes([&] {
         if (const auto place = firm.held_behind()) {
-            day.answers.put(*place, Moment{0});
+            day.progress.put(*place, Moment{0});
         }
         return sweeps_of(day.database) == 1;
     });

@@ -4,7 +4,7 @@
 #include <doctest/doctest.h>
 
 #include "check.h"
-#include "database.h"
+#include "log/database.h"
 #include "log_schema.h"
 
 #include <chrono>
@@ -83,6 +83,13 @@ void one_speaks(Schema &schema) {
     same<std::size_t>(1, second->reader()->entries(0, 9).size(), "entries that the second reads");
     const std::string other = thrown_by([&] { writer->commit(batch_of(1, 2)); });
     check(other.find("term 2 is over") != std::string::npos, "an entry of another term: " + other);
+    // What is given for an entry is committed without a seal, and in a table that has no term.
+    Batch given;
+    given.sent.push_back({"F", 1, 0, "35=AI"});
+    schema.run("UPDATE speaker SET term = term + 1");
+    const std::string old = thrown_by([&] { writer->commit(given); });
+    check(old.find("term 1 is over") != std::string::npos, "messages alone in an old term: " + old);
+    schema.run("UPDATE speaker SET term = term - 1");
 }
 
 // The connection of a gateway that has gone is closed, and that of one that hangs is not.
@@ -120,7 +127,7 @@ void another_form(Schema &schema) {
     same(1U, schema.open("old")->take_over().value_or(0), "the term of the one that began the day");
     schema.run("UPDATE form SET number = 2");
     const std::string told = thrown_by([&] { schema.open("new")->take_over(); });
-    check(told.find("has tables of form 2, and this gateway's are of form 5: no day spans") !=
+    check(told.find("has tables of form 2, and this gateway's are of form 6: no day spans") !=
               std::string::npos,
           "told of another form: " + told);
 }

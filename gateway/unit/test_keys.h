@@ -2,9 +2,9 @@
 #ifndef GATEWAY_TESTS_TEST_KEYS_H
 #define GATEWAY_TESTS_TEST_KEYS_H
 
-#include "config.h"
-#include "make_keys.h"
-#include "seals.h"
+#include "config/config.h"
+#include "log/make_keys.h"
+#include "log/seals.h"
 
 #include <filesystem>
 #include <memory>

@@ -2,7 +2,7 @@
 #define DOCTEST_CONFIG_IMPLEMENT_WITH_MAIN
 #include <doctest/doctest.h>
 
-#include "trading_days.h"
+#include "config/trading_days.h"
 
 #include <array>
 #include <cstdio>
@@ -96,6 +96,28 @@ TEST_CASE("a day closes at a time of its zone, which summer time moves") {
     const TradingDays days(rules, at("2026-01-01 00:00:00"));
     CHECK(days.first_after(at("2026-11-27 00:00:00")).closes == at("2026-11-27 16:00:00"));
     CHECK(days.first_after(at("2026-07-01 00:00:00")).closes == at("2026-07-01 15:00:00"));
+}
+
+// New York's clocks go from 02:00 to 03:00 on 8 March 2026, and from 02:00 back to 01:00 on
+// 1 November.
+TEST_CASE("an hour that comes twice or not at all") {
+    DayRules rules;
+    rules.zone = "America/New_York";
+    rules.opens = 30min;
+    rules.closes = 1h + 15min;
+    rules.ends = 1h + 30min;
+    const TradingDay twice =
+        TradingDays(rules, at("2026-10-30 00:00:00")).first_after(at("2026-11-01 00:00:00"));
+    CHECK(twice.date == "20261101");
+    CHECK(twice.opens == at("2026-11-01 04:30:00"));
+    CHECK(twice.closes == at("2026-11-01 05:15:00"));
+    CHECK(twice.ends == at("2026-11-01 05:30:00"));
+    rules.closes.reset();
+    rules.ends = 2h + 30min;
+    const TradingDay skipped =
+        TradingDays(rules, at("2026-03-06 00:00:00")).first_after(at("2026-03-08 00:00:00"));
+    CHECK(skipped.opens == at("2026-03-08 05:30:00"));
+    CHECK(skipped.ends == at("2026-03-08 07:00:00"));
 }
 
 TEST_CASE("without rules every day is one, from midnight to midnight in UTC") {

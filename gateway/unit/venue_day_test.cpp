@@ -3,13 +3,13 @@
 #define DOCTEST_CONFIG_IMPLEMENT_WITH_MAIN
 #include <doctest/doctest.h>
 
-#include "begin_day.h"
 #include "check.h"
-#include "checkpoint_file.h"
-#include "day.h"
-#include "log_places.h"
-#include "password.h"
-#include "sqlite_statement.h"
+#include "common/password.h"
+#include "config/log_location.h"
+#include "day/begin_term.h"
+#include "log/checkpoint_file.h"
+#include "log/sqlite_statement.h"
+#include "recovery/open_day.h"
 #include "test_keys.h"
 
 #include <chrono>
@@ -79,8 +79,8 @@ void put_message(const Config &config) {
     second.before = first.hash;
     second.hash = hash_of(second);
     const Sealer sealer = sealer_of(config);
-    batch.seal = sealer.seal(1, {0, 1, second.hash, 0, {}});
-    CheckpointFile(config.checkpoints, sealer).write(sealer.sign(0, Position{}));
+    batch.seal = sealer.seal({0, 1, second.hash, 0, {}, 1, {}});
+    CheckpointFile(config.checkpoints, sealer).write(sealer.sign(Checkpoint{}));
     open_sqlite(config.sqlite.string())->writer()->commit(batch);
 }
 
@@ -121,10 +121,10 @@ void given_again_before_sessions(const std::filesystem::path &folder) {
     OperatorEvents told(metrics, events);
     Engine engine(config.engine, {}, told);
     VenueDay day(config, metrics, status, events, told);
-    const auto speaker = begin_day(day, engine, [] { return true; });
+    const auto leader = begin_term(day, engine, [] { return true; });
     end_venue(folder);
-    engine.add(speaker->session_starts());
-    speaker->start();
+    engine.add(leader->session_starts());
+    leader->start();
     const bool stored = is_stored(config);
     check(stored, "what was sent before has no number yet");
     check(!status.failure(), status.failure().value_or(""));

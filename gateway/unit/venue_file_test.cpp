@@ -3,7 +3,8 @@
 #define DOCTEST_CONFIG_IMPLEMENT_WITH_MAIN
 #include <doctest/doctest.h>
 
-#include "venue_file.h"
+#include "common/toml_bounds.h"
+#include "config/venue_file.h"
 
 #include <array>
 #include <fstream>
@@ -81,6 +82,24 @@ constexpr std::array cases = {
     Case{"a limit that is missing", "quantity = 5000000\n", "",
          "venue.toml: line 13: investor INV1: quantity is missing: it has to be from 1 to "
          "1,000,000,000,000"},
+    Case{"an ISIN whose last digit is wrong", "currency = \"USD\"", "isin = \"US0378331006\"",
+         "venue.toml: line 6: bond BONDA0000001: isin = \"US0378331006\": it has to be an ISIN, "
+         "whose last digit is right"},
+    Case{"an ISIN with two digits changed round", "currency = \"USD\"", "isin = \"US0373831005\"",
+         "venue.toml: line 6: bond BONDA0000001: isin = \"US0373831005\": it has to be an ISIN, "
+         "whose last digit is right"},
+    Case{"an ISIN of another country's form", "currency = \"USD\"", "isin = \"0S0000000009\"",
+         "venue.toml: line 6: bond BONDA0000001: isin = \"0S0000000009\": it has to be an ISIN, "
+         "whose last digit is right"},
+    Case{"an ISIN without a digit", "currency = \"USD\"", "isin = \"US037833100A\"",
+         "venue.toml: line 6: bond BONDA0000001: isin = \"US037833100A\": it has to be an ISIN, "
+         "whose last digit is right"},
+    Case{"a market's code", "version = 2", "version = 2\nmic = \"xmir\"",
+         "venue.toml: line 2: mic = \"xmir\": it has to be four capital letters and digits"},
+    Case{"a market's code as a number", "version = 2", "version = 2\nmic = 1234",
+         "venue.toml: line 2: mic = 1234: it has to be four capital letters and digits"},
+    Case{"a market's code of a bond",
+         "currency = ", "mic = ", "venue.toml: line 6: bond BONDA0000001: mic is no key of a bond"},
     Case{"a currency", "\"USD\"", "\"dollar\"",
          "venue.toml: line 6: bond BONDA0000001: currency = \"dollar\": it has to be three capital "
          "letters"},
@@ -121,6 +140,14 @@ TEST_CASE("a lawful configuration is given to the venue with the day's date in f
     CHECK(venue.date == "20261127");
     CHECK(venue.firms == std::vector<std::string>{"DLR1", "INV1"});
     CHECK(venue.text == "date = \"20261127\"\n" + std::string(lawful));
+}
+
+TEST_CASE("an ISIN and a market's code are no fault where they are right") {
+    for (const auto *isin : {"US0378331005", "GB0002634946", "DE0001102580", "AU0000XVGZA3"}) {
+        const std::string text =
+            changed("currency = ", fmt::format("isin = \"{}\"\ncurrency = ", isin));
+        CHECK(told_of("mic = \"XMIR\"\n" + text) == "no fault");
+    }
 }
 
 TEST_CASE("a date of its own stays, and the text with it, but for a line feed at its end") {
@@ -185,4 +212,12 @@ TEST_CASE("a key with a letter less is told with the key that was meant, whichev
             told_of(changed(fmt::format("\n{} = ", key), fmt::format("\n{} = ", written)));
         CHECK(told.find(fmt::format("; {}?", key)) != std::string::npos);
     }
+}
+
+TEST_CASE("what is taken is taken from entry 0 too, where its date stands above it") {
+    const std::string date = "date = \"20261124\"\n";
+    std::string text(lawful);
+    text += std::string(longest_toml - date.size() - text.size() - 1, '#') + "\n";
+    CHECK(read_venue_file("venue.toml", text, "20261124").text.size() == longest_toml);
+    CHECK_THROWS_AS(read_venue_file("venue.toml", "#" + text, "20261124"), VenueFileFaults);
 }

@@ -4,7 +4,7 @@
 #include <doctest/doctest.h>
 
 #include "check.h"
-#include "venue.h"
+#include "venue/venue.h"
 
 #include <chrono>
 #include <csignal>
@@ -27,7 +27,7 @@ class Listener final : public VenueListener {
     }
 
     void venue_starts() override {}
-    void venue_gave(std::uint32_t, std::uint32_t, std::string, std::string,
+    void venue_gave(const AnsweredEntry &, std::string, std::string,
                     std::optional<VenueNote>) override {}
     void venue_answered(std::uint32_t, std::optional<Moment>) override {}
     void venue_pauses() override {}
@@ -40,11 +40,11 @@ class Listener final : public VenueListener {
 // Why a venue is no more that is this script of the shell, and is started once.
 std::string failure_of(const std::string &file, const std::string &script) {
     const auto database = open_sqlite(file);
-    Committed committed(0);
+    EntryFeed feed(0);
     Metrics metrics;
     Listener listener;
-    Venue venue({{"sh", "-c", script}, "version = 1\n", 1}, *database, committed, Digest{},
-                listener, metrics, std::make_shared<spdlog::logger>("none"));
+    Venue venue({{"sh", "-c", script}, "version = 1\n", 1}, *database, feed, Digest{}, listener,
+                metrics, std::make_shared<spdlog::logger>("none"));
     venue.start();
     return listener.failure();
 }

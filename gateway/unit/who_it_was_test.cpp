@@ -3,12 +3,12 @@
 #define DOCTEST_CONFIG_IMPLEMENT_WITH_MAIN
 #include <doctest/doctest.h>
 
-#include "begin_day.h"
 #include "check.h"
-#include "frame.h"
-#include "password.h"
-#include "refusal_words.h"
-#include "sqlite_statement.h"
+#include "common/frame.h"
+#include "common/password.h"
+#include "day/begin_term.h"
+#include "log/sqlite_statement.h"
+#include "session/refusal_words.h"
 #include "test_keys.h"
 
 #include <chrono>
@@ -58,12 +58,12 @@ Config config_of(const std::filesystem::path &folder) {
 struct OpenedDay {
     explicit OpenedDay(const Config &given)
         : config(given), engine({}, {}, told), day(config, metrics, status, events, told),
-          speaker(begin_day(day, engine, [] { return true; })) {
+          leader(begin_term(day, engine, [] { return true; })) {
         told.tell_strangers_to([this](const ConnectionFacts &facts, const std::string &why) {
-            speaker->put_stranger(facts, why);
+            leader->put_stranger(facts, why);
         });
-        host = speaker->session_starts().at(0).host;
-        speaker->start();
+        host = leader->session_starts().at(0).host;
+        leader->start();
     }
 
     const Config config;
@@ -73,7 +73,7 @@ struct OpenedDay {
     OperatorEvents told{metrics, events};
     Engine engine;
     VenueDay day;
-    const std::unique_ptr<Speaker> speaker;
+    const std::unique_ptr<Leader> leader;
     SessionHost *host = nullptr;
 };
 
@@ -272,25 +272,43 @@ void on_a_connection(const std::filesystem::path &folder) {
         same(3U, host.logon_accepted("F", at_f), "of the third");
         host.connection_ended("F", 2, "late");
         host.all_received();
-        opened.speaker->finish();
-        opened.speaker->end();
+        opened.leader->finish();
+        opened.leader->end(true);
     }
     same_rows(config,
-              {"logon 1 1 F 10.0.0.1:4001 F - 0", "end 2 1 F 10.0.0.1:4001 F Connection?reset 0",
-               "logon 2 2 F 10.0.0.1:4002 - - 0", "end 4 2 F 10.0.0.1:4002 - another one began 0",
-               "logon 4 3 F 10.0.0.1:4001 F - 0"});
-    // The first entry says how the clock was.
-    const auto entries = open_sqlite(config.sqlite.string())->reader()->entries(2, 9);
+              {"logon 2 1 F 10.0.0.1:4001 F - 0", "end 3 1 F 10.0.0.1:4001 F Connection?reset 0",
+               "logon 3 2 F 10.0.0.1:4002 - - 0", "end 5 2 F 10.0.0.1:4002 - another one began 0",
+               "logon 5 3 F 10.0.0.1:4001 F - 0"});
+    // The first two entries say how the clock was, and which gateway speaks.
+    const auto entries = open_sqlite(config.sqlite.string())->reader()->entries(3, 9);
     same<std::size_t>(3, entries.size(), "entries");
     same(1U, entries[0].connection.value_or(0), "the first one's connection");
     same(2U, entries[1].connection.value_or(0), "the second one's");
     same(entries[1].received, entries[2].received, "a receipt on one connection that falls");
     OpenedDay again(config);
     same(4U, again.host->logon_accepted("G", at_f), "after a start");
-    again.speaker->end();
+    again.leader->end(true);
     const auto rows = rows_of(config);
-    same<std::string>("end 4 3 F 10.0.0.1:4001 F its gateway was gone 0", rows.at(5),
+    same<std::string>("end 5 3 F 10.0.0.1:4001 F its gateway was gone 0", rows.at(5),
                       "the end of the one that was open");
+}
+
+// A quote waits for its turn, and the venue is halted meanwhile.
+void judged_after_its_turn(const std::filesystem::path &folder) {
+    OpenedDay opened(config_of(folder));
+    SessionHost &host = *opened.host;
+    const Receipt receipt{host.logon_accepted("F", at_f), std::chrono::system_clock::now()};
+    host.wait_for_turn("F", receipt);
+    opened.day.halts.set({"", true});
+    const std::string quote =
+        framed(with_soh("35=S|49=F|56=VENUE|34=2|52=20250314-09:00:00.000|50=T|117=q1|131=R1|"
+                        "48=BOND|22=4|133=99.5|"));
+    SessionEvent event;
+    event.is_logged_on = true;
+    const Taken taken = host.take("F", {quote, 2, receipt}, event);
+    host.give_turn_back("F");
+    check(taken.verdict == Taken::Verdict::denied, "it is not judged when its turn has come");
+    check(taken.text.starts_with("the venue is halted"), "judged as: " + taken.text);
 }
 
 // However often strangers come: ten rows of each kind, and a count.
@@ -305,16 +323,16 @@ void strangers(const std::filesystem::path &folder) {
             opened.host->logon_refused("F", {"10.0.0.9:2", "", false},
                                        refusal_words::wrong_password);
         }
-        opened.speaker->finish();
-        opened.speaker->end();
+        opened.leader->finish();
+        opened.leader->end(true);
     }
     std::vector<std::string> wanted;
     for (int count = 0; count < 10; ++count) {
-        wanted.push_back("stranger 1 - - 10.0.0.9:1 ?|" + std::string(195, 'x') + "... no Logon 0");
-        wanted.push_back("refused 1 - F 10.0.0.9:2 - wrong password 0");
+        wanted.push_back("stranger 2 - - 10.0.0.9:1 ?|" + std::string(195, 'x') + "... no Logon 0");
+        wanted.push_back("refused 2 - F 10.0.0.9:2 - wrong password 0");
     }
-    wanted.push_back("left out 1 - -  - no Logon 490");
-    wanted.push_back("left out 1 - -  - wrong password 490");
+    wanted.push_back("left out 2 - -  - no Logon 490");
+    wanted.push_back("left out 2 - -  - wrong password 490");
     same_rows(config, wanted);
 }
 
@@ -322,6 +340,12 @@ TEST_CASE("judged") {
     std::signal(SIGPIPE, SIG_IGN);
     const Scratch folder("who_it_was");
     judged(folder.path());
+}
+
+TEST_CASE("judged after its turn") {
+    std::signal(SIGPIPE, SIG_IGN);
+    const Scratch folder("who_it_was");
+    judged_after_its_turn(folder.path());
 }
 
 TEST_CASE("a pause for whatever is wrong") {

@@ -3,10 +3,10 @@
 #include <doctest/doctest.h>
 
 #include "check.h"
-#include "frame.h"
-#include "in_its_name.h"
-#include "moment.h"
-#include "wire.h"
+#include "common/frame.h"
+#include "common/moment.h"
+#include "firms/on_behalf.h"
+#include "session/wire.h"
 
 #include <stdexcept>
 

@@ -1,6 +1,6 @@
-#include "file_copy.h"
+#include "base/file_copy.h"
 
-#include "descriptor.h"
+#include "common/descriptor.h"
 
 #include <memory>
 #include <stdexcept>

@@ -1,8 +1,8 @@
 // Files that are copied, and compared by their SHA-256.
-#ifndef GATEWAY_FILE_COPY_H
-#define GATEWAY_FILE_COPY_H
+#ifndef GATEWAY_BASE_FILE_COPY_H
+#define GATEWAY_BASE_FILE_COPY_H
 
-#include "records.h"
+#include "base/digest.h"
 
 #include <filesystem>
 #include <stop_token>

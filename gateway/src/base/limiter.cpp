@@ -1,4 +1,4 @@
-#include "limiter.h"
+#include "base/limiter.h"
 
 #include <limits>
 

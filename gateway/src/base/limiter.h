@@ -1,6 +1,6 @@
-// How often something is told that anybody may cause. Plain C++: gateway/session may use it too.
-#ifndef GATEWAY_LIMITER_H
-#define GATEWAY_LIMITER_H
+// How often something is told that anybody may cause. Plain C++: `session` may use it too.
+#ifndef GATEWAY_BASE_LIMITER_H
+#define GATEWAY_BASE_LIMITER_H
 
 #include <chrono>
 #include <cstdint>

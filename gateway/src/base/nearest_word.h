@@ -1,6 +1,6 @@
 // The word that somebody meant who wrote another.
-#ifndef GATEWAY_NEAREST_WORD_H
-#define GATEWAY_NEAREST_WORD_H
+#ifndef GATEWAY_BASE_NEAREST_WORD_H
+#define GATEWAY_BASE_NEAREST_WORD_H
 
 #include <optional>
 #include <span>

@@ -1,6 +1,6 @@
 // A pause that a stop ends.
-#ifndef GATEWAY_PAUSE_H
-#define GATEWAY_PAUSE_H
+#ifndef GATEWAY_BASE_PAUSE_H
+#define GATEWAY_BASE_PAUSE_H
 
 #include <chrono>
 #include <stop_token>

@@ -1,6 +1,6 @@
 // Somebody's text as it may stand in a line for the operator or in a row of the log.
-#ifndef GATEWAY_PRINTABLE_H
-#define GATEWAY_PRINTABLE_H
+#ifndef GATEWAY_BASE_PRINTABLE_H
+#define GATEWAY_BASE_PRINTABLE_H
 
 #include <string>
 #include <string_view>

@@ -1,6 +1,6 @@
-#include "private_file.h"
+#include "base/private_file.h"
 
-#include "descriptor.h"
+#include "common/descriptor.h"
 
 #include <array>
 #include <stdexcept>

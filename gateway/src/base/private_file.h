@@ -1,6 +1,6 @@
 // Files that have secrets.
-#ifndef GATEWAY_PRIVATE_FILE_H
-#define GATEWAY_PRIVATE_FILE_H
+#ifndef GATEWAY_BASE_PRIVATE_FILE_H
+#define GATEWAY_BASE_PRIVATE_FILE_H
 
 #include <filesystem>
 #include <string>

@@ -1,8 +1,10 @@
-#include "process.h"
+#include "base/process.h"
 
+#include <algorithm>
 #include <array>
 #include <cerrno>
 #include <csignal>
+#include <cstdint>
 #include <system_error>
 
 #include <fcntl.h>
@@ -69,8 +71,25 @@ class SpawnPlan {
     posix_spawnattr_t attributes_{};
 };
 
-std::string read_some(const Descriptor &descriptor) {
+// Whether there is something to read, or the end, before a moment.
+bool has_some(const Descriptor &descriptor, Process::Time latest) {
+    pollfd some{descriptor.number(), POLLIN, 0};
+    for (;;) {
+        const auto left =
+            std::chrono::ceil<std::chrono::milliseconds>(latest - std::chrono::steady_clock::now());
+        const int found =
+            ::poll(&some, 1, static_cast<int>(std::max<std::int64_t>(left.count(), 0)));
+        if (found >= 0 || errno != EINTR) {
+            return found > 0;
+        }
+    }
+}
+
+std::string read_some(const Descriptor &descriptor, Process::Time latest) {
     std::array<char, 65536> buffer;
+    if (latest != Process::Time::max() && !has_some(descriptor, latest)) {
+        return {};
+    }
     for (;;) {
         const ssize_t count = ::read(descriptor.number(), buffer.data(), buffer.size());
         if (count >= 0) {
@@ -146,12 +165,12 @@ void Process::close_input() {
     input_.close();
 }
 
-std::string Process::read_output() {
-    return read_some(output_);
+std::string Process::read_output(Time latest) {
+    return read_some(output_, latest);
 }
 
-std::string Process::read_errors() {
-    return read_some(errors_);
+std::string Process::read_errors(Time latest) {
+    return read_some(errors_, latest);
 }
 
 void Process::kill() {
@@ -178,6 +197,11 @@ bool Process::end_within(std::chrono::milliseconds longest) {
         kill();
     }
     return ended;
+}
+
+void Process::end_all_within(std::chrono::milliseconds longest) {
+    end_within(longest);
+    kill();
 }
 
 std::string Process::wait() {

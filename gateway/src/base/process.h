@@ -1,8 +1,8 @@
 // A child process with pipes.
-#ifndef GATEWAY_PROCESS_H
-#define GATEWAY_PROCESS_H
+#ifndef GATEWAY_BASE_PROCESS_H
+#define GATEWAY_BASE_PROCESS_H
 
-#include "descriptor.h"
+#include "common/descriptor.h"
 
 #include <chrono>
 #include <mutex>
@@ -30,14 +30,18 @@ class Process {
     // Writes what its standard input takes at once, and returns how much that is.
     std::size_t write_at_once(std::string_view bytes);
     void close_input();
-    // The next bytes of its standard output or error, empty at the end.
-    std::string read_output();
-    std::string read_errors();
+    // The next bytes of its standard output or error, empty at the end; and where there is none
+    // before `latest`: what it has started may keep it open.
+    using Time = std::chrono::steady_clock::time_point;
+    std::string read_output(Time latest = Time::max());
+    std::string read_errors(Time latest = Time::max());
     // And all that it has started: else its output would not end. Any thread may call it, and the
     // next one.
     void kill();
     // Waits for its end so long at most, and kills it then. Whether it ended by itself.
     bool end_within(std::chrono::milliseconds longest);
+    // The same, and kills what it has started and left.
+    void end_all_within(std::chrono::milliseconds longest);
     // Waits for its end, and says how it ended.
     std::string wait();
 

@@ -1,4 +1,4 @@
-#include "address_range.h"
+#include "config/address_range.h"
 
 #include <charconv>
 

@@ -1,6 +1,6 @@
 // Addresses that a firm may come from.
-#ifndef GATEWAY_ADDRESS_RANGE_H
-#define GATEWAY_ADDRESS_RANGE_H
+#ifndef GATEWAY_CONFIG_ADDRESS_RANGE_H
+#define GATEWAY_CONFIG_ADDRESS_RANGE_H
 
 #include <cstdint>
 #include <optional>

@@ -1,13 +1,15 @@
-#include "config.h"
+#include "config/config.h"
 
-#include "config_credentials.h"
-#include "config_day.h"
-#include "config_section.h"
-#include "private_file.h"
-#include "venue_file.h"
+#include "base/private_file.h"
+#include "common/regular_file.h"
+#include "config/config_day.h"
+#include "config/config_section.h"
+#include "config/venue_file.h"
 
 #include <algorithm>
 #include <array>
+#include <cerrno>
+#include <system_error>
 
 #include <fmt/format.h>
 #include <toml++/toml.h>
@@ -33,6 +35,14 @@ fs::path folder_of(const fs::path &file) {
     std::error_code fault;
     const fs::path real = fs::weakly_canonical(file, fault);
     return (fault ? file : real).parent_path();
+}
+
+// Whether a firm's credentials held to a day before this one: a firm that has left keeps them until
+// somebody takes them away.
+bool have_ended(const toml::node &credentials, std::string_view day) {
+    const toml::table *part = credentials.as_table();
+    const std::string ends = part == nullptr ? "" : (*part)["ends"].value_or(std::string());
+    return !ends.empty() && ends < day;
 }
 
 class ConfigReader {
@@ -62,12 +72,14 @@ class ConfigReader {
         config_.venue = venue_name;
         for (const auto &[key, node] : table_) {
             if (std::ranges::find(sections, key.str()) == sections.end() || !node.is_table()) {
-                fail(path_, fmt::format("{} is no part of it", key.str()));
+                fail(path_, fmt::format("line {}: {} is no part of it", key.source().begin.line,
+                                        key.str()));
             }
         }
         read_venue();
         read_days();
         read_log();
+        check_log_of_each_day();
         read_copies();
         read_seal();
         read_sessions();
@@ -88,28 +100,35 @@ class ConfigReader {
         return section("fix").beside(section("fix").text("credentials"));
     }
 
-    // Whether the venue's configuration is this file: then where its log is.
-    std::optional<Config> read_log_of(const std::string &venue_name, const fs::path &file) {
+    VenuePlace read_place(const std::string &venue_name) {
         config_ = Config{};
         config_.venue = venue_name;
         config_.firms.date = day_;
         Section venue = venue_section();
-        if (venue.beside(venue.text_of_need("configuration")) != file) {
-            return std::nullopt;
-        }
+        const fs::path file = venue.beside(venue.text_of_need("configuration"));
         read_log();
-        return config_;
+        return {file, config_};
     }
 
-    // A firm that may log on and that none of the venues has is a fault.
-    void check_firms(const std::vector<Config> &configs) const {
+    // Those that may log on on this day, and that none of the venues has.
+    std::vector<std::string> unknown_firms(const std::vector<Config> &configs) const {
         const fs::path file = credentials_file();
+        std::vector<std::string> unknown;
         for (const auto &[key, node] : parse(file, files_.text(file))) {
             const std::string firm(key.str());
-            const auto has = [&](const Config &each) { return each.credentials.contains(firm); };
-            if (std::ranges::none_of(configs, has)) {
-                fail(file, fmt::format("the venue has no firm {}", firm));
+            const auto has = [&](const Config &each) {
+                return std::ranges::find(each.firms.names, firm) != each.firms.names.end();
+            };
+            if (std::ranges::none_of(configs, has) && !have_ended(node, day_)) {
+                unknown.push_back(firm);
             }
+        }
+        return unknown;
+    }
+
+    void check_firms(const std::vector<Config> &configs) const {
+        if (const auto unknown = unknown_firms(configs); !unknown.empty()) {
+            fail(credentials_file(), fmt::format("the venue has no firm {}", unknown.front()));
         }
     }
 
@@ -183,6 +202,11 @@ class ConfigReader {
         config_.synchronous_commit = log.text("synchronous_commit", "on");
         config_.disk = log.path("disk");
         config_.reserve = log.number("reserve", usual_reserve, 0, most_reserve);
+        config_.spool = log.path("spool");
+        if (is_in_memory(config_.spool)) {
+            log.fail_at("spool",
+                        "is a folder in memory: it grows with the day, so it needs a disk");
+        }
         log.end();
         if (file.empty() == config_.postgres.empty()) {
             fail(path_, "[log] names neither sqlite nor postgres, or both");
@@ -197,6 +221,17 @@ class ConfigReader {
             check_private(config_.sqlite);
         } else {
             config_.schema = filled(schema);
+        }
+    }
+
+    // Without a date in the venue's configuration there is a day after this one.
+    void check_log_of_each_day() const {
+        Section log = section("log");
+        const char *key = config_.sqlite.empty() ? "schema" : "sqlite";
+        const std::string place = log.text(key, "day_{date}");
+        if (!config_.firms.has_own_date && place.find("{date}") == std::string::npos) {
+            log.fail_at(key, "has no {date}: each day needs a log of its own, unless the venue's "
+                             "configuration has a date");
         }
     }
 
@@ -227,6 +262,12 @@ class ConfigReader {
             files.gateways.push_back(seal.beside(file));
         }
         config_.checkpoints = seal.beside(seal.text_of_need("checkpoints"));
+        if (seal.has("send")) {
+            config_.checkpoints_to = seal.words("send");
+        }
+        if (config_.spool.empty()) {
+            config_.spool = config_.disk.empty() ? config_.checkpoints : config_.disk;
+        }
         seal.end();
         config_.keys = files_.keys(files);
     }
@@ -237,8 +278,23 @@ class ConfigReader {
         config_.engine.port = static_cast<std::uint16_t>(fix.number("port", 9878, 1, 65535));
         beyond_loopback_ = fix.flag("plain_tcp_beyond_loopback");
         const fs::path credentials = fix.beside(fix.text_of_need("credentials"));
+        config_.certification = certification_in(fix);
         fix.end();
-        config_.credentials = credentials_of(config_, credentials, files_);
+        config_.credentials =
+            credentials_of(config_.firms.names, config_.configuration, credentials, files_);
+    }
+
+    Certification certification_in(Section &fix) {
+        Certification rules{fix.flag("certified")};
+        const fs::path file = fix.path("report_key");
+        check_readable(fix, "report_key");
+        if (!file.empty()) {
+            rules.key = std::make_shared<const SigningKey>(
+                SigningKey::public_of(files_.text(file), file.string()));
+        } else if (rules.is_needed) {
+            fix.fail_at("certified", "needs report_key");
+        }
+        return rules;
     }
 
     void read_tls() {
@@ -250,20 +306,34 @@ class ConfigReader {
         engine.client_certificates = tls.flag("client_certificates");
         engine.revoked = tls.path("revoked").string();
         tls.end();
-        if (tls.stands() && (engine.certificate.empty() || engine.key.empty())) {
-            fail(path_, "[tls] has to have certificate and key");
+        for (const std::string_view need : {"certificate", "key"}) {
+            if (tls.stands() && tls.text(need).empty()) {
+                tls.fail_at(need, "is missing: [tls] has to have certificate and key");
+            }
+        }
+        for (const std::string_view file : {"certificate", "key", "authorities", "revoked"}) {
+            check_readable(tls, file);
         }
         files_.require_private(engine.key);
         if (engine.client_certificates && engine.authorities.empty()) {
-            fail(path_, "[tls] client_certificates needs authorities");
+            tls.fail_at("client_certificates", "needs authorities");
         }
         if (!engine.revoked.empty() && !engine.client_certificates) {
-            fail(path_, "[tls] revoked needs client_certificates");
+            tls.fail_at("revoked", "needs client_certificates");
         }
         if (!tls.stands() && !beyond_loopback_ && !engine.address.starts_with("127.")) {
             fail(path_, fmt::format("[fix] listen = \"{}\" is not on the loopback, and there is no "
                                     "[tls]: plain_tcp_beyond_loopback has to say so",
                                     engine.address));
+        }
+    }
+
+    // OpenSSL would say which file it is, and not which key.
+    static void check_readable(Section &part, std::string_view key) {
+        const fs::path file = part.path(key);
+        if (!file.empty() && ::access(file.c_str(), R_OK) != 0) {
+            const std::string cause = std::generic_category().message(errno);
+            part.fail_at(key, fmt::format("= \"{}\": {}", part.text(key), cause));
         }
     }
 
@@ -330,28 +400,39 @@ class ConfigReader {
 } // namespace
 
 std::vector<Config> read_configs(ConfigFiles &files, const fs::path &path, std::string_view day) {
+    return read_configs(files, path, day, UnknownFirms::are_faults);
+}
+
+std::vector<Config> read_configs(ConfigFiles &files, const fs::path &path, std::string_view day,
+                                 UnknownFirms unknown) {
     ConfigReader reader(files, path, day);
     std::vector<Config> configs;
     for (const std::string &venue : reader.venues()) {
         configs.push_back(reader.read(venue));
     }
-    reader.check_firms(configs);
+    if (unknown == UnknownFirms::are_faults) {
+        reader.check_firms(configs);
+    }
     return configs;
+}
+
+std::vector<std::string> unknown_firms(const fs::path &path, const std::vector<Config> &configs) {
+    ConfigFiles files;
+    return ConfigReader(files, path, configs.front().firms.date).unknown_firms(configs);
 }
 
 fs::path credentials_file(ConfigFiles &files, const fs::path &path) {
     return ConfigReader(files, path, "").credentials_file();
 }
 
-Config read_log_place(ConfigFiles &files, const fs::path &path, const fs::path &venue_file,
-                      std::string_view day) {
+std::vector<VenuePlace> venue_places(ConfigFiles &files, const fs::path &path,
+                                     std::string_view day) {
     ConfigReader reader(files, path, day);
+    std::vector<VenuePlace> places;
     for (const std::string &venue : reader.venues()) {
-        if (auto found = reader.read_log_of(venue, venue_file)) {
-            return std::move(*found);
-        }
+        places.push_back(reader.read_place(venue));
     }
-    fail(path, fmt::format("no venue has the configuration {}", venue_file.string()));
+    return places;
 }
 
 Config read_access(const fs::path &path, const Config &in_force) {

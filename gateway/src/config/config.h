@@ -1,15 +1,15 @@
 // What the gateway is told: its own file, the credentials, and the firms of the venue's
 // configuration.
-#ifndef GATEWAY_CONFIG_H
-#define GATEWAY_CONFIG_H
+#ifndef GATEWAY_CONFIG_CONFIG_H
+#define GATEWAY_CONFIG_CONFIG_H
 
-#include "address_range.h"
-#include "config_files.h"
-#include "engine.h"
-#include "firm_rate.h"
-#include "seals.h"
-#include "shares.h"
-#include "trading_days.h"
+#include "config/config_files.h"
+#include "config/credentials.h"
+#include "config/rate_limits.h"
+#include "config/trading_days.h"
+#include "log/fair_share.h"
+#include "log/seals.h"
+#include "session/engine_settings.h"
 
 #include <filesystem>
 #include <map>
@@ -21,20 +21,17 @@
 
 namespace gateway {
 
-struct Credentials {
-    std::string username;
-    std::string password_hash;        // as crypt(5) has it
-    std::string cancel_on_disconnect; // a trader, or empty
-    std::string ends{};               // YYYYMMDD, the last day on which they hold; empty for none
-    std::vector<AddressRange> addresses{}; // that the firm may come from; none where from any
-    std::uint64_t day_bytes = 0; // of its lines in the log; 0 where it has the usual limit
-};
-
 // What of the venue's configuration concerns the gateway.
 struct VenueFirms {
     std::string date;
     std::vector<std::string> names;
     bool has_own_date = false; // else it was given the day's, and is of any
+};
+
+// Whether firms need a report of mireseason-certify that was admitted, and who signs these.
+struct Certification {
+    bool is_needed = false;
+    std::shared_ptr<const SigningKey> key{}; // null where none is named
 };
 
 struct Config {
@@ -53,9 +50,11 @@ struct Config {
     std::string synchronous_commit; // of PostgreSQL: `on` waits for a standby, if there is one
     std::filesystem::path disk;     // a folder on the log's disk; empty where none is known
     std::uint64_t reserve = 0;      // bytes of it that are held back
+    std::filesystem::path spool;    // the folder of what sessions may have to send again
 
-    std::shared_ptr<const SealKeys> keys; // of the log's seals and signatures
-    std::filesystem::path checkpoints;    // the folder in which the last signature is kept
+    std::shared_ptr<const SealKeys> keys;    // of the log's seals and signatures
+    std::filesystem::path checkpoints;       // the folder in which the last signature is kept
+    std::vector<std::string> checkpoints_to; // a program that is given each; empty for none
 
     std::filesystem::path copies;    // the folder that ended days are copied to; empty for none
     std::filesystem::path sealed;    // where a keeper tells which days are sealed; empty for none
@@ -63,6 +62,7 @@ struct Config {
 
     EngineSettings engine;
     std::map<std::string, Credentials> credentials;
+    Certification certification;
 
     std::size_t waiting_entries = 4096;
     std::size_t waiting_messages = 16384;
@@ -90,13 +90,31 @@ struct Config {
 std::vector<Config> read_configs(ConfigFiles &files, const std::filesystem::path &path,
                                  std::string_view day);
 
+// What credentials are that hold on a day on which no venue has their firm. As a rule its name is
+// misspelled, and read_configs() takes them for faults.
+enum class UnknownFirms { are_faults, count_for_nothing };
+
+std::vector<Config> read_configs(ConfigFiles &files, const std::filesystem::path &path,
+                                 std::string_view day, UnknownFirms unknown);
+
+// The firms whose credentials hold on the day of these configurations, and that none of them has:
+// each may be new on the next day. Throws as read_configs().
+std::vector<std::string> unknown_firms(const std::filesystem::path &path,
+                                       const std::vector<Config> &configs);
+
 // The file of the credentials. Throws as read_configs().
 std::filesystem::path credentials_file(ConfigFiles &files, const std::filesystem::path &path);
 
-// Of the venue whose configuration is this file its name, and where its log of this day is; nothing
-// else is read. Throws as read_configs(), and where no venue has the file.
-Config read_log_place(ConfigFiles &files, const std::filesystem::path &path,
-                      const std::filesystem::path &venue_file, std::string_view day);
+// A venue's configuration, and where its log of a day is: of the rest of Config nothing but its
+// name is set.
+struct VenuePlace {
+    std::filesystem::path file;
+    Config log;
+};
+
+// Of each venue; no file is read but the first. Throws as read_configs().
+std::vector<VenuePlace> venue_places(ConfigFiles &files, const std::filesystem::path &path,
+                                     std::string_view day);
 
 // Reads the credentials and the part [tls] again, for a configuration that is in force: all the
 // rest is as it was. Throws as read_configs().

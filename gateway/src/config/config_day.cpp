@@ -1,6 +1,6 @@
-#include "config_day.h"
+#include "config/config_day.h"
 
-#include "printable.h"
+#include "base/printable.h"
 
 #include <optional>
 #include <stdexcept>
@@ -10,6 +10,9 @@
 namespace gateway {
 
 namespace {
+
+// What the installed configuration has in the place of hours.
+constexpr std::string_view to_be_chosen = "ask";
 
 // Of a value that is at fault, in what is told of it.
 constexpr std::size_t longest_shown = 40;
@@ -59,7 +62,12 @@ std::set<std::string> holidays_in(Section &day, ConfigFiles &files) {
     if (file.empty()) {
         return {};
     }
-    const std::string &text = files.text(file);
+    std::string text;
+    try {
+        text = files.text(file);
+    } catch (const std::runtime_error &fault) {
+        day.fail_at("holidays", fmt::format("= \"{}\": {}", day.text("holidays"), fault.what()));
+    }
     try {
         return holidays_of(text);
     } catch (const std::runtime_error &fault) {
@@ -87,8 +95,21 @@ void check_days(const Section &day, const DayRules &rules, std::string_view date
 
 } // namespace
 
+// A new installation opens no day of hours that nobody has chosen.
+void check_chosen(Section &day, std::string_view key) {
+    if (day.text(key) == to_be_chosen) {
+        day.fail_at(key,
+                    fmt::format("= \"{}\": say here when a trading day opens and when it ends, "
+                                "as HH:MM in the zone of `zone`, and on which weekdays. Round "
+                                "the clock is from \"00:00\" to \"24:00\"",
+                                to_be_chosen));
+    }
+}
+
 DayRules day_rules_of(Section day, ConfigFiles &files, std::string_view date) {
     DayRules rules;
+    check_chosen(day, "opens");
+    check_chosen(day, "ends");
     rules.zone = day.text("zone", "UTC");
     rules.opens = time_in(day, "opens").value_or(rules.opens);
     rules.closes = time_in(day, "closes");

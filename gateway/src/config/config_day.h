@@ -1,10 +1,10 @@
 // The part [day] of the gateway's configuration.
-#ifndef GATEWAY_CONFIG_DAY_H
-#define GATEWAY_CONFIG_DAY_H
+#ifndef GATEWAY_CONFIG_CONFIG_DAY_H
+#define GATEWAY_CONFIG_CONFIG_DAY_H
 
-#include "config_files.h"
-#include "config_section.h"
-#include "trading_days.h"
+#include "config/config_files.h"
+#include "config/config_section.h"
+#include "config/trading_days.h"
 
 #include <string_view>
 

@@ -1,12 +1,12 @@
-#include "config_files.h"
+#include "config/config_files.h"
 
-#include "private_file.h"
-#include "regular_file.h"
+#include "base/private_file.h"
+#include "common/regular_file.h"
+#include "common/toml_bounds.h"
 
 #include <algorithm>
 #include <fstream>
 #include <optional>
-#include <sstream>
 #include <stdexcept>
 
 #include <fmt/format.h>
@@ -15,18 +15,18 @@ namespace gateway {
 
 namespace {
 
+// As much as a configuration may have, and a byte more where it has more.
 std::optional<std::string> read(const std::filesystem::path &file) {
     if (may_have_no_end(file)) {
         return std::nullopt;
     }
     std::ifstream in(file, std::ios::binary);
-    std::ostringstream text;
-    // Nothing is put there of a file without a byte, and that is no fault of it.
-    const bool is_empty = in && in.peek() == std::ifstream::traits_type::eof() && in.eof();
-    if (!is_empty && (!in || !(text << in.rdbuf()))) {
+    std::string text(longest_toml + 1, '\0');
+    if (!in.read(text.data(), static_cast<std::streamsize>(text.size())) && !in.eof()) {
         return std::nullopt;
     }
-    return text.str();
+    text.resize(static_cast<std::size_t>(in.gcount()));
+    return text;
 }
 
 } // namespace
@@ -38,6 +38,10 @@ const std::string &ConfigFiles::text(const std::filesystem::path &file) {
     }
     if (!found->second) {
         throw std::runtime_error(fmt::format("{}: can't be read", file.string()));
+    }
+    if (found->second->size() > longest_toml) {
+        throw std::runtime_error(
+            fmt::format("{}: it has more than {} bytes", file.string(), longest_toml));
     }
     return *found->second;
 }

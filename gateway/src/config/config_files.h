@@ -1,8 +1,8 @@
 // The texts of the files that a configuration is read from.
-#ifndef GATEWAY_CONFIG_FILES_H
-#define GATEWAY_CONFIG_FILES_H
+#ifndef GATEWAY_CONFIG_CONFIG_FILES_H
+#define GATEWAY_CONFIG_CONFIG_FILES_H
 
-#include "seals.h"
+#include "log/seals.h"
 
 #include <filesystem>
 #include <map>

@@ -1,4 +1,6 @@
-#include "config_section.h"
+#include "config/config_section.h"
+
+#include "common/toml_bounds.h"
 
 #include <stdexcept>
 
@@ -11,6 +13,9 @@ namespace fs = std::filesystem;
 }
 
 toml::table parse(const fs::path &path, const std::string &text) {
+    if (const auto excess = excess_of(text)) {
+        fail(path, fmt::format("line {}: {}", excess->line, excess->what));
+    }
     try {
         return toml::parse(text);
     } catch (const toml::parse_error &fault) {

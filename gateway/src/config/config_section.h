@@ -1,6 +1,6 @@
 // A part of a file of TOML: keys with their kinds and limits, and faults that name them.
-#ifndef GATEWAY_CONFIG_SECTION_H
-#define GATEWAY_CONFIG_SECTION_H
+#ifndef GATEWAY_CONFIG_CONFIG_SECTION_H
+#define GATEWAY_CONFIG_CONFIG_SECTION_H
 
 #include <cstdint>
 #include <filesystem>

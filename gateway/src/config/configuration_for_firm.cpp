@@ -1,4 +1,6 @@
-#include "hand_out.h"
+#include "config/configuration_for_firm.h"
+
+#include "config/config_section.h"
 
 #include <sstream>
 #include <stdexcept>
@@ -45,8 +47,8 @@ bool has_own_row(const toml::array &rows, const std::string &firm) {
 
 } // namespace
 
-std::string hand_out(const std::string &configuration, const std::string &firm) {
-    const toml::table venue = toml::parse(configuration);
+std::string configuration_for_firm(const std::string &configuration, const std::string &firm) {
+    const toml::table venue = parse("entry 0", configuration);
     const toml::array dealers = rows_for(venue, "dealer", firm, Others::name);
     const toml::array investors = rows_for(venue, "investor", firm, Others::nothing);
     if (!has_own_row(dealers, firm) && investors.empty()) {

@@ -1,6 +1,6 @@
 // What a firm may know of the venue's configuration.
-#ifndef GATEWAY_HAND_OUT_H
-#define GATEWAY_HAND_OUT_H
+#ifndef GATEWAY_CONFIG_CONFIGURATION_FOR_FIRM_H
+#define GATEWAY_CONFIG_CONFIGURATION_FOR_FIRM_H
 
 #include <string>
 
@@ -10,7 +10,7 @@ namespace gateway {
 // limits; nothing of what another firm may do, and of no investor but the firm itself that there is
 // one. `configuration` is the venue's, and right. Throws std::runtime_error where it has no such
 // firm.
-std::string hand_out(const std::string &configuration, const std::string &firm);
+std::string configuration_for_firm(const std::string &configuration, const std::string &firm);
 
 } // namespace gateway
 

@@ -1,11 +1,10 @@
-#include "config_credentials.h"
+#include "config/credentials.h"
 
-#include "config_section.h"
-#include "password.h"
-#include "venue_rules.h"
+#include "common/password.h"
+#include "config/config_section.h"
+#include "config/venue_rules.h"
 
 #include <algorithm>
-#include <vector>
 
 #include <fmt/format.h>
 #include <toml++/toml.h>
@@ -43,10 +42,10 @@ bool has_trader(const toml::node &dealer, const std::string &firm, const std::st
 }
 
 // The trader who cancels is one of the dealer's own, so that the venue takes his cancel.
-void check_trader(const Section &row, const Config &venue, const std::string &firm,
+void check_trader(const Section &row, const std::string &configuration, const std::string &firm,
                   const std::string &trader) {
-    const toml::table configuration = toml::parse(venue.configuration);
-    const toml::array *dealers = configuration["dealer"].as_array();
+    const toml::table venue = parse("entry 0", configuration);
+    const toml::array *dealers = venue["dealer"].as_array();
     const auto has = [&](const toml::node &each) { return has_trader(each, firm, trader); };
     if (dealers == nullptr || std::none_of(dealers->begin(), dealers->end(), has)) {
         row.fail_at("cancel_on_disconnect",
@@ -54,7 +53,7 @@ void check_trader(const Section &row, const Config &venue, const std::string &fi
     }
 }
 
-Credentials credentials_in(Section row, const Config &venue, const std::string &firm) {
+Credentials credentials_in(Section &row) {
     Credentials own;
     own.username = row.text_of_need("username");
     own.password_hash = row.text_of_need("password");
@@ -68,17 +67,21 @@ Credentials credentials_in(Section row, const Config &venue, const std::string &
         row.fail_at("ends", "is no date YYYYMMDD");
     }
     own.addresses = addresses_in(row);
-    row.end();
-    if (!own.cancel_on_disconnect.empty()) {
-        check_trader(row, venue, firm, own.cancel_on_disconnect);
+    if (row.has("report")) {
+        own.report = signed_report_of(row.text("report"));
+        if (!own.report) {
+            row.fail_at("report", "is no line of a report: mireseason-admin admit writes it");
+        }
     }
+    row.end();
     return own;
 }
 
 } // namespace
 
-std::map<std::string, Credentials> credentials_of(const Config &venue, const fs::path &file,
-                                                  ConfigFiles &files) {
+std::map<std::string, Credentials> credentials_of(const std::vector<std::string> &firms,
+                                                  const std::string &configuration,
+                                                  const fs::path &file, ConfigFiles &files) {
     files.require_private(file);
     if (files.text(file).empty()) {
         // As an editor leaves it where the disk is full: nobody is to be logged out by that.
@@ -88,9 +91,15 @@ std::map<std::string, Credentials> credentials_of(const Config &venue, const fs:
     const toml::table table = parse(file, files.text(file));
     for (const auto &[key, node] : table) {
         const std::string firm(key.str());
-        if (std::ranges::find(venue.firms.names, firm) != venue.firms.names.end()) {
-            all[firm] = credentials_in(Section(file, firm, node.as_table()), venue, firm);
+        Section row(file, firm, node.as_table());
+        const Credentials own = credentials_in(row);
+        if (std::ranges::find(firms, firm) == firms.end()) {
+            continue;
         }
+        if (!own.cancel_on_disconnect.empty()) {
+            check_trader(row, configuration, firm, own.cancel_on_disconnect);
+        }
+        all[firm] = own;
     }
     return all;
 }

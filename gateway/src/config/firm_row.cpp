@@ -1,4 +1,6 @@
-#include "firm_row.h"
+#include "config/firm_row.h"
+
+#include "config/config_section.h"
 
 #include <stdexcept>
 #include <string_view>
@@ -35,7 +37,7 @@ std::vector<std::string> traders_of(const toml::table &row) {
 } // namespace
 
 FirmRow firm_row(const std::string &configuration, const std::string &firm) {
-    const toml::table venue = toml::parse(configuration);
+    const toml::table venue = parse("entry 0", configuration);
     const toml::table *dealer = row_with(venue, "dealer", "name", firm);
     const toml::table *row = dealer != nullptr ? dealer : row_with(venue, "investor", "name", firm);
     if (row == nullptr) {
@@ -45,7 +47,7 @@ FirmRow firm_row(const std::string &configuration, const std::string &firm) {
 }
 
 bool has_bond(const std::string &configuration, const std::string &bond) {
-    return row_with(toml::parse(configuration), "bond", "id", bond) != nullptr;
+    return row_with(parse("entry 0", configuration), "bond", "id", bond) != nullptr;
 }
 
 } // namespace gateway

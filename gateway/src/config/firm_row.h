@@ -1,6 +1,6 @@
 // A firm's row in the venue's configuration.
-#ifndef GATEWAY_FIRM_ROW_H
-#define GATEWAY_FIRM_ROW_H
+#ifndef GATEWAY_CONFIG_FIRM_ROW_H
+#define GATEWAY_CONFIG_FIRM_ROW_H
 
 #include <string>
 #include <vector>

@@ -1,7 +1,7 @@
-#include "log_places.h"
+#include "config/log_location.h"
 
-#include "postgres_parts.h"
-#include "sqlite_parts.h"
+#include "log/postgres.h"
+#include "log/sqlite.h"
 
 #include <exception>
 #include <filesystem>
@@ -9,17 +9,12 @@
 
 namespace gateway {
 
-namespace {
-
-// Null where there is no log yet. Makes nothing, whoever else has it open.
-std::unique_ptr<LogReader> reader_of(const Config &config) {
+std::unique_ptr<LogReader> read_log(const Config &config) {
     if (config.sqlite.empty()) {
         return read_postgres(config.postgres, config.schema);
     }
     return std::filesystem::exists(config.sqlite) ? sqlite::read(config.sqlite.string()) : nullptr;
 }
-
-} // namespace
 
 std::unique_ptr<Database> open_database(const Config &config) {
     if (!config.sqlite.empty()) {
@@ -30,7 +25,7 @@ std::unique_ptr<Database> open_database(const Config &config) {
 
 std::optional<std::string> begun_configuration(const Config &config) {
     try {
-        const auto log = reader_of(config);
+        const auto log = read_log(config);
         const auto first = log ? log->entries(0, 1) : std::vector<Entry>();
         return first.empty() ? std::nullopt
                              : std::optional(day_of(first.front().line).configuration);

@@ -1,10 +1,10 @@
 // Where a venue's log is, by its configuration.
-#ifndef GATEWAY_LOG_PLACES_H
-#define GATEWAY_LOG_PLACES_H
+#ifndef GATEWAY_CONFIG_LOG_LOCATION_H
+#define GATEWAY_CONFIG_LOG_LOCATION_H
 
-#include "config.h"
-#include "database.h"
-#include "seals.h"
+#include "config/config.h"
+#include "log/database.h"
+#include "log/seals.h"
 
 #include <memory>
 #include <optional>
@@ -13,6 +13,10 @@
 namespace gateway {
 
 std::unique_ptr<Database> open_database(const Config &config);
+
+// Null where there is no log yet. Makes nothing, whoever else has it open. Throws
+// std::runtime_error.
+std::unique_ptr<LogReader> read_log(const Config &config);
 
 // The configuration of the day that the log has begun with; nothing where there is no log, or it
 // can't be read: a start says why.

@@ -1,4 +1,4 @@
-#include "trading_days.h"
+#include "config/trading_days.h"
 
 #include <algorithm>
 #include <array>

@@ -1,6 +1,6 @@
 // The days on which the venue trades, and the hours of each.
-#ifndef GATEWAY_TRADING_DAYS_H
-#define GATEWAY_TRADING_DAYS_H
+#ifndef GATEWAY_CONFIG_TRADING_DAYS_H
+#define GATEWAY_CONFIG_TRADING_DAYS_H
 
 #include <chrono>
 #include <optional>

@@ -1,8 +1,9 @@
-#include "venue_file.h"
+#include "config/venue_file.h"
 
-#include "nearest_word.h"
-#include "printable.h"
-#include "venue_rules.h"
+#include "base/nearest_word.h"
+#include "base/printable.h"
+#include "common/toml_bounds.h"
+#include "config/venue_rules.h"
 
 #include <algorithm>
 #include <map>
@@ -261,6 +262,9 @@ class FileCheck {
 };
 
 toml::table parse(const std::filesystem::path &file, const std::string &text) {
+    if (auto excess = excess_of(text)) {
+        throw VenueFileFaults(file, {{excess->line, "", std::move(excess->what)}});
+    }
     try {
         return toml::parse(text);
     } catch (const toml::parse_error &fault) {
@@ -292,6 +296,10 @@ VenueFile read_venue_file(const std::filesystem::path &file, std::string text,
         venue.has_own_date ? std::move(text) : fmt::format("date = \"{}\"\n{}", venue.date, text);
     if (!venue.text.ends_with('\n')) {
         venue.text += '\n';
+    }
+    if (auto excess = excess_of(venue.text)) {
+        // As it stands in entry 0, from where it is read again.
+        throw VenueFileFaults(file, {{excess->line, "", "with its date " + excess->what}});
     }
     return venue;
 }

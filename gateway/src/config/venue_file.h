@@ -1,7 +1,7 @@
 // The venue's configuration as its operator wrote it, with every fault of it before anything rests
 // on it. FORMATS.md has the tables that it is held against.
-#ifndef GATEWAY_VENUE_FILE_H
-#define GATEWAY_VENUE_FILE_H
+#ifndef GATEWAY_CONFIG_VENUE_FILE_H
+#define GATEWAY_CONFIG_VENUE_FILE_H
 
 #include <cstddef>
 #include <filesystem>
@@ -42,8 +42,8 @@ struct VenueFile {
 };
 
 // Reads a configuration's text. Where it has no date, it is given the day's: eight digits. Throws
-// VenueFileFaults. A key that the program ignores is a fault, but for those that tell people of a
-// bond: its name, its currency, and how its prices are quoted.
+// VenueFileFaults. A key that the program ignores is a fault, but for those that tell people more:
+// the venue's `mic`, and of a bond its name, its ISIN, its currency, and how its prices are quoted.
 VenueFile read_venue_file(const std::filesystem::path &file, std::string text,
                           std::string_view day);
 

@@ -1,7 +1,8 @@
-#include "venue_rules.h"
+#include "config/venue_rules.h"
 
 #include <algorithm>
 #include <array>
+#include <string>
 
 namespace gateway {
 
@@ -30,6 +31,35 @@ bool is_grid(std::string_view text) {
 bool is_currency(std::string_view text) {
     return text.size() == 3 && std::ranges::all_of(text, is_capital);
 }
+bool is_mic(std::string_view text) {
+    return text.size() == 4 &&
+           std::ranges::all_of(text, [](char c) { return is_digit(c) || is_capital(c); });
+}
+
+// The digits of an ISIN, in which each letter stands for two: A is 10.
+std::string digits_in(std::string_view text) {
+    std::string digits;
+    for (const char c : text) {
+        digits += is_digit(c) ? std::string(1, c) : std::to_string(c - 'A' + 10);
+    }
+    return digits;
+}
+
+// Each second digit from the right counts twice, and of what has two digits then their sum (ISO
+// 6166): with a right last digit it is a multiple of ten.
+int check_sum(std::string_view digits) {
+    int sum = 0;
+    for (std::size_t behind = 0; behind < digits.size(); ++behind) {
+        const int digit = digits[digits.size() - 1 - behind] - '0';
+        const int value = behind % 2 == 1 ? 2 * digit : digit;
+        sum += value / 10 + value % 10;
+    }
+    return sum;
+}
+bool is_isin(std::string_view text) {
+    return is_bond(text) && is_capital(text[0]) && is_capital(text[1]) && is_digit(text.back()) &&
+           check_sum(digits_in(text)) % 10 == 0;
+}
 bool is_way_of_quoting(std::string_view text) {
     return text == "32nds" || text == "decimals";
 }
@@ -44,14 +74,16 @@ constexpr std::string_view firm_form =
 constexpr std::string_view traders_form =
     "1 to 16 names, each of 1 to 8 capital letters and digits, the first a letter";
 
-constexpr std::array<KeyRule, 2> top = {{
+constexpr std::array<KeyRule, 3> top = {{
     {"version", ValueKind::number, true, 1, 2, nullptr, "1 or 2"},
     {"date", ValueKind::text, false, 0, 0, is_date, "a day as eight digits, such as 20250314"},
+    {"mic", ValueKind::text, false, 0, 0, is_mic, "four capital letters and digits"},
 }};
-constexpr std::array<KeyRule, 5> bond = {{
+constexpr std::array<KeyRule, 6> bond = {{
     {"id", ValueKind::text, true, 0, 0, is_bond, "12 capital letters and digits"},
     {"grid", ValueKind::number, true, 32, 256, is_grid, "32, 64, 128 or 256", 2},
     {"name", ValueKind::text, false, 0, 0, is_short_text, "1 to 60 bytes of text"},
+    {"isin", ValueKind::text, false, 0, 0, is_isin, "an ISIN, whose last digit is right"},
     {"currency", ValueKind::text, false, 0, 0, is_currency, "three capital letters"},
     {"quoted", ValueKind::text, false, 0, 0, is_way_of_quoting, "\"32nds\" or \"decimals\""},
 }};

@@ -1,7 +1,7 @@
 // What may stand in the venue's configuration, as a table: FORMATS.md's, and the keys that tell
-// people of a bond and that the venue's program ignores.
-#ifndef GATEWAY_VENUE_RULES_H
-#define GATEWAY_VENUE_RULES_H
+// people of the venue or of a bond and that the venue's program ignores.
+#ifndef GATEWAY_CONFIG_VENUE_RULES_H
+#define GATEWAY_CONFIG_VENUE_RULES_H
 
 #include <cstdint>
 #include <span>
@@ -34,7 +34,7 @@ struct RowRule {
     std::span<const KeyRule> keys;
 };
 
-// Above the tables: version and date.
+// Above the tables: version, date and mic.
 std::span<const KeyRule> top_rules();
 // Bonds, dealers and investors, in this order.
 std::span<const RowRule> row_rules();

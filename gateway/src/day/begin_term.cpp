@@ -1,7 +1,7 @@
-#include "begin_day.h"
+#include "day/begin_term.h"
 
-#include "follower.h"
-#include "log_watch.h"
+#include "recovery/follower.h"
+#include "recovery/log_watch.h"
 
 #include <optional>
 
@@ -22,7 +22,7 @@ bool wait_for_log(VenueDay &day, const std::function<bool()> &may,
 
 } // namespace
 
-std::unique_ptr<Speaker> begin_day(VenueDay &day, Engine &engine, const std::function<bool()> &may,
+std::unique_ptr<Leader> begin_term(VenueDay &day, Engine &engine, const std::function<bool()> &may,
                                    const std::function<void()> &follows) {
     std::optional<std::uint32_t> term;
     if (!wait_for_log(day, may, term)) {
@@ -39,7 +39,7 @@ std::unique_ptr<Speaker> begin_day(VenueDay &day, Engine &engine, const std::fun
     day.has_term = true;
     day.metrics.speaks();
     const auto end = follower->catch_up();
-    return end ? std::make_unique<Speaker>(day, std::move(follower), *end, *term, engine) : nullptr;
+    return end ? std::make_unique<Leader>(day, std::move(follower), *end, *term, engine) : nullptr;
 }
 
 } // namespace gateway

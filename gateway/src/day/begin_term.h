@@ -1,8 +1,8 @@
 // From the start of a gateway to its term on a venue's log.
-#ifndef GATEWAY_BEGIN_DAY_H
-#define GATEWAY_BEGIN_DAY_H
+#ifndef GATEWAY_DAY_BEGIN_TERM_H
+#define GATEWAY_DAY_BEGIN_TERM_H
 
-#include "speaker.h"
+#include "day/leader.h"
 
 #include <functional>
 #include <memory>
@@ -13,7 +13,7 @@ namespace gateway {
 // and all of the log is answered and agrees; null where the gateway is to stop. It takes over where
 // `may` says so; `follows` is called where another gateway speaks first. Throws std::runtime_error
 // where the log can't be gone on with, or the venue gives something else than it says was sent.
-std::unique_ptr<Speaker> begin_day(
+std::unique_ptr<Leader> begin_term(
     VenueDay &day, Engine &engine, const std::function<bool()> &may,
     const std::function<void()> &follows = [] {});
 

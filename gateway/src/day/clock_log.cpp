@@ -1,6 +1,6 @@
-#include "clock_log.h"
+#include "day/clock_log.h"
 
-#include "notes.h"
+#include "log/notes.h"
 
 namespace gateway {
 

@@ -1,9 +1,9 @@
 // Has the log say how the machine's clock was.
-#ifndef GATEWAY_CLOCK_LOG_H
-#define GATEWAY_CLOCK_LOG_H
+#ifndef GATEWAY_DAY_CLOCK_LOG_H
+#define GATEWAY_DAY_CLOCK_LOG_H
 
-#include "clock_watch.h"
-#include "log.h"
+#include "health/clock_watch.h"
+#include "log/log.h"
 
 #include <chrono>
 #include <optional>

@@ -1,8 +1,8 @@
-#include "gateway.h"
+#include "day/gateway.h"
 
-#include "begin_day.h"
-#include "certificate_end.h"
-#include "version.h"
+#include "common/version.h"
+#include "day/begin_term.h"
+#include "health/certificate_end.h"
 
 #include <algorithm>
 #include <future>
@@ -22,8 +22,8 @@ Gateway::Gateway(std::filesystem::path path, std::vector<Config> configs,
             std::make_unique<VenueDay>(config, metrics_, status_, events_, engine_events_, hours_));
     }
     engine_events_.tell_strangers_to([this](const ConnectionFacts &facts, const std::string &why) {
-        for (const auto &speaker : speakers_) {
-            speaker->put_stranger(facts, why);
+        for (const auto &leader : leaders_) {
+            leader->put_stranger(facts, why);
         }
     });
 }
@@ -33,7 +33,7 @@ Gateway::~Gateway() {
     open(false);
     status_.end();
     engine_.stop("");
-    speakers_.clear();
+    leaders_.clear();
 }
 
 void Gateway::start(ListeningPort port) {
@@ -50,21 +50,21 @@ void Gateway::start(ListeningPort port) {
 // Each venue's log on a thread of its own. The logs are taken over one after the other, so that
 // of two gateways that begin at once one speaks for all.
 void Gateway::follow() {
-    std::vector<std::future<std::unique_ptr<Speaker>>> days;
+    std::vector<std::future<std::unique_ptr<Leader>>> days;
     for (std::size_t at = 0; at < days_.size(); ++at) {
         days.push_back(std::async(std::launch::async, [this, at] { return follow_one(at); }));
     }
     for (auto &day : days) {
-        if (auto speaker = day.get()) {
-            speakers_.push_back(std::move(speaker));
+        if (auto leader = day.get()) {
+            leaders_.push_back(std::move(leader));
         }
     }
 }
 
 // Null where the gateway is to stop.
-std::unique_ptr<Speaker> Gateway::follow_one(std::size_t at) {
+std::unique_ptr<Leader> Gateway::follow_one(std::size_t at) {
     try {
-        return begin_day(
+        return begin_term(
             *days_[at], engine_, [this, at] { return at == 0 || days_[at - 1]->has_term; },
             [this] { close_port(); });
     } catch (const LogNotAccepted &fault) {
@@ -86,11 +86,11 @@ void Gateway::close_port() {
 }
 
 void Gateway::listen() {
-    for (const auto &speaker : speakers_) {
-        engine_.add(speaker->session_starts());
+    for (const auto &leader : leaders_) {
+        engine_.add(leader->session_starts());
     }
-    for (const auto &speaker : speakers_) {
-        speaker->start();
+    for (const auto &leader : leaders_) {
+        leader->start();
     }
     if (status_.stopping().stop_requested() || ends_day()) {
         return;
@@ -123,8 +123,8 @@ void Gateway::renew() {
         }
         engine_.renew(read.front().engine);
         count_certificates(read.front().engine);
-        for (std::size_t at = 0; at < speakers_.size(); ++at) {
-            speakers_[at]->renew(read[at].credentials);
+        for (std::size_t at = 0; at < leaders_.size(); ++at) {
+            leaders_[at]->renew(read[at].credentials);
         }
         events_->info("credentials and certificates were read again");
         tell_renewed("");
@@ -149,6 +149,10 @@ std::optional<std::string> Gateway::renew_within(std::chrono::milliseconds longe
     return is_done ? std::optional(renewal_fault_) : std::nullopt;
 }
 
+std::vector<std::string> Gateway::unknown_firms() const {
+    return gateway::unknown_firms(path_, configs_);
+}
+
 void Gateway::count_certificates(const EngineSettings &settings) {
     for (const std::string &file : {settings.certificate, settings.authorities}) {
         if (const auto end = file.empty() ? std::nullopt : end_of_certificates(file)) {
@@ -171,10 +175,18 @@ std::vector<std::string> Gateway::halts() const {
                                         "set: mireseason-admin clock accept",
                                         venue));
         }
+    }
+    return lines;
+}
+
+std::vector<std::string> Gateway::not_taken() const {
+    std::vector<std::string> lines = halts();
+    for (const auto &day : days_) {
         if (day->reserve.is_reached()) {
-            lines.push_back(fmt::format("no request and no quote is taken{}, until there is room "
-                                        "on the log's disk",
-                                        venue));
+            lines.push_back(
+                fmt::format("no request and no quote is taken{}, until there is room "
+                            "on the log's disk",
+                            day->config.venue.empty() ? "" : " of " + day->config.venue));
         }
     }
     return lines;
@@ -193,19 +205,28 @@ void Gateway::ask_to_stop(const std::string &why) {
     status_.ask_to_stop(why);
 }
 
+bool Gateway::has_day_come_to_its_end() const {
+    return hours_ ? std::chrono::system_clock::now() >= hours_->ends
+                  : std::ranges::any_of(days_, [](const auto &day) {
+                        return day->clock.day() == DayClock::Day::over;
+                    });
+}
+
+bool Gateway::has_operator_ended_it() {
+    return !leaders_.empty() && std::ranges::all_of(leaders_, [](const auto &leader) {
+        return leader->has_operator_ended();
+    });
+}
+
 // Asks for the end where the day has come to it, or an operator has ended it: once what is due by
 // now was told, and before the sessions are logged out. Whether it has.
 bool Gateway::ends_day() {
-    const bool has_come = hours_ && std::chrono::system_clock::now() >= hours_->ends;
-    const bool is_ordered =
-        !speakers_.empty() && std::ranges::all_of(speakers_, [](const auto &speaker) {
-            return speaker->has_operator_ended();
-        });
-    if (!has_come && !is_ordered) {
+    const bool has_come = hours_ && has_day_come_to_its_end();
+    if (!has_come && !has_operator_ended_it()) {
         return false;
     }
-    for (const auto &speaker : speakers_) {
-        speaker->end_requests();
+    for (const auto &leader : leaders_) {
+        leader->end_requests();
     }
     status_.ask_to_stop(has_come ? "the day has ended" : "the operator has ended the day");
     return true;
@@ -220,8 +241,8 @@ std::optional<std::string> Gateway::run() {
             renew();
         }
         engine_events_.tell_rest();
-        for (const auto &speaker : speakers_) {
-            speaker->look();
+        for (const auto &leader : leaders_) {
+            leader->look();
         }
     }
     open(false);
@@ -232,13 +253,14 @@ std::optional<std::string> Gateway::run() {
     events_->info("stop cause=\"{}\"", status_.why());
     engine_.stop(status_.why());
     engine_events_.tell_last_rest();
-    for (const auto &speaker : speakers_) {
-        speaker->finish();
+    for (const auto &leader : leaders_) {
+        leader->finish();
     }
     // Only now: until then each of several may fail.
     status_.end();
-    for (const auto &speaker : speakers_) {
-        speaker->end();
+    const bool is_end_of_day = has_day_come_to_its_end() || has_operator_ended_it();
+    for (const auto &leader : leaders_) {
+        leader->end(is_end_of_day);
     }
     return status_.failure();
 }

@@ -1,15 +1,15 @@
 // The gateway of one day: sessions in front, the log and the venue behind.
-#ifndef GATEWAY_GATEWAY_H
-#define GATEWAY_GATEWAY_H
+#ifndef GATEWAY_DAY_GATEWAY_H
+#define GATEWAY_DAY_GATEWAY_H
 
-#include "config.h"
-#include "engine.h"
-#include "listening_port.h"
-#include "metrics.h"
-#include "operator_events.h"
-#include "speaker.h"
-#include "status.h"
-#include "venue_day.h"
+#include "config/config.h"
+#include "day/leader.h"
+#include "health/metrics.h"
+#include "health/operator_events.h"
+#include "health/status.h"
+#include "session/engine.h"
+#include "session/listening_port.h"
+#include "venue/venue_day.h"
 
 #include <atomic>
 #include <chrono>
@@ -54,12 +54,15 @@ class Gateway final {
     // The same, and waits for it so long at most. What is at fault in the files, empty where
     // nothing is; nothing where it was not done in time.
     std::optional<std::string> renew_within(std::chrono::milliseconds longest);
+    // The firms of the credentials' file that the day has not. Throws std::runtime_error where it
+    // is at fault.
+    std::vector<std::string> unknown_firms() const;
 
     // For an operator's commands; of any thread. As long as the lock is kept a day that is open
-    // stays so. The speakers are to be had while it is.
+    // stays so. The leaders are to be had while it is.
     std::shared_lock<std::shared_mutex> keep() { return std::shared_lock(open_mutex_); }
     bool is_open() const { return is_open_; }
-    const std::vector<std::unique_ptr<Speaker>> &speakers() const { return speakers_; }
+    const std::vector<std::unique_ptr<Leader>> &leaders() const { return leaders_; }
     const std::vector<Config> &configs() const { return configs_; }
     // The venues whose log was not accepted, by their place among the configurations; once it has
     // ended.
@@ -75,9 +78,11 @@ class Gateway final {
     std::optional<std::string> run();
     // What it does now, and the part that has been silent longest; of any thread.
     Phase phase() const { return status_.phase(); }
-    std::optional<Pulse::Silent> silent() { return status_.pulse().longest(); }
-    // What is halted, a line each; of any thread.
+    std::optional<Liveness::Silent> silent() { return status_.liveness().longest(); }
+    // What an operator has halted, or keeps halted with the clock, a line each; of any thread.
     std::vector<std::string> halts() const;
+    // The same, and where the log's disk has no room: it asks the disk, which may keep it waiting.
+    std::vector<std::string> not_taken() const;
     // Requests that are open now, of all venues; of any thread.
     std::vector<OpenRequests::Open> open_requests() const;
     // Of the process, after run().
@@ -85,8 +90,10 @@ class Gateway final {
 
   private:
     bool ends_day();
+    bool has_day_come_to_its_end() const;
+    bool has_operator_ended_it();
     void follow();
-    std::unique_ptr<Speaker> follow_one(std::size_t at);
+    std::unique_ptr<Leader> follow_one(std::size_t at);
     void listen();
     void close_port();
     void open(bool is_open);
@@ -103,7 +110,7 @@ class Gateway final {
     OperatorEvents engine_events_;
     Engine engine_;
     std::vector<std::unique_ptr<VenueDay>> days_;
-    std::vector<std::unique_ptr<Speaker>> speakers_; // of the days, once it has their terms
+    std::vector<std::unique_ptr<Leader>> leaders_; // of the days, once it has their terms
     std::atomic<bool> is_to_renew_{false};
 
     std::mutex mutex_; // over the next five; no other is taken under it

@@ -1,18 +1,18 @@
 // The gateway that writes a venue's log and has its firms' sessions.
-#ifndef GATEWAY_SPEAKER_H
-#define GATEWAY_SPEAKER_H
+#ifndef GATEWAY_DAY_LEADER_H
+#define GATEWAY_DAY_LEADER_H
 
-#include "clock_log.h"
-#include "deliveries.h"
-#include "engine.h"
-#include "firm_orders.h"
-#include "firm_sessions.h"
-#include "follower.h"
-#include "log.h"
-#include "notary.h"
-#include "silence.h"
-#include "sweeper.h"
-#include "venue_day.h"
+#include "day/clock_log.h"
+#include "day/sweeper.h"
+#include "firms/deliveries.h"
+#include "firms/firm_sessions.h"
+#include "firms/session_commands.h"
+#include "health/silence.h"
+#include "log/checkpoint_signer.h"
+#include "log/log.h"
+#include "recovery/follower.h"
+#include "session/engine.h"
+#include "venue/venue_day.h"
 
 #include <chrono>
 #include <cstdint>
@@ -26,16 +26,16 @@ namespace gateway {
 
 // Exists only with a term, in which nobody else writes. It is a Follower that goes on: what it
 // commits is fed to the venue, and what the venue gives goes to the sessions.
-class Speaker final {
+class Leader final {
   public:
     // Opens the log in this term, at its end. The engine is given the sessions before start().
     // Throws std::runtime_error where the log can't be gone on with.
-    Speaker(VenueDay &day, std::unique_ptr<Follower> follower, const Follower::End &end,
-            std::uint32_t term, Engine &engine);
+    Leader(VenueDay &day, std::unique_ptr<Follower> follower, const Follower::End &end,
+           std::uint32_t term, Engine &engine);
     // Ends the venue's process, and commits what waits. The engine has stopped.
-    ~Speaker();
-    Speaker(const Speaker &) = delete;
-    Speaker &operator=(const Speaker &) = delete;
+    ~Leader();
+    Leader(const Leader &) = delete;
+    Leader &operator=(const Leader &) = delete;
 
     // Where the firms' sessions begin.
     std::vector<SessionStart> session_starts() { return sessions_.starts(); }
@@ -51,8 +51,8 @@ class Speaker final {
     void end_requests();
     // Lets the venue answer what came, and hands that over.
     void finish();
-    // Ends the venue's process, and commits.
-    void end();
+    // Ends the venue's process, commits, and signs the end: of the day, or of this gateway alone.
+    void end(bool is_end_of_day);
 
     // Looks whether the day goes on, and whether the venue and the log answer; to be called each
     // second.
@@ -83,23 +83,25 @@ class Speaker final {
     void count();
     void wait_for_due();
 
-    Speaker(VenueDay &day, std::unique_ptr<Follower> follower, const Follower::End &end,
-            Log::Start start, Engine &engine);
+    Leader(VenueDay &day, std::unique_ptr<Follower> follower, const Follower::End &end,
+           Log::Start start, Engine &engine);
 
+    void forbid(const std::string &text);
     void send_held_back();
-    void take_note(const std::string &line);
+    void take_note(std::uint32_t place, const std::string &line);
     void take_order(const FirmOrdered &ordered);
+    void take_notes(const Follower::End &end);
     void carry_out(const FirmOrdered &ordered);
     void look_at_clock();
 
     VenueDay &day_;
     Engine &engine_;
     const std::unique_ptr<Follower> follower_;
-    const std::vector<ConnectionEvent> lost_; // connections that the log had open
-    FirmSessions sessions_;                   // outlives the log, which sets their limits
-    FirmOrders orders_;                       // likewise
+    const ConnectionState before_; // when this gateway began to speak
+    FirmSessions sessions_;        // outlives the log, which sets their limits
+    SessionCommands commands_;     // likewise
     Log log_;
-    const std::unique_ptr<Notary> notary_;
+    const std::unique_ptr<CheckpointSigner> signer_;
     Deliveries deliveries_;
     ClockLog clock_log_;
     Stall stall_;

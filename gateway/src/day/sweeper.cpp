@@ -1,4 +1,4 @@
-#include "sweeper.h"
+#include "day/sweeper.h"
 
 #include <algorithm>
 #include <chrono>
@@ -26,8 +26,8 @@ constexpr auto longest_hold = 500ms;
 
 } // namespace
 
-Sweeper::Sweeper(Answers &answers, Log &log, DayClock &clock)
-    : answers_(answers), log_(log), clock_(clock) {}
+Sweeper::Sweeper(VenueProgress &progress, Log &log, DayClock &clock)
+    : progress_(progress), log_(log), clock_(clock) {}
 
 Sweeper::~Sweeper() {
     stop();
@@ -46,10 +46,10 @@ void Sweeper::stop() {
 
 void Sweeper::run(const std::stop_token &stop) {
     try {
-        while (const auto next = answers_.wait_for_deadline(stop)) {
+        while (const auto next = progress_.wait_for_deadline(stop)) {
             const auto left = clock_.until(next->moment);
             if (left > 0ms) {
-                answers_.wait_for_other(next->moment, std::min(left, longest_sleep), stop);
+                progress_.wait_for_other(next->moment, std::min(left, longest_sleep), stop);
             } else {
                 sweep(*next, stop);
             }
@@ -59,12 +59,12 @@ void Sweeper::run(const std::stop_token &stop) {
     }
 }
 
-void Sweeper::sweep(Answers::Deadline due, const std::stop_token &stop) {
+void Sweeper::sweep(VenueProgress::Deadline due, const std::stop_token &stop) {
     const Moment moment = due.moment;
     const auto latest = std::chrono::steady_clock::now() + patience;
     while (!sweep_behind(due, stop)) {
-        answers_.wait_for_other(moment, look, stop);
-        const auto now_due = answers_.deadline();
+        progress_.wait_for_other(moment, look, stop);
+        const auto now_due = progress_.deadline();
         if (stop.stop_requested() || !now_due || now_due->moment != moment) {
             return;
         }
@@ -82,20 +82,20 @@ void Sweeper::sweep_held(Moment moment, const std::stop_token &stop) {
     std::optional<std::uint32_t> swept;
     {
         const Log::Hold hold(log_, moment);
-        answers_.wait(log_.last_place(), longest_hold, stop);
-        const auto due = answers_.deadline();
+        progress_.wait(log_.last_place(), longest_hold, stop);
+        const auto due = progress_.deadline();
         if (due && clock_.until(due->moment) <= 0ms) {
             swept = log_.append_clock_behind(due->place, due->moment);
         }
     }
     if (swept) {
-        answers_.wait(*swept, stop);
+        progress_.wait(*swept, stop);
     }
 }
 
-bool Sweeper::sweep_behind(const Answers::Deadline &due, const std::stop_token &stop) {
+bool Sweeper::sweep_behind(const VenueProgress::Deadline &due, const std::stop_token &stop) {
     const auto swept = log_.append_clock_behind(due.place, due.moment);
-    return swept && (answers_.wait(*swept, stop), true);
+    return swept && (progress_.wait(*swept, stop), true);
 }
 
 } // namespace gateway

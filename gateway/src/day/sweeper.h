@@ -1,10 +1,10 @@
 // The thread that has the venue's clock told of its deadlines.
-#ifndef GATEWAY_SWEEPER_H
-#define GATEWAY_SWEEPER_H
+#ifndef GATEWAY_DAY_SWEEPER_H
+#define GATEWAY_DAY_SWEEPER_H
 
-#include "answers.h"
-#include "log.h"
-#include "moment.h"
+#include "common/moment.h"
+#include "log/log.h"
+#include "venue/venue_progress.h"
 
 #include <stop_token>
 #include <thread>
@@ -16,7 +16,7 @@ namespace gateway {
 // until the venue has answered those before. So no sweep is committed for which nothing is due.
 class Sweeper {
   public:
-    Sweeper(Answers &answers, Log &log, DayClock &clock);
+    Sweeper(VenueProgress &progress, Log &log, DayClock &clock);
     ~Sweeper();
     Sweeper(const Sweeper &) = delete;
     Sweeper &operator=(const Sweeper &) = delete;
@@ -28,12 +28,12 @@ class Sweeper {
 
   private:
     void run(const std::stop_token &stop);
-    void sweep(Answers::Deadline due, const std::stop_token &stop);
+    void sweep(VenueProgress::Deadline due, const std::stop_token &stop);
     // Whether it was committed; then it is answered.
-    bool sweep_behind(const Answers::Deadline &due, const std::stop_token &stop);
+    bool sweep_behind(const VenueProgress::Deadline &due, const std::stop_token &stop);
     void sweep_held(Moment moment, const std::stop_token &stop);
 
-    Answers &answers_;
+    VenueProgress &progress_;
     Log &log_;
     DayClock &clock_;
     std::jthread thread_;

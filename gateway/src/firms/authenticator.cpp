@@ -1,6 +1,6 @@
-#include "doorkeeper.h"
+#include "firms/authenticator.h"
 
-#include "password.h"
+#include "common/password.h"
 
 #include <algorithm>
 #include <utility>
@@ -22,11 +22,12 @@ bool may_come_from(const Credentials &own, const std::string &address) {
                                [&](const AddressRange &range) { return range.has(address); });
 }
 
-Doorkeeper::Doorkeeper(const Config &config)
+Authenticator::Authenticator(const Config &config)
     : firms_(config.firms), client_certificates_(config.engine.client_certificates),
-      book_(std::make_shared<Book>(book_of(config.credentials))) {}
+      certified_(config), book_(std::make_shared<Book>(book_of(config.credentials))) {}
 
-Doorkeeper::Book Doorkeeper::book_of(const std::map<std::string, Credentials> &credentials) const {
+Authenticator::Book
+Authenticator::book_of(const std::map<std::string, Credentials> &credentials) const {
     Book book;
     for (const auto &[name, own] : credentials) {
         if (std::ranges::count(firms_.names, name) == 0) {
@@ -35,6 +36,9 @@ Doorkeeper::Book Doorkeeper::book_of(const std::map<std::string, Credentials> &c
         book.credentials.emplace(name, own);
         book.hashes.emplace(setting_of(own.password_hash), own.password_hash);
         book.is_open = book.is_open || own.addresses.empty();
+        if (!certified_.keeps_out(name, own).empty()) {
+            book.uncertified.insert(name);
+        }
     }
     if (book.hashes.empty()) {
         const std::string hash = new_hash("");
@@ -43,27 +47,32 @@ Doorkeeper::Book Doorkeeper::book_of(const std::map<std::string, Credentials> &c
     return book;
 }
 
-std::shared_ptr<const Doorkeeper::Book> Doorkeeper::book() const {
+std::shared_ptr<const Authenticator::Book> Authenticator::book() const {
     const std::lock_guard lock(mutex_);
     return book_;
 }
 
-std::vector<std::string> Doorkeeper::renew(const std::map<std::string, Credentials> &credentials) {
+std::vector<std::string>
+Authenticator::renew(const std::map<std::string, Credentials> &credentials) {
     Book read = book_of(credentials);
     read.reading = readings() + 1;
-    const auto renewed = std::make_shared<const Book>(std::move(read));
-    std::shared_ptr<const Book> old = renewed;
+    std::shared_ptr<const Book> renewed;
+    std::shared_ptr<const Book> old;
     {
         const std::lock_guard lock(mutex_);
-        old.swap(book_);
+        for (const std::string &firm : admitted_) {
+            read.uncertified.erase(firm);
+        }
+        renewed = std::make_shared<const Book>(std::move(read));
+        old = std::exchange(book_, renewed);
     }
     std::vector<std::string> gone;
     for (const auto &[name, before] : old->credentials) {
         const auto now = renewed->credentials.find(name);
-        const bool stands = now != renewed->credentials.end() &&
-                            now->second.username == before.username &&
-                            now->second.password_hash == before.password_hash &&
-                            !have_ended(now->second, firms_.date);
+        const bool stands =
+            now != renewed->credentials.end() && now->second.username == before.username &&
+            now->second.password_hash == before.password_hash &&
+            !have_ended(now->second, firms_.date) && !renewed->uncertified.contains(name);
         if (!stands) {
             gone.push_back(name);
         }
@@ -71,10 +80,18 @@ std::vector<std::string> Doorkeeper::renew(const std::map<std::string, Credentia
     return gone;
 }
 
+void Authenticator::admit(const std::string &firm) {
+    const std::lock_guard lock(mutex_);
+    admitted_.insert(firm);
+    Book with = *book_;
+    with.uncertified.erase(firm);
+    book_ = std::make_shared<const Book>(std::move(with));
+}
+
 // One hash of each method and cost that any firm has: so it takes as long for every name, also one
 // that nobody has. own is null where there is none to be right.
-bool Doorkeeper::has_password(const Credentials *own, const std::string &password,
-                              const Book &book) {
+bool Authenticator::has_password(const Credentials *own, const std::string &password,
+                                 const Book &book) {
     const std::string none;
     const std::string &right = own != nullptr ? own->password_hash : none;
     bool is_right = false;
@@ -86,7 +103,7 @@ bool Doorkeeper::has_password(const Credentials *own, const std::string &passwor
     return is_right;
 }
 
-Refusal Doorkeeper::judge(const LogonFacts &facts) {
+Refusal Authenticator::judge(const LogonFacts &facts) {
     const Refusal refusal = judge(facts, *book());
     // Whatever is at fault: what the next Logon of the address waits for tells nobody which. With
     // another's certificate, too, whoever guesses a password does not learn that it is right.
@@ -96,7 +113,7 @@ Refusal Doorkeeper::judge(const LogonFacts &facts) {
     return refusal;
 }
 
-Refusal Doorkeeper::judge(const LogonFacts &facts, const Book &book) const {
+Refusal Authenticator::judge(const LogonFacts &facts, const Book &book) const {
     const auto found = book.credentials.find(facts.firm);
     const Credentials *const own = found == book.credentials.end() ? nullptr : &found->second;
     const bool is_right = has_password(own, facts.password, book);
@@ -118,11 +135,14 @@ Refusal Doorkeeper::judge(const LogonFacts &facts, const Book &book) const {
     if (have_ended(*own, firms_.date)) {
         return Refusal::no_longer;
     }
+    if (book.uncertified.contains(facts.firm)) {
+        return Refusal::not_certified;
+    }
     const bool shows_another = client_certificates_ && facts.certificate != facts.firm;
     return shows_another ? Refusal::wrong_certificate : Refusal::none;
 }
 
-std::chrono::steady_clock::time_point Doorkeeper::judges_from(const std::string &address) {
+std::chrono::steady_clock::time_point Authenticator::judges_from(const std::string &address) {
     const auto now = book();
     const bool may = now->is_open || std::ranges::any_of(now->credentials, [&](const auto &each) {
                          return may_come_from(each.second, address);

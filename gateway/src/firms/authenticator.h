@@ -1,16 +1,17 @@
 // Whether the sender of a Logon is who it says.
-#ifndef GATEWAY_DOORKEEPER_H
-#define GATEWAY_DOORKEEPER_H
+#ifndef GATEWAY_FIRMS_AUTHENTICATOR_H
+#define GATEWAY_FIRMS_AUTHENTICATOR_H
 
-#include "config.h"
-#include "engine.h"
-#include "guesses.h"
+#include "config/certified_firms.h"
+#include "firms/password_guesses.h"
+#include "session/connection_facts.h"
 
 #include <chrono>
 #include <cstdint>
 #include <map>
 #include <memory>
 #include <mutex>
+#include <set>
 #include <string>
 #include <vector>
 
@@ -20,9 +21,9 @@ namespace gateway {
 bool may_come_from(const Credentials &own, const std::string &address);
 
 // Any thread may ask. The credentials may be changed meanwhile.
-class Doorkeeper {
+class Authenticator {
   public:
-    explicit Doorkeeper(const Config &config);
+    explicit Authenticator(const Config &config);
 
     // Takes as long for every name, known or not, and whatever is wrong: the password is hashed in
     // any case.
@@ -41,11 +42,17 @@ class Doorkeeper {
     // time is over: what was let in by the old ones is to go.
     std::vector<std::string> renew(const std::map<std::string, Credentials> &credentials);
 
+    // An operator has admitted a report of the firm: for this day, whatever its credentials have.
+    void admit(const std::string &firm);
+    // Whether the firm lacks an admitted report that it needs.
+    bool lacks_report(const std::string &firm) const { return book()->uncertified.contains(firm); }
+
   private:
     // What is asked of credentials, of one reading of them.
     struct Book {
         std::map<std::string, Credentials> credentials; // of firms of the venue
         std::map<std::string, std::string> hashes;      // of each setting, one that has it
+        std::set<std::string> uncertified;              // those without a report that they need
         bool is_open = false;                           // some firm may come from any address
         std::uint64_t reading = 0;
     };
@@ -57,10 +64,12 @@ class Doorkeeper {
 
     const VenueFirms firms_;
     const bool client_certificates_;
-    Guesses guesses_;
+    const CertifiedFirms certified_;
+    PasswordGuesses guesses_;
 
     mutable std::mutex mutex_;
     std::shared_ptr<const Book> book_;
+    std::set<std::string> admitted_; // today
 };
 
 } // namespace gateway

@@ -1,6 +1,6 @@
-#include "business.h"
+#include "firms/business_rejects.h"
 
-#include "frame.h"
+#include "common/frame.h"
 
 #include <algorithm>
 #include <array>
@@ -101,7 +101,7 @@ bool is_type_of_fix(std::string_view type) {
 // A request whose notice would come when the day has ended, or that comes when it closes.
 std::optional<NotTaken> why_no_request(const VenueDay &day, const Sender &sender,
                                        const Business &business) {
-    if (day.ordered_end.is_ordered()) {
+    if (day.ordered_end.announced() != DayEnd::as_configured) {
         return not_available(operator_ends_day);
     }
     if (!day.hours) {
@@ -177,7 +177,7 @@ std::optional<NotTaken> why_not_taken(const VenueDay &day, const Sender &sender,
     if (day.halts.has(bond_of(day, sender.firm, business))) {
         return not_available(bond_is_halted);
     }
-    if (business.kind == Business::Kind::hit && day.ordered_end.end() == DayEnd::now) {
+    if (business.kind == Business::Kind::hit && day.ordered_end.announced() == DayEnd::now) {
         return not_available(day_has_ended);
     }
     if (business.kind == Business::Kind::hit) {

@@ -1,9 +1,9 @@
 // What the gateway does not take: a message of a type that the venue does not have, and at times
 // one that begins something.
-#ifndef GATEWAY_BUSINESS_H
-#define GATEWAY_BUSINESS_H
+#ifndef GATEWAY_FIRMS_BUSINESS_REJECTS_H
+#define GATEWAY_FIRMS_BUSINESS_REJECTS_H
 
-#include "venue_day.h"
+#include "venue/venue_day.h"
 
 #include <chrono>
 #include <cstdint>
@@ -44,7 +44,7 @@ struct NotTaken {
 // end.
 bool is_unsupported(std::string_view type);
 NotTaken not_supported();
-// Of what ends something, where the firm's spare bytes are used up.
+// Of what ends something, where the firm's rate at its limit is used up.
 NotTaken too_much_is_taken_back();
 
 // Nothing where it is. A hit is stopped by a halt alone: the request that it ends is open already.

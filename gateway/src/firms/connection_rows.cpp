@@ -1,6 +1,7 @@
-#include "connection_rows.h"
+#include "firms/connection_rows.h"
 
-#include "printable.h"
+#include "base/printable.h"
+#include "session/refusal_words.h"
 
 #include <exception>
 #include <utility>
@@ -56,7 +57,11 @@ void ConnectionRows::put_refused(const std::string &firm, const ConnectionFacts 
     ConnectionEvent row = event_of(connection_events::refused, facts);
     row.firm = firm;
     row.why = why;
-    put_limited(std::move(row));
+    if (why == refusal_words::lost_store) {
+        put_if_taken(std::move(row));
+    } else {
+        put_limited(std::move(row));
+    }
 }
 
 void ConnectionRows::put_stranger(const ConnectionFacts &facts, const std::string &why) {

@@ -1,11 +1,11 @@
 // What the log is told of connections: Logons, ends, and who was refused.
-#ifndef GATEWAY_CONNECTION_ROWS_H
-#define GATEWAY_CONNECTION_ROWS_H
+#ifndef GATEWAY_FIRMS_CONNECTION_ROWS_H
+#define GATEWAY_FIRMS_CONNECTION_ROWS_H
 
-#include "engine.h"
-#include "limiter.h"
-#include "log.h"
-#include "venue_day.h"
+#include "base/limiter.h"
+#include "log/log.h"
+#include "session/connection_facts.h"
+#include "venue/venue_day.h"
 
 #include <string>
 #include <vector>
@@ -22,7 +22,8 @@ class ConnectionRows {
     // The end of that connection, which the operator is told too.
     void put_end(const ConnectionEvent &logon, const std::string &why);
     // A Logon in a firm's name that was refused, and a stranger: as often as their rows may be.
-    // Whoever connects may have these called.
+    // Whoever connects may have these called. The Logon of an engine that has lost its store has a
+    // row always: a start goes by it, and an operator has to act before the firm's next one.
     void put_refused(const std::string &firm, const ConnectionFacts &facts, const std::string &why);
     void put_stranger(const ConnectionFacts &facts, const std::string &why);
     // How many rows were left out of which none came for a while; to be called each second.

@@ -1,6 +1,6 @@
 // How many bytes of a day's log are one firm's, and how many may be.
-#ifndef GATEWAY_DAY_BYTES_H
-#define GATEWAY_DAY_BYTES_H
+#ifndef GATEWAY_FIRMS_DAY_BYTES_H
+#define GATEWAY_FIRMS_DAY_BYTES_H
 
 #include <atomic>
 #include <cstdint>

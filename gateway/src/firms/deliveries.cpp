@@ -1,4 +1,6 @@
-#include "deliveries.h"
+#include "firms/deliveries.h"
+
+#include "session/session_names.h"
 
 #include <stdexcept>
 #include <utility>
@@ -42,14 +44,6 @@ void Deliveries::pauses() {
 
 void Deliveries::answered(std::uint32_t place) {
     log_.answered(place);
-}
-
-// No firm is waited for: what its mailbox has not handed over is given again.
-void Deliveries::begins_again() {
-    for (auto &[firm, mailbox] : mailboxes_) {
-        mailbox.begin_again();
-    }
-    log_.flush();
 }
 
 void Deliveries::wait_until_handed_over() {

@@ -1,12 +1,12 @@
 // The venue's messages on their way to the firms' sessions.
-#ifndef GATEWAY_DELIVERIES_H
-#define GATEWAY_DELIVERIES_H
+#ifndef GATEWAY_FIRMS_DELIVERIES_H
+#define GATEWAY_FIRMS_DELIVERIES_H
 
-#include "engine.h"
-#include "log.h"
-#include "mailbox.h"
-#include "outlet.h"
-#include "venue_day.h"
+#include "firms/mailbox.h"
+#include "log/log.h"
+#include "session/engine.h"
+#include "venue/message_sink.h"
+#include "venue/venue_day.h"
 
 #include <map>
 #include <string>
@@ -14,20 +14,19 @@
 namespace gateway {
 
 // A mailbox for each firm.
-class Deliveries final : public Outlet {
+class Deliveries final : public MessageSink {
   public:
     // The engine has a session for each firm before the first message is taken.
     Deliveries(VenueDay &day, Engine &engine, Log &log);
     Deliveries(const Deliveries &) = delete;
     Deliveries &operator=(const Deliveries &) = delete;
 
-    // Outlet. The first message after a pause, as a rule the answer to whoever waits for one, is
-    // handed over by this thread and before the others are put into their mailboxes: to wake their
-    // threads takes time. Throws std::runtime_error where there is no such firm.
+    // MessageSink. The first message after a pause, as a rule the answer to whoever waits for one,
+    // is handed over by this thread and before the others are put into their mailboxes: to wake
+    // their threads takes time. Throws std::runtime_error where there is no such firm.
     void take(Delivery delivery) override;
     void pauses() override;
     void answered(std::uint32_t place) override;
-    void begins_again() override;
 
     // Returns when the sessions have all that was taken; of any thread.
     void wait_until_handed_over();

@@ -1,9 +1,9 @@
 // The limits of one firm: what is configured, and what an operator has set in its place.
-#ifndef GATEWAY_FIRM_LIMITS_H
-#define GATEWAY_FIRM_LIMITS_H
+#ifndef GATEWAY_FIRMS_FIRM_LIMITS_H
+#define GATEWAY_FIRMS_FIRM_LIMITS_H
 
-#include "day_bytes.h"
-#include "firm_rate.h"
+#include "firms/day_bytes.h"
+#include "firms/firm_rate.h"
 
 #include <array>
 #include <cstdint>

@@ -1,22 +1,13 @@
 // What one firm may send, and have sent again.
-#ifndef GATEWAY_FIRM_RATE_H
-#define GATEWAY_FIRM_RATE_H
+#ifndef GATEWAY_FIRMS_FIRM_RATE_H
+#define GATEWAY_FIRMS_FIRM_RATE_H
 
-#include "rate.h"
+#include "common/rate.h"
+#include "config/rate_limits.h"
 
 #include <mutex>
 
 namespace gateway {
-
-// As they are configured, for every firm the same.
-struct RateLimits {
-    std::size_t messages_per_second = 2000;
-    std::size_t messages_burst = 10000;
-    std::size_t bytes_per_second = 1048576;
-    std::size_t bytes_burst = 8388608;
-    std::size_t resends_per_second = 5000;
-    std::size_t resends_burst = 20000;
-};
 
 // Outlives the firm's connections, so that another connection is no way around it. Any thread may
 // call it.

@@ -1,8 +1,9 @@
-#include "firm_sessions.h"
+#include "firms/firm_sessions.h"
 
-#include "firm_row.h"
-#include "frame.h"
-#include "in_its_name.h"
+#include "common/frame.h"
+#include "config/firm_row.h"
+#include "firms/on_behalf.h"
+#include "session/session_names.h"
 
 #include <algorithm>
 #include <stdexcept>
@@ -13,25 +14,16 @@ namespace gateway {
 
 namespace {
 
-// An entry counts its message, whether its session's row was committed after it or not; and what is
-// kept has its number.
-SessionNumbers numbers_of(const FirmState &state) {
-    SessionNumbers numbers = state.session.numbers;
-    numbers.expected = std::max(numbers.expected, state.last_number + 1);
-    numbers.was_taken = numbers.was_taken || state.last_number > 0;
-    numbers.next = std::max(numbers.next, state.kept + 1);
-    return numbers;
-}
-
 // Else it was refused before the day opened, and perhaps the venue has it no more.
 bool has_begun(const FirmState &state) {
-    return state.entries > 0 || state.sent > 0 || state.kept > 0 || state.session.logged_on;
+    const SessionNumbers &numbers = state.session.numbers;
+    return state.entries > 0 || state.given > 0 || numbers.last_kept > 0 || numbers.last_logon > 0;
 }
 
 } // namespace
 
 FirmSessions::FirmSessions(VenueDay &day, Log &log, const States &states)
-    : day_(day), log_(log), doorkeeper_(day.config), rows_(day, log) {
+    : day_(day), log_(log), authenticator_(day.config), rows_(day, log) {
     open_firms(states);
     for (const auto &[name, state] : states) {
         if (!firms_.contains(name) && has_begun(state)) {
@@ -54,11 +46,12 @@ void FirmSessions::open_firms(const States &states) {
                          .first->second;
         firm.cancel_on_disconnect = own.cancel_on_disconnect;
         firm.entries = found.entries;
-        firm.numbers = numbers_of(found);
-        firm.was_left = found.session.logged_on;
+        firm.numbers = found.session.numbers;
         firm.epoch = found.session.epoch;
         firm.entries_from = found.session.entries_from;
-        if (found.kept > 0) {
+        firm.given = found.given;
+        firm.given_hash = day_.spool.hash_of_given(name, found.given);
+        if (firm.numbers.last_kept > 0) {
             firm.rejects_from = 1;
         }
     }
@@ -90,21 +83,22 @@ SessionStart FirmSessions::start_of(const std::string &name, const Firm &firm) {
     return start;
 }
 
+// What the log has of a connection's end comes behind the cancel: a start that is killed in between
+// is followed by one that cancels again.
 void FirmSessions::end_lost(const std::vector<ConnectionEvent> &connections) {
     for (const ConnectionEvent &logon : connections) {
-        rows_.put_end(logon, "its gateway was gone");
-    }
-    for (auto &[name, firm] : firms_) {
-        if (firm.was_left) {
-            cancel_all_of(name, firm);
-            put_not_left(name, firm);
+        const auto left = firms_.find(logon.firm.value_or(""));
+        if (left != firms_.end()) {
+            cancel_all_of(left->first, left->second);
+            put_not_left(left->first, left->second);
         }
+        rows_.put_end(logon, "its gateway was gone");
     }
 }
 
 std::vector<std::string>
 FirmSessions::renew(const std::map<std::string, Credentials> &credentials) {
-    std::vector<std::string> gone = doorkeeper_.renew(credentials);
+    std::vector<std::string> gone = authenticator_.renew(credentials);
     for (auto &[name, firm] : firms_) {
         const auto own = credentials.find(name);
         if (own == credentials.end()) {
@@ -148,7 +142,8 @@ std::vector<FirmSessions::Facts> FirmSessions::facts() {
         facts.set = firm.limits.all_set();
         facts.limits = firm.limits.all();
         facts.entries = firm.entries;
-        facts.is_suspended = firm.is_suspended;
+        facts.is_suspended = firm.is_suspended();
+        facts.lacks_report = authenticator_.lacks_report(name);
         const std::lock_guard lock(firm.seen_mutex);
         facts.since = firm.since;
         facts.address = firm.address;
@@ -161,6 +156,12 @@ bool FirmSessions::are_between_messages() {
     return std::all_of(firms_.begin(), firms_.end(), [](auto &each) {
         return std::unique_lock(each.second.mutex, std::try_to_lock).owns_lock();
     });
+}
+
+void FirmSessions::finish_messages() {
+    for (auto &[name, firm] : firms_) {
+        const std::lock_guard lock(firm.mutex);
+    }
 }
 
 void FirmSessions::cancel_all_of(const std::string &name, Firm &firm) {
@@ -177,10 +178,20 @@ void FirmSessions::cancel_all_of(const std::string &name, Firm &firm) {
                       day_.of_venue());
 }
 
+void FirmSessions::announce_suspension(const std::string &name) {
+    ++firm_of(name).suspensions;
+}
+
+// Of those that were announced, one is committed; none was where the log has it from before.
 void FirmSessions::set_suspended(const std::string &name, bool is_suspended) {
     const auto found = firms_.find(name);
-    if (found != firms_.end()) {
-        found->second.is_suspended = is_suspended;
+    if (found == firms_.end()) {
+        return;
+    }
+    Firm &firm = found->second;
+    firm.was_suspended = is_suspended;
+    if (is_suspended && firm.suspensions > 0) {
+        --firm.suspensions;
     }
 }
 
@@ -214,13 +225,10 @@ std::vector<std::string> FirmSessions::ends_of(const FirmEnd &end, const Firm &f
     return passes;
 }
 
-// Who sent a quote stands in its entry (50).
 std::vector<std::string> FirmSessions::cancels_of(const FirmEnd &end, Author author) {
-    const auto log = day_.database->reader();
     std::vector<std::string> cancels;
     for (const LiveQuotes::Live &live : day_.live_quotes.of(end.firm)) {
-        const std::vector<Entry> found = log->entries(live.place, 1);
-        if (!found.empty() && value_in(frame_of_line(found.front().line), "50") == end.trader) {
+        if (live.trader == end.trader) {
             cancels.push_back(cancel_of(author, live.quote));
             ++author.number;
         }
@@ -239,7 +247,7 @@ Log::Ticket FirmSessions::put_act_with_end(const FirmEnd &end, const std::string
 // Of connections.
 
 Refusal FirmSessions::judge(const LogonFacts &facts) {
-    const Refusal refusal = doorkeeper_.judge(facts);
+    const Refusal refusal = authenticator_.judge(facts);
     if (refusal == Refusal::wrong_password) {
         day_.metrics.wrong_password(facts.firm);
         tell_of_guesses(facts);
@@ -249,7 +257,7 @@ Refusal FirmSessions::judge(const LogonFacts &facts) {
 
 // Each time that there are ten times as many.
 void FirmSessions::tell_of_guesses(const LogonFacts &facts) {
-    const std::size_t count = doorkeeper_.wrong_of(facts.address);
+    const std::size_t count = authenticator_.wrong_of(facts.address);
     std::size_t told = 10;
     while (told < count) {
         told *= 10;
@@ -261,7 +269,7 @@ void FirmSessions::tell_of_guesses(const LogonFacts &facts) {
 }
 
 FirmSessions::Time FirmSessions::judges_from(const std::string &address) {
-    return doorkeeper_.judges_from(address);
+    return authenticator_.judges_from(address);
 }
 
 std::uint32_t FirmSessions::logon_accepted(const std::string &name, const ConnectionFacts &facts) {
@@ -281,6 +289,11 @@ void FirmSessions::logon_refused(const std::string &firm, const ConnectionFacts 
                                  const std::string &why) {
     day_.told.logon_refused(firm, facts, why);
     rows_.put_refused(firm, facts, why);
+}
+
+void FirmSessions::may_have_lost_store(const std::string &name, const NumberClimb &climb) {
+    day_.told.may_have_lost_store(name, climb);
+    firm_of(name).metrics.may_have_lost_store(climb);
 }
 
 void FirmSessions::connection_ended(const std::string &name, std::uint32_t connection,
@@ -318,7 +331,7 @@ void FirmSessions::logged_off(const std::string &firm) {
 
 void FirmSessions::count_waiting(const Engine &engine) {
     for (auto &[name, firm] : firms_) {
-        firm.metrics.suspended(firm.is_suspended);
+        firm.metrics.suspended(firm.is_suspended());
         firm.metrics.waits(engine.waiting_bytes(session_name(day_.config.venue, name)));
     }
 }

@@ -1,22 +1,25 @@
 // What the firms' sessions need of their venue's day.
-#ifndef GATEWAY_FIRM_SESSIONS_H
-#define GATEWAY_FIRM_SESSIONS_H
+#ifndef GATEWAY_FIRMS_FIRM_SESSIONS_H
+#define GATEWAY_FIRMS_FIRM_SESSIONS_H
 
-#include "business.h"
-#include "connection_rows.h"
-#include "database.h"
-#include "doorkeeper.h"
-#include "engine.h"
-#include "firm_limits.h"
-#include "in_its_name.h"
-#include "log.h"
-#include "notes.h"
-#include "own_rows.h"
-#include "spare_bytes.h"
-#include "venue_day.h"
+#include "firms/authenticator.h"
+#include "firms/business_rejects.h"
+#include "firms/connection_rows.h"
+#include "firms/firm_limits.h"
+#include "firms/on_behalf.h"
+#include "firms/rate_at_limit.h"
+#include "firms/reply_rate.h"
+#include "log/database.h"
+#include "log/log.h"
+#include "log/notes.h"
+#include "log/session_note_line.h"
+#include "recovery/firm_state.h"
+#include "session/engine.h"
+#include "venue/venue_day.h"
 
 #include <atomic>
 #include <chrono>
+#include <functional>
 #include <map>
 #include <mutex>
 #include <optional>
@@ -38,8 +41,8 @@ class FirmSessions final : private SessionHost {
   public:
     using States = std::map<std::string, FirmState>;
 
-    // The states are those of the log. Throws std::runtime_error where it has a firm that the venue
-    // has not.
+    // The states are those that were recovered. Throws std::runtime_error where the log has a firm
+    // that the venue has not.
     FirmSessions(VenueDay &day, Log &log, const States &states);
     FirmSessions(const FirmSessions &) = delete;
     FirmSessions &operator=(const FirmSessions &) = delete;
@@ -47,7 +50,7 @@ class FirmSessions final : private SessionHost {
     // Where the sessions begin.
     std::vector<SessionStart> starts();
     // Ends what a gateway that has ended left behind: connections that have no end in the log, and
-    // sessions that were there.
+    // the sessions that were on them.
     void end_lost(const std::vector<ConnectionEvent> &connections);
 
     ConnectionRows &rows() { return rows_; }
@@ -61,9 +64,16 @@ class FirmSessions final : private SessionHost {
     // nothing for a firm that the venue has not.
     void set_limit(const LimitSet &set);
 
-    // By an operator, or no more: of the thread that commits the log. Nothing that the firm begins
-    // is taken from then on, also before its session has ended.
+    // A suspension is about to have its place in the log's order: nothing that the firm begins is
+    // taken from now on, also before its session has ended, and where one that stands before it
+    // there is ended meanwhile.
+    void announce_suspension(const std::string &firm);
+    // By an operator, or no more, as it is committed: of the thread that commits the log.
     void set_suspended(const std::string &firm, bool is_suspended);
+
+    // By an operator: of the thread that commits the log. Does nothing for a firm that the venue
+    // has not.
+    void admit(const std::string &firm) { authenticator_.admit(firm); }
 
     // As long as it is kept, no message of the firm comes into the log. What comes is judged by
     // what is set once it is given back.
@@ -88,11 +98,14 @@ class FirmSessions final : private SessionHost {
         std::map<std::string, std::uint64_t> limits; // all, by their names
         std::map<std::string, std::uint64_t> set;    // those that an operator has set
         bool is_suspended = false;
+        bool lacks_report = false; // that it needs
     };
     std::vector<Facts> facts();
     // Whether no message is being judged by what was set before: all that come into the log from
     // now on are judged by what is set now.
     bool are_between_messages();
+    // Returns when all that is being judged has its place in the log, or was denied.
+    void finish_messages();
     bool has_firm(const std::string &name) const { return firms_.contains(name); }
 
     // Other credentials from now on, with the limits in them. Returns the firms whose sessions are
@@ -110,16 +123,19 @@ class FirmSessions final : private SessionHost {
         FirmMetrics &metrics;
         std::atomic<bool> told_of_bytes{false};
         std::atomic<bool> told_of_spare{false};
-        std::atomic<bool> is_suspended{false}; // by an operator
+        // By an operator; and by how many acts that are not committed yet.
+        std::atomic<bool> was_suspended{false};
+        std::atomic<std::uint32_t> suspensions{0};
+        bool is_suspended() const { return suspensions > 0 || was_suspended; }
         std::atomic<bool> is_held_back{false}; // a message waits for an entry's commit
-        // The gateway before left it logged on: so it is in the log until its quotes are cancelled.
-        std::atomic<bool> was_left{false};
 
         // Of its session, one event at a time.
         SessionNumbers numbers;
         std::atomic<std::uint32_t> epoch{0};
         std::uint32_t entries_from = 0;
-        OwnRows own_rows;
+        std::uint32_t given = 0; // messages of the venue that it was given,
+        Digest given_hash{};     // and their running hash
+        ReplyRate reply_rate;
         // The first number under which a Reject may be kept that was not dropped; nothing where
         // none is.
         std::optional<std::uint32_t> rejects_from;
@@ -145,7 +161,7 @@ class FirmSessions final : private SessionHost {
         std::mutex row_mutex;
 
         std::mutex mutex;                 // of what follows, and over changes of entries
-        SpareBytes spare;                 // while there is no other room
+        RateAtLimit rate_at_limit;        // while there is no other room
         std::string cancel_on_disconnect; // a trader, or empty
         Log::Turn turn;                   // at the log, of a message that waited
         // The row of the Logon of the connection that it has.
@@ -170,16 +186,26 @@ class FirmSessions final : private SessionHost {
     void tell_bytes_used_up(const std::string &name, Firm &firm);
     void tell_spare_used_up(const std::string &name, Firm &firm);
     static SessionRow row_of(const std::string &name, Firm &firm, const SessionEvent &event);
+    static SessionNoteLine line_of(const std::string &name, const Firm &firm,
+                                   const SessionNote &said);
+    static std::vector<std::string> lines_of(const std::string &name, const Firm &firm,
+                                             const SessionEvent &event);
+    static void put_notes(const std::string &name, Firm &firm, const SessionEvent &event,
+                          const SessionNumbers &before, Log::SessionChange &change);
+    void spooled(const std::function<void()> &put);
+    void spool(const std::string &name, const SessionEvent &event,
+               std::optional<std::uint32_t> drops_rejects_from);
     void put_not_left(const std::string &name, Firm &firm);
     void cancel_all_of(const std::string &name, Firm &firm);
 
     // SessionHost
     Refusal judge(const LogonFacts &facts) override;
     Time judges_from(const std::string &address) override;
-    std::uint64_t readings() const override { return doorkeeper_.readings(); }
+    std::uint64_t readings() const override { return authenticator_.readings(); }
     std::uint32_t logon_accepted(const std::string &firm, const ConnectionFacts &facts) override;
     void logon_refused(const std::string &firm, const ConnectionFacts &facts,
                        const std::string &why) override;
+    void may_have_lost_store(const std::string &firm, const NumberClimb &climb) override;
     void connection_ended(const std::string &firm, std::uint32_t connection,
                           const std::string &why) override;
     void logged_on(const std::string &firm) override;
@@ -204,7 +230,7 @@ class FirmSessions final : private SessionHost {
 
     VenueDay &day_;
     Log &log_;
-    Doorkeeper doorkeeper_;
+    Authenticator authenticator_;
     ConnectionRows rows_;
     std::map<std::string, Firm> firms_;
 };

@@ -1,9 +1,8 @@
 // What the firms' sessions put into the log and read of it.
-#include "firm_sessions.h"
+#include "firms/firm_sessions.h"
 
-#include "frame.h"
-#include "patient_reader.h"
-#include "wire.h"
+#include "common/frame.h"
+#include "session/wire.h"
 
 #include <algorithm>
 #include <stdexcept>
@@ -33,27 +32,87 @@ std::uint64_t bytes_of_line(const std::string &firm, const std::string &frame) {
 
 SessionRow FirmSessions::row_of(const std::string &name, Firm &firm, const SessionEvent &event) {
     firm.numbers = event.numbers;
-    return {name, firm.epoch, firm.entries_from, event.is_logged_on || firm.was_left,
-            event.numbers};
+    return {name, firm.epoch, firm.entries_from, event.is_logged_on, event.numbers};
 }
 
-// The venue may have answered the cancel of its quotes by now, on another thread.
+// Of a turn whose numbers the firm has by now.
+SessionNoteLine FirmSessions::line_of(const std::string &name, const Firm &firm,
+                                      const SessionNote &said) {
+    return {name,       firm.epoch,      said, firm.numbers.expected, firm.numbers.had,
+            firm.given, firm.given_hash, 0};
+}
+
+std::vector<std::string> FirmSessions::lines_of(const std::string &name, const Firm &firm,
+                                                const SessionEvent &event) {
+    std::vector<std::string> lines;
+    for (const SessionNote &note : event.notes) {
+        lines.push_back(text_of(line_of(name, firm, note)));
+    }
+    return lines;
+}
+
+// The lines of its session notes; without one a mark, where the venue has given it something, more
+// of it is known to have come, or the session ends by a message that is only counted: the firm's
+// Logout that answers one. So nothing is asked for again after an end in order.
+void FirmSessions::put_notes(const std::string &name, Firm &firm, const SessionEvent &event,
+                             const SessionNumbers &before, Log::SessionChange &change) {
+    if (event.given != nullptr) {
+        firm.given = event.given->number;
+        firm.given_hash = event.given->hash;
+    }
+    change.notes = lines_of(name, firm, event);
+    const bool ends = !event.is_logged_on && event.numbers.expected > before.expected;
+    const bool has_more = event.given != nullptr || event.numbers.had > before.had;
+    if (event.notes.empty() && (has_more || ends)) {
+        SessionNote mark;
+        mark.moment = event.moment;
+        change.mark = text_of(line_of(name, firm, mark));
+    }
+}
+
+// For readers. The venue may have answered the cancel of its quotes by now, on another thread.
 void FirmSessions::put_not_left(const std::string &name, Firm &firm) {
     const std::lock_guard lock(firm.row_mutex);
-    firm.was_left = false;
     Log::SessionChange change;
     change.row = {name, firm.epoch, firm.entries_from, false, firm.numbers};
     log_.put(std::move(change));
+}
+
+// What can't be put into the spool ends the gateway, as what can't be committed does.
+void FirmSessions::spooled(const std::function<void()> &put) {
+    try {
+        put();
+    } catch (const std::exception &fault) {
+        day_.status.fail(fault.what());
+        throw;
+    }
+}
+
+void FirmSessions::spool(const std::string &name, const SessionEvent &event,
+                         std::optional<std::uint32_t> drops_rejects_from) {
+    spooled([&] {
+        if (drops_rejects_from) {
+            day_.spool.drop_rejects(name, *drops_rejects_from);
+        }
+        if (event.kept && event.given != nullptr) {
+            day_.spool.keep_given(name, event.kept->number, event.given->number);
+        } else if (event.kept) {
+            day_.spool.keep(name, *event.kept);
+        }
+    });
 }
 
 std::uint64_t FirmSessions::put(const std::string &name, const SessionEvent &event) {
     Firm &firm = firm_of(name);
     const std::lock_guard lock(firm.row_mutex);
     Log::SessionChange change;
+    const SessionNumbers before = firm.numbers;
     change.row = row_of(name, firm, event);
+    put_notes(name, firm, event, before, change);
     if (event.drops_rejects) {
         change.drops_rejects_from = std::exchange(firm.rejects_from, std::nullopt);
     }
+    spool(name, event, change.drops_rejects_from);
     if (event.kept) {
         const KeptMessage &kept = *event.kept;
         Outgoing &row = change.kept.emplace();
@@ -66,7 +125,7 @@ std::uint64_t FirmSessions::put(const std::string &name, const SessionEvent &eve
         row.bytes = kept.frame;
     }
     if (event.kept && event.given == nullptr) {
-        firm.own_rows.add();
+        firm.reply_rate.add();
         firm.rejects_from = firm.rejects_from.value_or(event.kept->number);
     }
     if (const Delivery *const given = event.given) {
@@ -81,7 +140,7 @@ std::uint64_t FirmSessions::put(const std::string &name, const SessionEvent &eve
 }
 
 bool FirmSessions::keeps_too_much(const std::string &name) {
-    return firm_of(name).own_rows.are_too_many();
+    return firm_of(name).reply_rate.are_too_many();
 }
 
 void FirmSessions::wait_stored(std::uint64_t ticket) {
@@ -131,10 +190,14 @@ Taken FirmSessions::take(const std::string &name, const SessionInput &input,
     }
     firm.metrics.came(value_in(*frame, "35"), is_hit(*frame));
     if (lacks_room(firm)) {
-        firm.spare.add(bytes_of_line(name, *frame));
+        firm.rate_at_limit.add(bytes_of_line(name, *frame));
     }
     firm.limits.bytes.add(bytes_of_line(name, *frame));
     ++firm.entries;
+    if (!event.notes.empty()) {
+        // Its number was the last one: what the venue gives from now on has none.
+        log_.put({row_of(name, firm, event), {}, {}, {}, {}, lines_of(name, firm, event), {}});
+    }
     return {};
 }
 
@@ -168,7 +231,7 @@ std::optional<Taken> FirmSessions::denied(const std::string &name, Firm &firm,
         return Taken{Taken::Verdict::denied, why.reason, {}, why.text};
     }
     auto why = why_not(name, firm, frame, receipt);
-    if (!why && lacks_room(firm) && !firm.spare.has_some()) {
+    if (!why && lacks_room(firm) && !firm.rate_at_limit.has_some()) {
         tell_spare_used_up(name, firm);
         why = too_much_is_taken_back();
     }
@@ -191,7 +254,7 @@ std::optional<NotTaken> FirmSessions::why_not(const std::string &name, Firm &fir
         return std::nullopt;
     }
     const bool are_used_up = firm.limits.bytes.are_used_up();
-    auto why = why_not_taken(day_, {name, receipt.at, are_used_up, firm.is_suspended}, *business);
+    auto why = why_not_taken(day_, {name, receipt.at, are_used_up, firm.is_suspended()}, *business);
     if (why && are_used_up) {
         tell_bytes_used_up(name, firm);
     }
@@ -223,30 +286,12 @@ void FirmSessions::all_received() {
 
 std::vector<KeptMessage> FirmSessions::kept_messages(const std::string &name, std::uint32_t from,
                                                      std::size_t limit) {
-    log_.flush();
-    const std::uint32_t epoch = firm_of(name).epoch;
-    // A reader of its own: no firm waits for what another is sent again.
-    PatientReader stored(*day_.database, day_.status.stopping());
-    std::vector<KeptMessage> messages;
-    for (Outgoing &row : stored.ask([&](LogReader &log) {
-             return log.outgoing(name, epoch, from, static_cast<std::uint32_t>(limit));
-         })) {
-        KeptMessage &message = messages.emplace_back();
-        message.number = row.number;
-        message.type = std::move(row.type);
-        message.frame = std::move(row.bytes);
-        message.first =
-            static_cast<std::uint32_t>(moment_of(row.moment).value_or(Moment{}).milliseconds);
-        message.is_copy = row.is_copy;
-    }
-    return messages;
+    log_.flush(); // what is handed over is on disk
+    return day_.spool.kept(name, from, limit);
 }
 
 std::uint64_t FirmSessions::count_kept(const std::string &name, std::uint32_t behind) {
-    log_.flush();
-    const std::uint32_t epoch = firm_of(name).epoch;
-    PatientReader stored(*day_.database, day_.status.stopping());
-    return stored.ask([&](LogReader &log) { return log.count_kept(name, epoch, behind); });
+    return day_.spool.count_given(name, behind);
 }
 
 // What the firm has in the log until now counts no longer for the session's numbers.
@@ -255,10 +300,14 @@ void FirmSessions::put_reset(const std::string &name, std::uint32_t behind,
     Firm &firm = firm_of(name);
     Log::SessionChange change;
     change.reset = SessionReset{name, firm.epoch, behind};
+    firm.entries_from = log_.fence();
+    SessionNoteLine note = line_of(name, firm, event.notes.at(0));
+    note.last = firm.entries_from;
+    change.notes.push_back(text_of(note));
     ++firm.epoch;
     firm.rejects_from.reset();
-    firm.entries_from = log_.fence();
     change.row = row_of(name, firm, event);
+    spooled([&] { day_.spool.reset(name, behind); });
     log_.put(std::move(change));
 }
 

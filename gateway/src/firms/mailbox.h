@@ -1,8 +1,8 @@
 // What waits for one firm's session, and the thread that hands it over.
-#ifndef GATEWAY_MAILBOX_H
-#define GATEWAY_MAILBOX_H
+#ifndef GATEWAY_FIRMS_MAILBOX_H
+#define GATEWAY_FIRMS_MAILBOX_H
 
-#include "engine.h"
+#include "session/engine.h"
 
 #include <condition_variable>
 #include <cstddef>
@@ -24,27 +24,20 @@ class Mailbox {
             std::function<void(const std::string &)> failed);
 
     // Where too many wait, the firm's connection is ended, and room waited for: without a
-    // connection messages are handed over as fast as the log takes them. One thread puts. Throws
-    // std::runtime_error where it is handed over already, and was another message then.
+    // connection messages are handed over as fast as the log takes them. One thread puts.
     void put(Delivery delivery);
     // Hands it over on this thread, if nothing is before it and the session does nothing else;
     // otherwise as put().
     void put_now(Delivery delivery);
-
-    // All is put again from now on. What waits is dropped, and nothing is waited for: a message
-    // that is being handed over is known when it comes again.
-    void begin_again();
 
     // Returns when all that was put is handed over.
     void wait_until_empty();
 
   private:
     void run(const std::stop_token &stop);
-    bool was_handed_over(const Delivery &delivery) const;
     // Without the lock, which is held before and after. What `deliver` returned, or false where it
     // failed.
-    bool hand_over(std::unique_lock<std::mutex> &lock, const Delivery &delivery,
-                   const std::function<bool()> &deliver);
+    bool hand_over(std::unique_lock<std::mutex> &lock, const std::function<bool()> &deliver);
 
     const std::string session_;
     Engine &engine_;
@@ -55,9 +48,6 @@ class Mailbox {
     std::condition_variable_any came_; // for the thread
     std::condition_variable_any went_; // for whoever waits for room or for the end
     std::deque<Delivery> waiting_;
-    std::uint32_t last_number_ = 0; // of what was handed over, or is
-    std::string last_frame_;        // that message, as the venue gave it
-    std::string last_wire_;         // and as it goes to the firm
     bool handing_over_ = false;
     bool broken_ = false;
     std::jthread thread_;

@@ -1,6 +1,6 @@
-#include "in_its_name.h"
+#include "firms/on_behalf.h"
 
-#include "frame.h"
+#include "common/frame.h"
 
 #include <fmt/format.h>
 

@@ -1,7 +1,7 @@
 // What the gateway says to the venue in a firm's name: for one that is gone, or that an operator
 // has suspended.
-#ifndef GATEWAY_IN_ITS_NAME_H
-#define GATEWAY_IN_ITS_NAME_H
+#ifndef GATEWAY_FIRMS_ON_BEHALF_H
+#define GATEWAY_FIRMS_ON_BEHALF_H
 
 #include <string>
 #include <string_view>

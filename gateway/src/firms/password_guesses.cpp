@@ -1,4 +1,4 @@
-#include "guesses.h"
+#include "firms/password_guesses.h"
 
 #include <algorithm>
 
@@ -16,7 +16,7 @@ constexpr std::size_t most_addresses = 4096;
 
 } // namespace
 
-std::size_t Guesses::wrong(const std::string &address) {
+std::size_t PasswordGuesses::wrong(const std::string &address) {
     const Clock::time_point now = now_();
     const std::lock_guard lock(mutex_);
     if (wrong_.size() >= most_addresses) {
@@ -28,13 +28,13 @@ std::size_t Guesses::wrong(const std::string &address) {
     return own.count;
 }
 
-std::size_t Guesses::wrong_of(const std::string &address) {
+std::size_t PasswordGuesses::wrong_of(const std::string &address) {
     const std::lock_guard lock(mutex_);
     const auto found = wrong_.find(address);
     return found == wrong_.end() ? 0 : found->second.count;
 }
 
-Guesses::Clock::time_point Guesses::judged_from(const std::string &address) {
+PasswordGuesses::Clock::time_point PasswordGuesses::judged_from(const std::string &address) {
     const std::lock_guard lock(mutex_);
     const auto found = wrong_.find(address);
     if (found == wrong_.end()) {
@@ -44,7 +44,7 @@ Guesses::Clock::time_point Guesses::judged_from(const std::string &address) {
     return found->second.last + std::min(first_pause * (1 << doublings), longest_pause);
 }
 
-void Guesses::forget(Clock::time_point now) {
+void PasswordGuesses::forget(Clock::time_point now) {
     std::erase_if(wrong_, [now](const auto &each) { return now - each.second.last > memory; });
     if (wrong_.size() >= most_addresses) {
         wrong_.clear();

@@ -1,6 +1,6 @@
 // Wrong passwords, counted by address, and what they cost whoever sends them.
-#ifndef GATEWAY_GUESSES_H
-#define GATEWAY_GUESSES_H
+#ifndef GATEWAY_FIRMS_PASSWORD_GUESSES_H
+#define GATEWAY_FIRMS_PASSWORD_GUESSES_H
 
 #include <chrono>
 #include <cstddef>
@@ -14,12 +14,12 @@ namespace gateway {
 
 // Each wrong password of an address makes it wait twice as long for the next Logon to be judged, up
 // to a quarter of a second; after a minute without one it waits no more. Any thread may call it.
-class Guesses {
+class PasswordGuesses {
   public:
     using Clock = std::chrono::steady_clock;
     using Now = std::function<Clock::time_point()>;
 
-    explicit Guesses(Now now = &Clock::now) : now_(std::move(now)) {}
+    explicit PasswordGuesses(Now now = &Clock::now) : now_(std::move(now)) {}
 
     // A wrong one: how many there were of this address, one after the other.
     std::size_t wrong(const std::string &address);

@@ -1,9 +1,9 @@
 // What of the log a firm still has when its bytes of the day are used up, or the disk is nearly
 // full.
-#ifndef GATEWAY_SPARE_BYTES_H
-#define GATEWAY_SPARE_BYTES_H
+#ifndef GATEWAY_FIRMS_RATE_AT_LIMIT_H
+#define GATEWAY_FIRMS_RATE_AT_LIMIT_H
 
-#include "rate.h"
+#include "common/rate.h"
 
 #include <cstdint>
 
@@ -12,7 +12,7 @@ namespace gateway {
 // What takes something back is taken then, too, and each such message is a line of the log: so
 // these have a rate of their own, or one firm would fill the disk for all with cancels of nothing.
 // Whoever withdraws all that it may quote in a day is far below it. One thread at a time.
-class SpareBytes {
+class RateAtLimit {
   public:
     // Whether another message may come there.
     bool has_some() const { return from_ <= Rate::Clock::now(); }

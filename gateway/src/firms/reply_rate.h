@@ -1,15 +1,15 @@
 // How many rows of its own a firm's session may keep before the firm is logged out.
-#ifndef GATEWAY_OWN_ROWS_H
-#define GATEWAY_OWN_ROWS_H
+#ifndef GATEWAY_FIRMS_REPLY_RATE_H
+#define GATEWAY_FIRMS_REPLY_RATE_H
 
-#include "rate.h"
+#include "common/rate.h"
 
 namespace gateway {
 
 // What the session keeps to answer a firm (a Reject, a BusinessMessageReject, a Heartbeat that has
 // to wait) is a row of the log, which the firm's bytes of the day do not count: so these rows have
 // a rate of their own. One thread at a time.
-class OwnRows {
+class ReplyRate {
   public:
     // Counts one.
     void add() {

@@ -1,8 +1,8 @@
 // What operators ordered of firms' sessions.
-#ifndef GATEWAY_FIRM_ORDERS_H
-#define GATEWAY_FIRM_ORDERS_H
+#ifndef GATEWAY_FIRMS_SESSION_COMMANDS_H
+#define GATEWAY_FIRMS_SESSION_COMMANDS_H
 
-#include "notes.h"
+#include "log/notes.h"
 
 #include <cstdint>
 #include <functional>
@@ -15,9 +15,10 @@
 namespace gateway {
 
 // An order is noted when its act is committed, and done by another thread: the one that commits the
-// log must wait for no firm. A start notes all orders of the day again, in their order: to suspend
-// and to release do the same twice, and a reset is done once.
-class FirmOrders {
+// log must wait for no firm. A start notes the orders of the day again, in their order: to suspend
+// and to resume do the same twice, a reset is done once, and a release that was carried out is not
+// noted again.
+class SessionCommands {
   public:
     using Epoch = std::function<std::uint32_t(const std::string &firm)>; // resets that were done
     using Do = std::function<void(const FirmOrdered &)>;

@@ -1,6 +1,6 @@
-#include "certificate_end.h"
+#include "health/certificate_end.h"
 
-#include "regular_file.h"
+#include "common/regular_file.h"
 
 #include <algorithm>
 #include <ctime>

@@ -1,6 +1,6 @@
 // When a certificate ends.
-#ifndef GATEWAY_CERTIFICATE_END_H
-#define GATEWAY_CERTIFICATE_END_H
+#ifndef GATEWAY_HEALTH_CERTIFICATE_END_H
+#define GATEWAY_HEALTH_CERTIFICATE_END_H
 
 #include <chrono>
 #include <filesystem>

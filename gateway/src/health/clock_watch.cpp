@@ -1,4 +1,4 @@
-#include "clock_watch.h"
+#include "health/clock_watch.h"
 
 #include <algorithm>
 #include <ctime>

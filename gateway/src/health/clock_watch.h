@@ -1,6 +1,6 @@
 // Whether the machine's clock goes on as the time since boot does, and what the kernel says of it.
-#ifndef GATEWAY_CLOCK_WATCH_H
-#define GATEWAY_CLOCK_WATCH_H
+#ifndef GATEWAY_HEALTH_CLOCK_WATCH_H
+#define GATEWAY_HEALTH_CLOCK_WATCH_H
 
 #include <chrono>
 #include <functional>

@@ -1,4 +1,4 @@
-#include "condition.h"
+#include "health/condition.h"
 
 #include <fmt/format.h>
 
@@ -35,8 +35,10 @@ std::optional<std::string> Condition::fault() const {
 std::string Condition::words() const {
     const std::string now =
         day.empty() ? words_of(phase) : fmt::format("{}: {}", words_of(phase), day);
-    const auto what = fault();
-    return what ? fmt::format("{} ({})", *what, now) : now;
+    if (const auto what = fault()) {
+        return fmt::format("{} ({})", *what, now);
+    }
+    return not_taken.empty() ? now : fmt::format("{} ({})", now, fmt::join(not_taken, "; "));
 }
 
 bool Condition::has_started() const {

@@ -1,13 +1,14 @@
 // How the service is, in a few words: for systemd, for whoever asks /health and /ready, and for the
 // page.
-#ifndef GATEWAY_CONDITION_H
-#define GATEWAY_CONDITION_H
+#ifndef GATEWAY_HEALTH_CONDITION_H
+#define GATEWAY_HEALTH_CONDITION_H
 
-#include "pulse.h"
+#include "health/liveness.h"
 
 #include <chrono>
 #include <optional>
 #include <string>
+#include <vector>
 
 namespace gateway {
 
@@ -25,12 +26,13 @@ constexpr auto longest_healthy_silence = std::chrono::seconds(15);
 
 struct Condition {
     Phase phase = Phase::closed;
-    std::string day;                     // of today or the next one: its date, and when it opens
-    std::optional<Pulse::Silent> silent; // the part that has been silent longest
+    std::string day;                        // of today or the next one: its date, and when it opens
+    std::optional<Liveness::Silent> silent; // the part that has been silent longest
+    std::vector<std::string> not_taken{};   // why business is not, a line each: firms may log on
 
     // What is wrong, or nothing.
     std::optional<std::string> fault() const;
-    // The phase and the day, or what is wrong.
+    // The phase and the day, with what is wrong or why business is not taken.
     std::string words() const;
     // The service has come to where it is to be: what systemd waits for at a start.
     bool has_started() const;

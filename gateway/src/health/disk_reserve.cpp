@@ -1,4 +1,4 @@
-#include "disk_reserve.h"
+#include "health/disk_reserve.h"
 
 #include <sys/statvfs.h>
 

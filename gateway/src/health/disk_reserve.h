@@ -1,6 +1,6 @@
 // What of the room on the log's disk is held back for messages that take something back.
-#ifndef GATEWAY_DISK_RESERVE_H
-#define GATEWAY_DISK_RESERVE_H
+#ifndef GATEWAY_HEALTH_DISK_RESERVE_H
+#define GATEWAY_HEALTH_DISK_RESERVE_H
 
 #include <chrono>
 #include <cstdint>

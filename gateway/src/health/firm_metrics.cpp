@@ -1,10 +1,11 @@
-#include "firm_metrics.h"
+#include "health/firm_metrics.h"
 
-#include "engine.h"
+#include "session/session_event.h"
 
 #include <map>
 #include <utility>
 
+#include <fmt/format.h>
 #include <prometheus/counter.h>
 #include <prometheus/gauge.h>
 #include <prometheus/registry.h>
@@ -117,7 +118,18 @@ void FirmMetrics::suspended(bool is_suspended) {
     suspended_.Set(is_suspended ? 1 : 0);
 }
 
+void FirmMetrics::may_have_lost_store(const NumberClimb &climb) {
+    const std::lock_guard lock(mutex_);
+    doubt_ = text_of(climb);
+}
+
+std::string text_of(const NumberClimb &climb) {
+    return fmt::format("may have lost its store from={} to={} refused={}", climb.from, climb.to,
+                       climb.refused);
+}
+
 FirmMetrics::Counts FirmMetrics::counts() const {
+    const std::lock_guard lock(mutex_);
     return {venue_,
             firm_,
             logged_on_.Value() > 0,
@@ -127,7 +139,8 @@ FirmMetrics::Counts FirmMetrics::counts() const {
             quotes_.Value(),
             hits_.Value(),
             refusals_.Value(),
-            waiting_bytes_.Value()};
+            waiting_bytes_.Value(),
+            doubt_};
 }
 
 bool refuses(const Delivery &delivery) {

@@ -1,9 +1,12 @@
 // What is counted of one firm's session.
-#ifndef GATEWAY_FIRM_METRICS_H
-#define GATEWAY_FIRM_METRICS_H
+#ifndef GATEWAY_HEALTH_FIRM_METRICS_H
+#define GATEWAY_HEALTH_FIRM_METRICS_H
+
+#include "session/refused_numbers.h"
 
 #include <cstddef>
 #include <memory>
+#include <mutex>
 #include <string>
 #include <string_view>
 
@@ -47,6 +50,8 @@ class FirmMetrics {
     void waits(std::size_t bytes);
     // By an operator.
     void suspended(bool is_suspended);
+    // Its engine may have lost its store: the page says so to the end of the day.
+    void may_have_lost_store(const NumberClimb &climb);
 
     // For a page.
     struct Counts {
@@ -60,6 +65,7 @@ class FirmMetrics {
         double hits = 0;
         double refusals = 0;
         double waiting_bytes = 0;
+        std::string doubt; // what an operator should ask the firm; empty as a rule
     };
     Counts counts() const;
 
@@ -74,7 +80,13 @@ class FirmMetrics {
     prometheus::Counter &quotes_;
     prometheus::Counter &hits_;
     prometheus::Counter &refusals_;
+
+    mutable std::mutex mutex_; // over what follows
+    std::string doubt_;
 };
+
+// For an operator: `may have lost its store from=1 to=92 refused=91`.
+std::string text_of(const NumberClimb &climb);
 
 // Whether a message of the venue refuses one of the firm's: a Reject (35=3), a refused request
 // (35=AG), or a QuoteStatusReport that says so (35=AI with 297=5).

@@ -1,16 +1,16 @@
-#include "pulse.h"
+#include "health/liveness.h"
 
 #include <algorithm>
 
 namespace gateway {
 
-void Pulse::put(const std::string &part, Duration silent) {
+void Liveness::put(const std::string &part, Duration silent) {
     const Clock::time_point worked = Clock::now() - silent;
     const std::lock_guard lock(mutex_);
     last_[part] = worked;
 }
 
-std::optional<Pulse::Silent> Pulse::longest() const {
+std::optional<Liveness::Silent> Liveness::longest() const {
     const std::lock_guard lock(mutex_);
     const auto oldest = std::min_element(last_.begin(), last_.end(), [](auto &one, auto &other) {
         return one.second < other.second;

@@ -1,6 +1,6 @@
 // When the parts that do the work last showed that they do.
-#ifndef GATEWAY_PULSE_H
-#define GATEWAY_PULSE_H
+#ifndef GATEWAY_HEALTH_LIVENESS_H
+#define GATEWAY_HEALTH_LIVENESS_H
 
 #include <chrono>
 #include <map>
@@ -12,7 +12,7 @@ namespace gateway {
 
 // Each part says again and again that it works. One that says so no more is silent from then on,
 // whatever has stopped it. Any thread may call all of it.
-class Pulse {
+class Liveness {
   public:
     using Duration = std::chrono::steady_clock::duration;
 

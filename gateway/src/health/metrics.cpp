@@ -1,6 +1,6 @@
-#include "metrics.h"
+#include "health/metrics.h"
 
-#include "version.h"
+#include "common/version.h"
 
 #include <map>
 #include <mutex>
@@ -110,6 +110,8 @@ struct Metrics::Parts {
                                     "messages of firms that wait for room in the log");
     Family<Gauge> &disk_free =
         gauges(*registry, "mireseason_log_disk_free_bytes", "what is free on the disk of the log");
+    Family<Gauge> &disk_held =
+        gauges(*registry, "mireseason_log_disk_reserve_bytes", "what of it is held back");
     Family<Gauge> &disk_reserve =
         gauges(*registry, "mireseason_log_disk_reserve_reached",
                "1 where less is free there than is held back: no request and no quote is taken");
@@ -144,6 +146,7 @@ Metrics::Metrics() : parts_(std::make_unique<Parts>()) {
 
 FirmMetrics &Metrics::firm(const std::string &venue, const std::string &firm) {
     const std::lock_guard lock(parts_->firms_mutex);
+    parts_->wrong_passwords.Add({{"firm", firm}}); // a rule of what rises needs a first value
     return parts_->firms.try_emplace({venue, firm}, parts_->firm_families, venue, firm)
         .first->second;
 }
@@ -162,7 +165,9 @@ void Metrics::backlog(const std::string &venue, std::size_t unanswered, std::siz
     parts_->waiting.Add(of_venue(venue)).Set(static_cast<double>(waiting));
 }
 
-void Metrics::log_disk(const std::string &venue, std::uint64_t free, bool is_reserve_reached) {
+void Metrics::log_disk(const std::string &venue, std::uint64_t free, std::uint64_t reserve,
+                       bool is_reserve_reached) {
+    parts_->disk_held.Add(of_venue(venue)).Set(static_cast<double>(reserve));
     parts_->disk_free.Add(of_venue(venue)).Set(static_cast<double>(free));
     parts_->disk_reserve.Add(of_venue(venue)).Set(is_reserve_reached ? 1 : 0);
 }
@@ -176,8 +181,8 @@ void Metrics::clock_is_doubtful(const std::string &venue, bool is_doubtful) {
     parts_->clock_doubtful.Add(of_venue(venue)).Set(is_doubtful ? 1 : 0);
 }
 
-std::vector<Queue> Metrics::queues() const {
-    std::vector<Queue> all;
+std::vector<QueueSize> Metrics::queues() const {
+    std::vector<QueueSize> all;
     const auto add = [&all](Family<Gauge> &family, const char *what) {
         for (const prometheus::MetricFamily &each : family.Collect()) {
             for (const prometheus::ClientMetric &metric : each.metric) {

@@ -1,9 +1,9 @@
 // Counters and latencies, told as Prometheus reads them.
-#ifndef GATEWAY_METRICS_H
-#define GATEWAY_METRICS_H
+#ifndef GATEWAY_HEALTH_METRICS_H
+#define GATEWAY_HEALTH_METRICS_H
 
-#include "firm_metrics.h"
-#include "queue.h"
+#include "health/firm_metrics.h"
+#include "health/queue_size.h"
 
 #include <chrono>
 #include <cstddef>
@@ -60,10 +60,11 @@ class Metrics {
     std::vector<const FirmMetrics *> firms() const;
     // Entries of the log that the venue has not answered, and messages that wait for the log.
     void backlog(const std::string &venue, std::size_t unanswered, std::size_t waiting);
-    std::vector<Queue> queues() const;
-    // Bytes that are free on the disk of a venue's log, and whether they are fewer than are held
-    // back.
-    void log_disk(const std::string &venue, std::uint64_t free, bool is_reserve_reached);
+    std::vector<QueueSize> queues() const;
+    // Bytes that are free on the disk of a venue's log, how many are held back, and whether there
+    // are fewer.
+    void log_disk(const std::string &venue, std::uint64_t free, std::uint64_t reserve,
+                  bool is_reserve_reached);
     // What an operator has halted: the whole venue, and how many bonds.
     void halted(const std::string &venue, bool is_whole, std::size_t bonds);
     // Whether no request and no quote is taken since the clock was set.

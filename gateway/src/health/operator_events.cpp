@@ -1,6 +1,7 @@
-#include "operator_events.h"
+#include "health/operator_events.h"
 
-#include "printable.h"
+#include "base/printable.h"
+#include "health/firm_metrics.h"
 
 #include <algorithm>
 
@@ -74,6 +75,13 @@ void OperatorEvents::logon_refused(const std::string &firm, const ConnectionFact
     metrics_.refused(why);
     if (const Limiter::Answer answer = lines_.ask(why); answer.told) {
         events_->warn("{}", about(why, firm, facts, answer.left_out));
+    }
+}
+
+void OperatorEvents::may_have_lost_store(const std::string &firm, const NumberClimb &climb) {
+    constexpr std::string_view what = "may have lost its store";
+    if (const Limiter::Answer answer = lines_.ask(std::string(what)); answer.told) {
+        events_->warn("{} firm={}", text_of(climb), firm);
     }
 }
 

@@ -1,10 +1,11 @@
 // What happens at connections and sessions, counted and told to the operator.
-#ifndef GATEWAY_OPERATOR_EVENTS_H
-#define GATEWAY_OPERATOR_EVENTS_H
+#ifndef GATEWAY_HEALTH_OPERATOR_EVENTS_H
+#define GATEWAY_HEALTH_OPERATOR_EVENTS_H
 
-#include "engine.h"
-#include "limiter.h"
-#include "metrics.h"
+#include "base/limiter.h"
+#include "health/metrics.h"
+#include "session/engine_events.h"
+#include "session/refused_numbers.h"
 
 #include <functional>
 #include <memory>
@@ -28,6 +29,8 @@ class OperatorEvents final : public EngineEvents {
     // A Logon in a firm's name was refused.
     void logon_refused(const std::string &firm, const ConnectionFacts &facts,
                        const std::string &why);
+    // A firm is let in whose engine may have lost its store.
+    void may_have_lost_store(const std::string &firm, const NumberClimb &climb);
     // Tells how many lines were left out of which none came for a while; to be called each second.
     void tell_rest();
     // The same of all, at the end.

@@ -1,12 +1,12 @@
 // How much waits somewhere.
-#ifndef GATEWAY_QUEUE_H
-#define GATEWAY_QUEUE_H
+#ifndef GATEWAY_HEALTH_QUEUE_SIZE_H
+#define GATEWAY_HEALTH_QUEUE_SIZE_H
 
 #include <string>
 
 namespace gateway {
 
-struct Queue {
+struct QueueSize {
     std::string what; // what waits, and for whom
     double size = 0;
 };

@@ -1,4 +1,4 @@
-#include "silence.h"
+#include "health/silence.h"
 
 namespace gateway {
 

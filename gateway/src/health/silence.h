@@ -1,6 +1,6 @@
 // A venue that has stopped to answer, and a log that has.
-#ifndef GATEWAY_SILENCE_H
-#define GATEWAY_SILENCE_H
+#ifndef GATEWAY_HEALTH_SILENCE_H
+#define GATEWAY_HEALTH_SILENCE_H
 
 #include <chrono>
 #include <cstdint>

@@ -1,4 +1,4 @@
-#include "status.h"
+#include "health/status.h"
 
 #include <utility>
 

@@ -1,9 +1,9 @@
 // Whether the gateway goes on, and how far it is.
-#ifndef GATEWAY_STATUS_H
-#define GATEWAY_STATUS_H
+#ifndef GATEWAY_HEALTH_STATUS_H
+#define GATEWAY_HEALTH_STATUS_H
 
-#include "condition.h"
-#include "pulse.h"
+#include "health/condition.h"
+#include "health/liveness.h"
 
 #include <atomic>
 #include <chrono>
@@ -40,7 +40,7 @@ class Status {
     void is_now(Phase phase) { phase_ = phase; }
     Phase phase() const { return phase_; }
     // Where the parts that do the work show that they do.
-    Pulse &pulse() { return pulse_; }
+    Liveness &liveness() { return liveness_; }
 
     // Asked to stop, or failed.
     std::stop_token stopping() const { return stopping_.get_token(); }
@@ -49,7 +49,7 @@ class Status {
   private:
     std::shared_ptr<spdlog::logger> events_;
     std::atomic<Phase> phase_{Phase::opens};
-    Pulse pulse_;
+    Liveness liveness_;
     std::stop_source stopping_;
     std::stop_source failed_;
 

@@ -1,4 +1,4 @@
-#include "arrivals.h"
+#include "log/arrivals.h"
 
 #include <utility>
 

@@ -1,9 +1,9 @@
 // The entries of the log's next batch, in the order in which their messages were received.
-#ifndef GATEWAY_ARRIVALS_H
-#define GATEWAY_ARRIVALS_H
+#ifndef GATEWAY_LOG_ARRIVALS_H
+#define GATEWAY_LOG_ARRIVALS_H
 
-#include "moment.h"
-#include "records.h"
+#include "common/moment.h"
+#include "log/records.h"
 
 #include <chrono>
 #include <cstddef>

@@ -1,4 +1,8 @@
-#include "chain.h"
+#include "log/chain.h"
+
+#include "log/session_note_line.h"
+
+#include <utility>
 
 namespace gateway {
 
@@ -18,9 +22,14 @@ void Chain::link(Batch &rows) {
 }
 
 void Chain::seal(Batch &rows) {
-    if (sealer_ && (!rows.entries.empty() || !rows.connections.empty())) {
-        rows.seal = sealer_->seal(++seals_, end_);
+    if (!sealer_ || (rows.entries.empty() && rows.connections.empty() && rows.notes.empty())) {
+        return;
     }
+    std::string notes = joined_lines(rows.notes);
+    ++end_.seal;
+    end_.notes = hash_of_notes(end_.notes, notes);
+    rows.seal = sealer_->seal(end_);
+    rows.seal->notes = std::move(notes);
 }
 
 } // namespace gateway

@@ -1,9 +1,9 @@
 // The chains of a log's entries and of what happened to its connections, and the seals over both.
-#ifndef GATEWAY_CHAIN_H
-#define GATEWAY_CHAIN_H
+#ifndef GATEWAY_LOG_CHAIN_H
+#define GATEWAY_LOG_CHAIN_H
 
-#include "database.h"
-#include "seals.h"
+#include "log/database.h"
+#include "log/seals.h"
 
 #include <optional>
 
@@ -13,12 +13,12 @@ namespace gateway {
 class Chain {
   public:
     // Goes on at the end of a log. Without a sealer nothing is sealed, and no start takes the log.
-    Chain(const Position &end, std::optional<Sealer> sealer, std::uint32_t last_seal)
-        : end_(end), sealer_(std::move(sealer)), seals_(last_seal) {}
+    Chain(const Position &end, std::optional<Sealer> sealer)
+        : end_(end), sealer_(std::move(sealer)) {}
 
     // Links the rows of a batch to what was written last.
     void link(Batch &rows);
-    // Seals all up to the rows that were linked last, which are these.
+    // Seals all up to the rows that were linked last, which are these, with their session notes.
     void seal(Batch &rows);
     // Where the log ends with what was linked.
     const Position &end() const { return end_; }
@@ -26,7 +26,6 @@ class Chain {
   private:
     Position end_;
     std::optional<Sealer> sealer_;
-    std::uint32_t seals_;
 };
 
 } // namespace gateway

@@ -1,6 +1,6 @@
-#include "checkpoint_file.h"
+#include "log/checkpoint_file.h"
 
-#include "private_file.h"
+#include "base/private_file.h"
 
 #include <algorithm>
 #include <charconv>
@@ -58,14 +58,6 @@ bool read_signature(std::optional<std::string_view> value, Signature &signature)
     return true;
 }
 
-std::string digits_of(const Signature &signature) {
-    Digest first{};
-    Digest second{};
-    std::copy_n(signature.begin(), first.size(), first.begin());
-    std::copy_n(signature.begin() + first.size(), second.size(), second.begin());
-    return text_of(first) + text_of(second);
-}
-
 std::optional<Checkpoint> checkpoint_of(std::string_view text) {
     Checkpoint found;
     take(text, "mireseason log");
@@ -75,22 +67,35 @@ std::optional<Checkpoint> checkpoint_of(std::string_view text) {
     const auto term = take(text, "term");
     found.at.term = term ? number_in(*term).value_or(0) : 0;
     if (!read_place(take(text, "entry"), found.at.place, found.at.hash) ||
-        !read_place(take(text, "connection"), found.at.event, found.at.event_hash)) {
+        !read_place(take(text, "connection"), found.at.event, found.at.event_hash) ||
+        !read_place(take(text, "seal"), found.at.seal, found.at.notes)) {
         return std::nullopt;
     }
     const auto number = take(text, "checkpoint");
     found.number = number ? number_in(*number).value_or(0) : 0;
+    if (!read_signature(take(text, "before"), found.before)) {
+        return std::nullopt;
+    }
+    found.is_end = take(text, "end") == "yes";
     return read_signature(take(text, "signature"), found.signature) ? std::optional(found)
                                                                     : std::nullopt;
 }
 
 } // namespace
 
+std::filesystem::path checkpoint_path(const std::filesystem::path &folder, const std::string &venue,
+                                      std::string_view date) {
+    return folder / fmt::format("{}-{}.checkpoint", venue.empty() ? "day" : venue, date);
+}
+
+bool says_that_it_goes_on(const std::filesystem::path &file) {
+    return std::filesystem::exists(file) &&
+           read_public(file).find("\nend no\n") != std::string::npos;
+}
+
 CheckpointFile::CheckpointFile(const std::filesystem::path &folder, Sealer sealer)
     : sealer_(std::move(sealer)),
-      path_(folder / fmt::format("{}-{}.checkpoint",
-                                 sealer_.log().venue.empty() ? "day" : sealer_.log().venue,
-                                 sealer_.log().date)) {
+      path_(checkpoint_path(folder, sealer_.log().venue, sealer_.log().date)) {
     std::filesystem::create_directories(folder);
 }
 
@@ -107,9 +112,13 @@ std::optional<Checkpoint> CheckpointFile::read() const {
     return checkpoint;
 }
 
+std::string CheckpointFile::text_of_file(const Checkpoint &checkpoint) const {
+    return fmt::format("{}signature {}\n", text_of(sealer_.log(), checkpoint),
+                       text_of(checkpoint.signature));
+}
+
 void CheckpointFile::write(const Checkpoint &checkpoint) const {
-    replace_file(path_, fmt::format("{}signature {}\n", text_of(sealer_.log(), checkpoint),
-                                    digits_of(checkpoint.signature)));
+    replace_file(path_, text_of_file(checkpoint));
 }
 
 } // namespace gateway

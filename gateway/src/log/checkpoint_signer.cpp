@@ -1,6 +1,6 @@
-#include "notary.h"
+#include "log/checkpoint_signer.h"
 
-#include "pause.h"
+#include "base/pause.h"
 
 #include <utility>
 
@@ -20,36 +20,44 @@ constexpr auto at_most = 5s;
 
 } // namespace
 
-Notary::Notary(Log &log, Sealer sealer, CheckpointFile file, std::uint32_t last,
-               std::shared_ptr<spdlog::logger> events)
+CheckpointSigner::CheckpointSigner(Log &log, Sealer sealer, CheckpointFile file, Checkpoint last,
+                                   const std::vector<std::string> &send,
+                                   std::shared_ptr<spdlog::logger> events)
     : log_(log), sealer_(std::move(sealer)), file_(std::move(file)), events_(std::move(events)),
-      number_(last), thread_([this](const std::stop_token &stop) { run(stop); }) {}
+      sender_(send.empty() ? nullptr : std::make_unique<CheckpointSender>(send, events_)),
+      last_(last), thread_([this](const std::stop_token &stop) { run(stop); }) {}
 
-void Notary::run(const std::stop_token &stop) {
-    while (!stop.stop_requested()) {
-        if (is_due()) {
-            sign();
+void CheckpointSigner::run(const std::stop_token &stop) {
+    try {
+        while (!stop.stop_requested()) {
+            if (is_due()) {
+                sign(false);
+            }
+            pause_for(between_looks, stop);
         }
-        pause_for(between_looks, stop);
+    } catch (const std::exception &) {
+        // The log takes nothing any more, and has told it.
     }
 }
 
-bool Notary::is_due() {
+bool CheckpointSigner::is_due() {
     const auto since = Clock::now() - signed_at_;
-    return since >= at_most || (since >= at_least && log_.position() != signed_);
+    return since >= at_most || (since >= at_least && log_.position() != last_.at);
 }
 
-void Notary::sign() {
-    signed_ = log_.position();
+void CheckpointSigner::sign(bool is_end) {
     signed_at_ = Clock::now();
-    const Checkpoint checkpoint = sealer_.sign(++number_, signed_);
-    log_.put_checkpoint(checkpoint);
-    keep(checkpoint);
+    last_ = sealer_.sign({last_.number + 1, log_.position(), last_.signature, is_end, {}});
+    log_.wait(log_.put_checkpoint(last_));
+    keep(last_);
 }
 
 // The day goes on where it can't be kept, and the operator is told, of each cause once: what is
 // lost is the sign that the end of the log was cut off.
-void Notary::keep(const Checkpoint &checkpoint) {
+void CheckpointSigner::keep(const Checkpoint &checkpoint) {
+    if (sender_) {
+        sender_->send(file_.text_of_file(checkpoint));
+    }
     try {
         file_.write(checkpoint);
         told_.clear();
@@ -61,13 +69,12 @@ void Notary::keep(const Checkpoint &checkpoint) {
     }
 }
 
-void Notary::end() {
+void CheckpointSigner::end(bool is_end_of_day) {
     stop();
-    sign();
-    log_.flush();
+    sign(is_end_of_day);
 }
 
-void Notary::stop() {
+void CheckpointSigner::stop() {
     if (thread_.joinable()) {
         thread_.request_stop();
         thread_.join();

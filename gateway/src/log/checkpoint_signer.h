@@ -1,15 +1,17 @@
 // Signs where the log stands, each second, and keeps the last signature outside of the database.
-#ifndef GATEWAY_NOTARY_H
-#define GATEWAY_NOTARY_H
+#ifndef GATEWAY_LOG_CHECKPOINT_SIGNER_H
+#define GATEWAY_LOG_CHECKPOINT_SIGNER_H
 
-#include "checkpoint_file.h"
-#include "log.h"
-#include "seals.h"
+#include "log/checkpoint_file.h"
+#include "log/checkpoint_sender.h"
+#include "log/log.h"
+#include "log/seals.h"
 
 #include <chrono>
 #include <memory>
 #include <string>
 #include <thread>
+#include <vector>
 
 #include <spdlog/logger.h>
 
@@ -18,24 +20,26 @@ namespace gateway {
 // Of the gateway that speaks, on a thread of its own: no commit waits for it. Signs at once, so at
 // each change of term; then less than a second after an entry was committed; after some seconds
 // without one once more, which shows those who follow that it is there; and at the end.
-class Notary {
+class CheckpointSigner {
   public:
-    // last is the number of the log's last checkpoint.
-    Notary(Log &log, Sealer sealer, CheckpointFile file, std::uint32_t last,
-           std::shared_ptr<spdlog::logger> events);
-    ~Notary() { stop(); }
-    Notary(const Notary &) = delete;
-    Notary &operator=(const Notary &) = delete;
+    // last is the log's last checkpoint; of number 0 where it has none. `send` is the program that
+    // is given each checkpoint; empty for none.
+    CheckpointSigner(Log &log, Sealer sealer, CheckpointFile file, Checkpoint last,
+                     const std::vector<std::string> &send, std::shared_ptr<spdlog::logger> events);
+    ~CheckpointSigner() { stop(); }
+    CheckpointSigner(const CheckpointSigner &) = delete;
+    CheckpointSigner &operator=(const CheckpointSigner &) = delete;
 
-    // Signs the end of the log, which is whole, and returns when that is on disk.
-    void end();
+    // Signs where the log ends, as the end of its day or not, and returns when that is on disk.
+    void end(bool is_end_of_day);
 
   private:
     using Clock = std::chrono::steady_clock;
 
     void run(const std::stop_token &stop);
     bool is_due();
-    void sign();
+    // The file is written once the log has the row: so what the file says, the log has.
+    void sign(bool is_end);
     void keep(const Checkpoint &checkpoint);
     void stop();
 
@@ -44,8 +48,8 @@ class Notary {
     Sealer sealer_;
     CheckpointFile file_;
     std::shared_ptr<spdlog::logger> events_;
-    std::uint32_t number_;
-    Position signed_;
+    const std::unique_ptr<CheckpointSender> sender_; // null for none
+    Checkpoint last_;
     Clock::time_point signed_at_;
     std::string told_; // why the last one could not be kept
 

@@ -1,8 +1,8 @@
 // The log's database, whichever it is. schema.sql is what stands in it.
-#ifndef GATEWAY_DATABASE_H
-#define GATEWAY_DATABASE_H
+#ifndef GATEWAY_LOG_DATABASE_H
+#define GATEWAY_LOG_DATABASE_H
 
-#include "records.h"
+#include "log/records.h"
 
 #include <map>
 #include <memory>
@@ -14,37 +14,29 @@
 namespace gateway {
 
 // Rows that are put into the log by one transaction. A session's row takes the place of its old
-// one.
+// one. Those of `sent`, `outgoing` and `session` are a copy for readers: no gateway reads them.
 struct Batch {
     std::vector<ConnectionEvent> connections;
     std::vector<Entry> entries;
     std::vector<Sent> sent;
     std::vector<Outgoing> outgoing;
+    bool is_repeated = false; // the gateway before may have put some of these two there
     std::map<std::string, SessionRow> sessions;
     std::vector<DroppedRejects> dropped; // of what was there before
     std::vector<SessionReset> resets;    // of what is there with this batch
-    std::optional<Seal> seal;            // of what connections and entries end with
+    std::vector<std::string> notes;      // lines of session notes, in order
+    std::optional<Seal> seal;            // of what connections, entries and notes end with
     std::vector<Checkpoint> checkpoints;
 
     bool empty() const {
         return connections.empty() && entries.empty() && sent.empty() && outgoing.empty() &&
-               sessions.empty() && dropped.empty() && resets.empty() && checkpoints.empty();
+               sessions.empty() && dropped.empty() && resets.empty() && notes.empty() &&
+               checkpoints.empty();
     }
 };
 
-// How far the log is for one firm.
-struct FirmState {
-    SessionRow session;
-    std::uint32_t entries = 0;     // messages of the firm that are in the log
-    std::uint32_t last_number = 0; // the greatest number of the session's epoch among them
-    std::uint64_t bytes = 0;       // of their lines
-    std::uint32_t sent = 0;        // messages of the venue
-    std::uint32_t kept = 0; // the last number of the session's epoch that something is kept under
-    std::uint32_t carried = 0; // the last message of the venue that its session keeps
-};
-
 // The form of the tables that this gateway reads and writes (schema.sql).
-constexpr std::uint32_t form_of_log = 5;
+constexpr std::uint32_t form_of_log = 6;
 
 // Why a log whose tables are of another form is not gone on with.
 inline std::string another_form(const std::string &log, std::uint32_t form) {
@@ -70,38 +62,24 @@ class LogReader {
     virtual std::vector<Entry> entries(std::uint32_t from, std::uint32_t limit) = 0;
     // The last entry, if there is one.
     virtual std::optional<Entry> last_entry() = 0;
-    // What was sent to a firm, from a number on, `limit` at most, in order.
-    virtual std::vector<Sent> sent(const std::string &firm, std::uint32_t from,
-                                   std::uint32_t limit) = 0;
-    // What a firm's session keeps from a number of an epoch on, `limit` at most, in order, but for
-    // what it has dropped.
-    virtual std::vector<Outgoing> outgoing(const std::string &firm, std::uint32_t epoch,
-                                           std::uint32_t from, std::uint32_t limit) = 0;
-    // What carries the venue's messages behind a number of an epoch, `limit` at most, in order, but
-    // for copies.
-    virtual std::vector<Outgoing> carriers(const std::string &firm, std::uint32_t epoch,
-                                           std::uint32_t behind, std::uint32_t limit) = 0;
-    // How much of the venue's a session keeps behind a number of an epoch.
-    virtual std::uint32_t count_kept(const std::string &firm, std::uint32_t epoch,
-                                     std::uint32_t behind) = 0;
-    // The state of every firm that stands anywhere in the log.
-    virtual std::map<std::string, FirmState> states() = 0;
-    virtual ConnectionState connections() = 0;
-    // The lines of all notes (notes.h), in order.
-    virtual std::vector<std::string> notes() = 0;
+    // The rows of `connection` from a place on, `limit` at most, in order.
+    virtual std::vector<ConnectionEvent> connection_events(std::uint32_t from,
+                                                           std::uint32_t limit) = 0;
+    // The last of them, if there is one.
+    virtual std::optional<ConnectionEvent> last_connection() = 0;
     // The seals from a number on, `limit` at most, in order, with the hashes that stand now in the
     // rows that they name.
     virtual std::vector<Seal> seals(std::uint32_t from, std::uint32_t limit) = 0;
+    virtual std::uint32_t count_checkpoints() = 0;
     // The last checkpoint, likewise, if there is one.
     virtual std::optional<Checkpoint> last_checkpoint() = 0;
-    // What a session keeps behind a number of an epoch that no message of the venue's vouches for:
-    // its own, copies, and what it has dropped; `limit` at most, in order.
-    virtual std::vector<Outgoing> own(const std::string &firm, std::uint32_t epoch,
-                                      std::uint32_t behind, std::uint32_t limit) = 0;
-    // The first copy of an epoch that is not what it is a copy of, by its number.
-    virtual std::optional<std::uint32_t> wrong_copy(const std::string &firm,
-                                                    std::uint32_t epoch) = 0;
+    // The checkpoint of this number, likewise, if there is one.
+    virtual std::optional<Checkpoint> checkpoint(std::uint32_t number) = 0;
 };
+
+// How far a log is for connections, by all rows of `connection`. Throws std::runtime_error where
+// one of them does not follow on the one before it.
+ConnectionState connections_in(LogReader &log);
 
 // Writes through a connection of its own; one thread at a time.
 class LogWriter {
@@ -161,6 +139,7 @@ constexpr std::string_view entry_columns =
 constexpr std::string_view connection_columns =
     "place, term, moment, event, entry, number, firm, address, certificate, why, left_out, before, "
     "hash";
+constexpr std::string_view sent_columns = "firm, number, place, bytes";
 constexpr std::string_view outgoing_columns =
     "firm, epoch, number, sent, copy, dropped, type, moment, bytes";
 constexpr std::string_view session_columns =
@@ -174,53 +153,27 @@ inline std::string select_connection(std::string_view rest) {
     return fmt::format("SELECT {} FROM connection {}", connection_columns, rest);
 }
 
-// Of the tables `seal` and `checkpoint`, with the hashes of the rows that a row names.
-inline std::string select_position(std::string_view table, std::string_view last,
-                                   std::string_view rest) {
-    return fmt::format("SELECT {0}.number, {0}.term, {0}.place, entry.hash, {0}.event, "
-                       "connection.hash, {0}.{1} FROM {0} LEFT JOIN entry ON entry.place = "
-                       "{0}.place LEFT JOIN connection ON connection.place = {0}.event {2}",
-                       table, last, rest);
+// Of the table `seal`: a row's position, with the hashes of the rows that it names, its mac and its
+// session notes.
+inline std::string select_seal(std::string_view rest) {
+    return fmt::format("SELECT seal.term, seal.place, entry.hash, seal.event, connection.hash, "
+                       "seal.number, seal.hash, seal.mac, seal.notes FROM seal LEFT JOIN entry ON "
+                       "entry.place = seal.place LEFT JOIN connection ON connection.place = "
+                       "seal.event {}",
+                       rest);
 }
 
-// Of the table `connection`: the Logons of connections that have no end.
-constexpr std::string_view open_connections =
-    "WHERE event = 'logon' AND NOT EXISTS (SELECT 1 FROM connection AS later "
-    "WHERE later.event = 'end' AND later.number = connection.number) ORDER BY place";
-
-// Of the table `entry`: the lines of notes. The bytes are those of `# `.
-inline std::string select_notes(std::string_view bytes) {
-    return fmt::format("SELECT line FROM entry WHERE firm IS NULL AND substr(line, 1, 2) = {} "
-                       "ORDER BY place",
-                       bytes);
-}
-
-// Of the table `entry`: what each firm has there. Numbers count from its session's last reset on.
-constexpr std::string_view entries_of_firms =
-    "SELECT entry.firm, count(*), coalesce(max(CASE WHEN entry.place > "
-    "coalesce(session.entries_from, 0) THEN entry.number END), 0), sum(length(entry.line)) "
-    "FROM entry LEFT JOIN session ON session.firm = entry.firm WHERE entry.firm IS NOT NULL "
-    "GROUP BY entry.firm";
-
-// Of the table `outgoing`: what each session keeps, and carries of the venue's.
-constexpr std::string_view outgoing_of_firms =
-    "SELECT outgoing.firm, coalesce(max(CASE WHEN outgoing.epoch = coalesce(session.epoch, 0) THEN "
-    "outgoing.number END), 0), coalesce(max(outgoing.sent), 0) "
-    "FROM outgoing LEFT JOIN session ON session.firm = outgoing.firm GROUP BY outgoing.firm";
-
-// Of the table `outgoing`.
-inline std::string select_outgoing(std::string_view rest) {
-    return fmt::format("SELECT {} FROM outgoing WHERE {}", outgoing_columns, rest);
-}
-
-// LogReader::wrong_copy(), by its parameters firm and epoch.
-inline std::string select_wrong_copy(std::string_view firm, std::string_view epoch) {
-    return fmt::format("SELECT coalesce(min(copied.number), 0) FROM outgoing AS copied LEFT JOIN "
-                       "outgoing AS given ON given.firm = copied.firm AND given.sent = copied.sent "
-                       "AND given.copy = 0 WHERE copied.firm = {} AND copied.epoch = {} AND "
-                       "copied.copy = 1 AND (given.number IS NULL OR given.bytes <> copied.bytes "
-                       "OR given.moment <> copied.moment OR given.type <> copied.type)",
-                       firm, epoch);
+// Of the table `checkpoint`: a row's position likewise, its number, whether it is the end, its
+// signature, and that of the one before, which is `nothing` where there is none.
+inline std::string select_checkpoint(std::string_view nothing, std::string_view rest) {
+    return fmt::format(
+        "SELECT checkpoint.term, checkpoint.place, entry.hash, checkpoint.event, connection.hash, "
+        "checkpoint.seal, seal.hash, checkpoint.number, checkpoint.is_end, checkpoint.signature, "
+        "coalesce((SELECT earlier.signature FROM checkpoint AS earlier WHERE earlier.number = "
+        "checkpoint.number - 1), {}) FROM checkpoint LEFT JOIN entry ON entry.place = "
+        "checkpoint.place LEFT JOIN connection ON connection.place = checkpoint.event LEFT JOIN "
+        "seal ON seal.number = checkpoint.seal {}",
+        nothing, rest);
 }
 
 // Drops the Rejects of a session, by its parameters firm, epoch and first number.

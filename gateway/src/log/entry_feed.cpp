@@ -1,4 +1,4 @@
-#include "committed.h"
+#include "log/entry_feed.h"
 
 namespace gateway {
 
@@ -15,12 +15,12 @@ std::size_t bytes_of(const LoggedEntry &logged) {
 
 } // namespace
 
-void Committed::put(const std::vector<LoggedEntry> &entries) {
+void EntryFeed::put(const std::vector<LoggedEntry> &entries) {
     put_ahead(entries);
     are_stored();
 }
 
-void Committed::put_ahead(const std::vector<LoggedEntry> &entries) {
+void EntryFeed::put_ahead(const std::vector<LoggedEntry> &entries) {
     if (entries.empty()) {
         return;
     }
@@ -38,18 +38,18 @@ void Committed::put_ahead(const std::vector<LoggedEntry> &entries) {
     }
 }
 
-void Committed::keep(const LoggedEntry &logged) {
+void EntryFeed::keep(const LoggedEntry &logged) {
     recent_.push_back(logged);
     recent_bytes_ += bytes_of(logged);
 }
 
-void Committed::are_stored() {
+void EntryFeed::are_stored() {
     const std::lock_guard lock(mutex_);
     stored_place_ = last_place_;
     drop_old();
 }
 
-void Committed::drop_old() {
+void EntryFeed::drop_old() {
     while ((recent_.size() > kept || recent_bytes_ > kept_bytes) &&
            recent_.front().entry.place <= stored_place_) {
         recent_bytes_ -= bytes_of(recent_.front());
@@ -57,7 +57,7 @@ void Committed::drop_old() {
     }
 }
 
-void Committed::close() {
+void EntryFeed::close() {
     const std::lock_guard telling(telling_mutex_);
     {
         const std::lock_guard lock(mutex_);
@@ -68,12 +68,12 @@ void Committed::close() {
     }
 }
 
-void Committed::tell(Reader *reader) {
+void EntryFeed::tell(Reader *reader) {
     const std::lock_guard telling(telling_mutex_);
     reader_ = reader;
 }
 
-std::optional<std::vector<LoggedEntry>> Committed::from(std::uint32_t place) {
+std::optional<std::vector<LoggedEntry>> EntryFeed::from(std::uint32_t place) {
     const std::lock_guard lock(mutex_);
     if (last_place_ < place) {
         return std::vector<LoggedEntry>{};
@@ -86,12 +86,12 @@ std::optional<std::vector<LoggedEntry>> Committed::from(std::uint32_t place) {
     return std::vector<LoggedEntry>(first, recent_.end());
 }
 
-std::uint32_t Committed::last_place() {
+std::uint32_t EntryFeed::last_place() {
     const std::lock_guard lock(mutex_);
     return last_place_;
 }
 
-bool Committed::is_closed() {
+bool EntryFeed::is_closed() {
     const std::lock_guard lock(mutex_);
     return closed_;
 }

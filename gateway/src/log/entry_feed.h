@@ -1,8 +1,8 @@
 // The entries that are in the log, on their way to the venue.
-#ifndef GATEWAY_COMMITTED_H
-#define GATEWAY_COMMITTED_H
+#ifndef GATEWAY_LOG_ENTRY_FEED_H
+#define GATEWAY_LOG_ENTRY_FEED_H
 
-#include "records.h"
+#include "log/records.h"
 
 #include <chrono>
 #include <deque>
@@ -24,7 +24,7 @@ struct LoggedEntry {
 // A venue may be given an entry while that is being committed: what it answers is held back until
 // the commit is done (SessionHost::is_entry_stored), and where the commit fails this gateway ends,
 // its venue with it.
-class Committed {
+class EntryFeed {
   public:
     // Is told of what is put, on the thread that puts it, which it keeps waiting for nothing.
     class Reader {
@@ -36,7 +36,7 @@ class Committed {
     };
 
     // All up to this place are in the log.
-    explicit Committed(std::uint32_t last_place)
+    explicit EntryFeed(std::uint32_t last_place)
         : last_place_(last_place), stored_place_(last_place) {}
 
     // In order, and without a gap; one thread at a time. They are in the log.

@@ -1,6 +1,6 @@
 // How much of the log's next batch, and of what the venue has not answered, may be one firm's.
-#ifndef GATEWAY_SHARES_H
-#define GATEWAY_SHARES_H
+#ifndef GATEWAY_LOG_FAIR_SHARE_H
+#define GATEWAY_LOG_FAIR_SHARE_H
 
 #include <cstddef>
 #include <cstdint>
@@ -22,9 +22,9 @@ struct ShareLimits {
 
 // So a firm that sends without end is waited for by nobody but itself, and the venue has never more
 // to answer than it does in a moment. One thread at a time.
-class Shares {
+class FairShare {
   public:
-    explicit Shares(const ShareLimits &limits) : limits_(limits) {}
+    explicit FairShare(const ShareLimits &limits) : limits_(limits) {}
 
     // Whether the firm may have one more entry in the next batch.
     bool has_room(const std::string &firm) const;

@@ -1,4 +1,4 @@
-#include "log.h"
+#include "log/log.h"
 
 #include <stdexcept>
 #include <utility>
@@ -20,6 +20,9 @@ constexpr std::size_t many = 512;
 // its entry waiting for little.
 constexpr auto whole_at_least = 5ms;
 
+// Of one firm's marks, from one to the next.
+constexpr auto between_marks = 5ms;
+
 // Bytes of entries that may wait, however few these are.
 constexpr std::size_t many_bytes = 4 << 20;
 
@@ -31,7 +34,7 @@ constexpr int looks_to_rest = 5;
 constexpr int looks_to_be_seen = 50;
 
 Position end_of(const Log::Start &start) {
-    Position end{start.term, start.last.place, start.last.hash, 0, {}};
+    Position end{start.term, start.last.place, start.last.hash, 0, {}, start.seals, start.notes};
     if (start.connections.last) {
         end.event = start.connections.last->place;
         end.event_hash = start.connections.last->hash;
@@ -41,17 +44,17 @@ Position end_of(const Log::Start &start) {
 
 } // namespace
 
-Log::Log(Database &database, Committed &committed, DayClock &clock, Metrics &metrics, Start start,
+Log::Log(Database &database, EntryFeed &feed, DayClock &clock, Metrics &metrics, Start start,
          std::function<void(const std::string &)> failed)
-    : entries_(committed), clock_(clock), metrics_(metrics), failed_(std::move(failed)),
+    : entries_(feed), clock_(clock), metrics_(metrics), failed_(std::move(failed)),
       noted_(std::move(start.noted)), stored_(std::move(start.stored)), writer_(database.writer()),
-      limit_(start.waiting), shares_(start.shares), next_place_(start.last.place + 1),
+      limit_(start.waiting), fair_share_(start.shares), next_place_(start.last.place + 1),
       taken_place_(start.last.place),
       taken_moment_(ExactMoment::end_of(moment_of(start.last.moment).value_or(Moment{}))),
       committed_place_(start.last.place),
       last_event_(start.connections.last ? start.connections.last->place : 0),
       last_connection_(start.connections.greatest), term_(start.term),
-      committed_end_(end_of(start)), chain_(committed_end_, std::move(start.sealer), start.seals),
+      committed_end_(end_of(start)), chain_(committed_end_, std::move(start.sealer)),
       thread_([this](const std::stop_token &stop) { write(stop); }) {}
 
 Log::~Log() = default;
@@ -106,11 +109,37 @@ Log::Ticket Log::put(SessionChange change) {
     if (change.reset) {
         filling_.rows.resets.push_back(std::move(*change.reset));
     }
+    put_notes(change.row.firm, std::move(change.notes), std::move(change.mark));
     filling_.rows.sessions[change.row.firm] = std::move(change.row);
     if (filling_.size == many) {
         work_.notify_one();
     }
     return filling_ticket_;
+}
+
+// The lock is held in both.
+void Log::put_notes(const std::string &firm, std::vector<std::string> notes,
+                    std::optional<std::string> mark) {
+    if (notes.empty()) {
+        if (mark) {
+            marks_[firm].line = std::move(*mark);
+        }
+        return;
+    }
+    marks_[firm].line.clear();
+    filling_.has_own = true;
+    for (std::string &note : notes) {
+        filling_.rows.notes.push_back(std::move(note));
+    }
+}
+
+void Log::put_marks(Filling &filling, std::chrono::steady_clock::time_point now, bool all) {
+    for (auto &[firm, mark] : marks_) {
+        if (!mark.line.empty() && (all || now - mark.put_at >= between_marks)) {
+            filling.rows.notes.push_back(std::exchange(mark.line, {}));
+            mark.put_at = now;
+        }
+    }
 }
 
 // Those that were put before, here and in the database. The lock is held.
@@ -124,10 +153,12 @@ void Log::drop(DroppedRejects rejects) {
     filling_.rows.dropped.push_back(std::move(rejects));
 }
 
-void Log::put_checkpoint(const Checkpoint &checkpoint) {
+Log::Ticket Log::put_checkpoint(const Checkpoint &checkpoint) {
     const std::lock_guard lock(mutex_);
+    throw_if_failed();
     filling_.rows.checkpoints.push_back(checkpoint);
     ++filling_.size;
+    return filling_ticket_;
 }
 
 Position Log::position() {
@@ -285,6 +316,7 @@ Log::Filling Log::take(bool all) {
         ++filling_ticket_;
         Filling whole = std::exchange(filling_, Filling{});
         place_arrivals(whole);
+        put_marks(whole, now, all);
         return whole;
     }
     Filling entries;
@@ -344,7 +376,7 @@ void Log::tell_stored(const Filling &filling) {
     stored_();
     for (const Entry &entry : filling.rows.entries) {
         if (!entry.firm && entry.line.starts_with('#')) {
-            noted_(entry.line);
+            noted_(entry.place, entry.line);
         }
     }
 }

@@ -1,15 +1,15 @@
 // The log as the gateway writes it: what waits is committed together, in one order for all.
-#ifndef GATEWAY_LOG_H
-#define GATEWAY_LOG_H
+#ifndef GATEWAY_LOG_LOG_H
+#define GATEWAY_LOG_LOG_H
 
-#include "arrivals.h"
-#include "chain.h"
-#include "committed.h"
-#include "database.h"
-#include "metrics.h"
-#include "moment.h"
-#include "seals.h"
-#include "shares.h"
+#include "common/moment.h"
+#include "health/metrics.h"
+#include "log/arrivals.h"
+#include "log/chain.h"
+#include "log/database.h"
+#include "log/entry_feed.h"
+#include "log/fair_share.h"
+#include "log/seals.h"
 
 #include <atomic>
 #include <chrono>
@@ -52,18 +52,20 @@ class Log {
         std::uint32_t term = 0; // in which this gateway writes
         // Of each batch. Without one nothing is sealed, and no start takes the log.
         std::optional<Sealer> sealer;
-        std::uint32_t seals = 0;    // the last one's number
+        std::uint32_t seals = 0;    // the last one's number,
+        Digest notes{};             // and the running hash of the session notes up to it
         std::size_t waiting = 4096; // rows that may wait
         ShareLimits shares;
-        // Is told the line of each note that is committed, by the thread that committed it, which
-        // it keeps waiting for nothing.
-        std::function<void(const std::string &line)> noted = [](const std::string &) {};
+        // Is told the place and the line of each note that is committed, by the thread that
+        // committed it, which it keeps waiting for nothing.
+        std::function<void(std::uint32_t place, const std::string &line)> noted =
+            [](std::uint32_t, const std::string &) {};
         // Is called once more entries are on disk, likewise.
         std::function<void()> stored = [] {};
     };
 
-    // What is committed is put into `committed`.
-    Log(Database &database, Committed &committed, DayClock &clock, Metrics &metrics, Start start,
+    // What is committed is put into `feed`.
+    Log(Database &database, EntryFeed &feed, DayClock &clock, Metrics &metrics, Start start,
         std::function<void(const std::string &)> failed);
     // Commits what waits.
     ~Log();
@@ -142,19 +144,23 @@ class Log {
     // than the first entry that names it. Waits for nothing.
     std::uint32_t put_connection(ConnectionEvent event);
     // What an event of a session changes, in one transaction: its row; what it keeps, with the
-    // venue's message that this carries; and the Rejects that it drops first, those from a number
-    // on.
+    // venue's message that this carries; the Rejects that it drops first, those from a number on;
+    // and the lines of its session notes, in their order.
     struct SessionChange {
         SessionRow row;
         std::optional<Outgoing> kept;
         std::optional<Sent> carried;
         std::optional<std::uint32_t> drops_rejects_from;
         std::optional<SessionReset> reset;
+        std::vector<std::string> notes{};
+        // The line of a session note that is put with a batch, as long as no other of the firm is:
+        // at most one in some milliseconds.
+        std::optional<std::string> mark{};
     };
     Ticket put(SessionChange change);
 
-    // A signature of what is committed. Waits for nothing.
-    void put_checkpoint(const Checkpoint &checkpoint);
+    // A signature of what is committed.
+    Ticket put_checkpoint(const Checkpoint &checkpoint);
     // Up to where the log is committed.
     Position position();
     // The venue has answered all entries up to this place.
@@ -176,8 +182,8 @@ class Log {
     std::uint32_t fence();
     // How many messages wait now, for the end of a hold or for room.
     std::size_t waiting();
-    // How long ago something was committed last, or the log was opened. The Notary has something
-    // committed every five seconds.
+    // How long ago something was committed last, or the log was opened. The CheckpointSigner has
+    // something committed every five seconds.
     std::chrono::steady_clock::duration since_commit();
     // When the commit of now began; nothing where none is waited for.
     std::optional<std::chrono::steady_clock::time_point> commits_since();
@@ -191,8 +197,8 @@ class Log {
         std::vector<std::chrono::steady_clock::time_point> received;
         std::size_t size = 0;
         bool is_whole = true; // not its entries alone
-        // A session keeps something of its own: no entry is committed without that, since it may be
-        // the answer to a message before.
+        // A session keeps something of its own, or a session note says something: no entry is
+        // committed without that, since it may be the answer to a message before.
         bool has_own = false;
     };
     using Waiters = std::list<Waiter>;
@@ -206,6 +212,10 @@ class Log {
     void wait_until_it_may(std::unique_lock<std::mutex> &lock, Waiters::iterator own);
     void leave(Waiters::iterator own);
     void drop(DroppedRejects rejects);
+    void put_notes(const std::string &firm, std::vector<std::string> notes,
+                   std::optional<std::string> mark);
+    // The marks that are due, or all, behind the other session notes.
+    void put_marks(Filling &filling, std::chrono::steady_clock::time_point now, bool all);
     bool may_go(Waiters::const_iterator waiter) const;
     bool has_share(const Waiter &waiter) const;
     bool is_held(const Waiter &waiter) const;
@@ -237,11 +247,11 @@ class Log {
     void give_venue(const Filling &filling);
     void fail(const std::string &cause);
 
-    Committed &entries_;
+    EntryFeed &entries_;
     DayClock &clock_;
     Metrics &metrics_;
     std::function<void(const std::string &)> failed_;
-    std::function<void(const std::string &)> noted_;
+    std::function<void(std::uint32_t, const std::string &)> noted_;
     std::function<void()> stored_;
     std::unique_ptr<LogWriter> writer_;
     const std::size_t limit_;
@@ -254,10 +264,15 @@ class Log {
     std::condition_variable_any room_; // for whoever has rows
     Filling filling_;
     Arrivals arrivals_;
-    Shares shares_;
+    FairShare fair_share_;
     Waiters waiters_; // the first that came first
     bool urgent_ = false;
     std::chrono::steady_clock::time_point whole_at_; // when a whole batch was taken last
+    struct Mark {
+        std::string line; // that is due; empty where none is
+        std::chrono::steady_clock::time_point put_at{};
+    };
+    std::map<std::string, Mark> marks_; // by firm
     std::optional<ExactMoment> held_from_;
     bool writing_ = false; // some thread has the writer
     std::chrono::steady_clock::time_point writing_since_;

@@ -1,8 +1,8 @@
 // How entries come into the log: who goes first, in which order, at which moment.
-#include "log.h"
+#include "log/log.h"
 
-#include "frame.h"
-#include "notes.h"
+#include "common/frame.h"
+#include "log/notes.h"
 
 #include <algorithm>
 #include <utility>
@@ -48,7 +48,7 @@ Log::Ticket Log::append_message(const std::string &firm, const std::optional<Cam
     wait_until_it_may(lock, own);
     leave(own);
     throw_if_failed();
-    shares_.put(firm);
+    fair_share_.put(firm);
     const Ticket ticket = append_here(std::move(arrival), committer);
     if (!came) {
         // It has the number behind those of the firm that are here: what the firm sent before it
@@ -76,7 +76,7 @@ std::optional<Log::Ticket> Log::append_at_once(const std::string &firm, const Ca
     }
     turn.log_ = nullptr;
     leave(own);
-    shares_.put(firm);
+    fair_share_.put(firm);
     filling_.rows.sessions[firm] = std::move(session);
     return append_here(std::move(arrival), Committer::caller);
 }
@@ -134,7 +134,7 @@ bool Log::may_go(Waiters::const_iterator waiter) const {
 }
 
 bool Log::has_share(const Waiter &waiter) const {
-    return !waiter.is_firms || shares_.has_room(waiter.firm);
+    return !waiter.is_firms || fair_share_.has_room(waiter.firm);
 }
 
 bool Log::is_held(const Waiter &waiter) const {
@@ -143,7 +143,7 @@ bool Log::is_held(const Waiter &waiter) const {
 
 void Log::answered(std::uint32_t place) {
     const std::lock_guard lock(mutex_);
-    shares_.answered(place);
+    fair_share_.answered(place);
     if (!waiters_.empty()) {
         room_.notify_all();
     }
@@ -196,7 +196,7 @@ Log::Ticket Log::append_act(std::string_view text, const std::string &firm,
     Ticket ticket = 0;
     for (Arrival &arrival : arrivals) {
         if (arrival.entry.firm) {
-            shares_.put(firm);
+            fair_share_.put(firm);
         }
         ticket = append_here(std::move(arrival), Committer::thread);
     }
@@ -245,12 +245,12 @@ void Log::place_arrivals(Filling &filling) {
         entry.line.reserve(arrival.verb.size() + entry.moment.size() + arrival.rest.size());
         entry.line.append(arrival.verb).append(entry.moment).append(arrival.rest);
         if (entry.firm) {
-            shares_.committed(*entry.firm, entry.place);
+            fair_share_.committed(*entry.firm, entry.place);
         }
         filling.received.push_back(arrival.received);
         filling.rows.entries.push_back(std::move(entry));
     }
-    shares_.batch_taken();
+    fair_share_.batch_taken();
 }
 
 } // namespace gateway

@@ -1,4 +1,4 @@
-#include "log_guard.h"
+#include "log/log_guard.h"
 
 #include <utility>
 
@@ -8,11 +8,25 @@ namespace gateway {
 
 namespace {
 
-// Seals that are read at once.
+// Seals, or entries, that are read at once.
 constexpr std::uint32_t chunk = 1024;
 
 // In the file before there is an entry: any log follows on it.
 const Digest nothing{};
+
+// Throws where an entry does not follow on the one before it.
+void check_chain(LogReader &log) {
+    std::vector<Entry> some;
+    std::uint32_t place = 0;
+    Digest before{};
+    do {
+        some = log.entries(place, chunk);
+        for (const Entry &entry : some) {
+            check_link(entry, place++, before);
+            before = entry.hash;
+        }
+    } while (some.size() == chunk);
+}
 
 bool has_entry(LogReader &log, std::uint32_t place, const Digest &hash) {
     const std::vector<Entry> found = log.entries(place, 1);
@@ -22,10 +36,11 @@ bool has_entry(LogReader &log, std::uint32_t place, const Digest &hash) {
 } // namespace
 
 LogGuard::LogGuard(Sealer sealer, const std::filesystem::path &checkpoints,
-                   std::shared_ptr<spdlog::logger> events)
-    : sealer_(std::move(sealer)), file_(checkpoints, sealer_), events_(std::move(events)) {}
+                   std::shared_ptr<spdlog::logger> events, Notes notes)
+    : sealer_(std::move(sealer)), file_(checkpoints, sealer_), events_(std::move(events)),
+      notes_(std::move(notes)) {}
 
-Seal LogGuard::begin(const Entry &last) {
+Seal LogGuard::begin(LogReader &log, const Entry &last) {
     const auto kept = was_kept_ ? file_.read() : std::optional<Checkpoint>();
     if (kept && kept->at.hash != nothing) {
         throw LogNotAccepted(
@@ -34,16 +49,21 @@ Seal LogGuard::begin(const Entry &last) {
     }
     // So a start that comes after the first entry, and before the first signature, knows of it.
     if (was_kept_) {
-        file_.write(sealer_.sign(0, Position{}));
+        file_.write(sealer_.sign(Checkpoint{}));
     }
-    sealed_ = sealer_.seal(1, {last.term, last.place, last.hash, 0, {}});
+    read_on(log);
+    const Position &before = sealed_.at;
+    sealed_ =
+        sealer_.seal({last.term, last.place, last.hash, 0, {}, before.seal + 1, before.notes});
     return sealed_;
 }
 
 // The seals first: a log that somebody has changed is never for an operator to accept.
 void LogGuard::check_found(LogReader &log) {
-    const auto last = log.last_checkpoint();
-    signed_ = last ? last->number : 0;
+    signed_ = log.last_checkpoint().value_or(Checkpoint{});
+    if (const std::uint32_t count = log.count_checkpoints(); count != signed_.number) {
+        events_->error("checkpoints are missing in the log of={} last={}", count, signed_.number);
+    }
     read_on(log);
     const auto kept = file_.read();
     was_kept_ = kept.has_value();
@@ -53,15 +73,31 @@ void LogGuard::check_found(LogReader &log) {
 }
 
 void LogGuard::check_kept(LogReader &log, const Checkpoint &kept) {
-    if (kept.at.hash == nothing || has_entry(log, kept.at.place, kept.at.hash)) {
-        return;
+    if (kept.at.hash != nothing && !has_entry(log, kept.at.place, kept.at.hash)) {
+        const auto last = log.last_entry();
+        const std::uint32_t end = last ? last->place : 0;
+        not_accepted(
+            kept,
+            end < kept.at.place
+                ? fmt::format("the log ends at entry {}: it was cut off, or is an old backup", end)
+                : fmt::format("entry {} is another one: the log is not the same", kept.at.place));
     }
-    const auto last = log.last_entry();
-    const std::uint32_t end = last ? last->place : 0;
-    const std::string what =
-        end < kept.at.place
-            ? fmt::format("the log ends at entry {}: it was cut off, or is an old backup", end)
-            : fmt::format("entry {} is another one: the log is not the same", kept.at.place);
+    if (kept.number == 0) {
+        return; // of a begin, or of a loss that an operator has accepted
+    }
+    const auto row = log.checkpoint(kept.number);
+    if (!row || *row != kept) {
+        // Where a seal was taken out, nothing is for an operator to accept.
+        if (const auto last = log.last_entry()) {
+            check_sealed(log, *last);
+        }
+        not_accepted(kept, fmt::format("checkpoint {} is {}: the log was cut off, or is an old "
+                                       "backup",
+                                       kept.number, row ? "another one" : "not there"));
+    }
+}
+
+void LogGuard::not_accepted(const Checkpoint &kept, const std::string &what) const {
     throw LogNotAccepted(fmt::format("{}; by the checkpoint in {} it had entry {}{}", what,
                                      file_.path().string(), kept.at.place, way_out()));
 }
@@ -69,11 +105,12 @@ void LogGuard::check_kept(LogReader &log, const Checkpoint &kept) {
 void LogGuard::read_on(LogReader &log) {
     std::vector<Seal> seals;
     do {
-        seals = log.seals(sealed_.number + 1, chunk);
+        seals = log.seals(sealed_.at.seal + 1, chunk);
         for (const Seal &seal : seals) {
-            if (seal.number != sealed_.number + 1 || !sealer_.is_sealed(seal)) {
+            if (!sealer_.follows(seal, sealed_.at)) {
                 tell_change(log, seal);
             }
+            notes_(seal.notes);
             sealed_ = seal;
         }
     } while (seals.size() == chunk);
@@ -84,8 +121,9 @@ void LogGuard::read_on(LogReader &log) {
 // seal that was right; else up to where it is.
 void LogGuard::tell_change(LogReader &log, const Seal &wrong) {
     Digest before = sealed_.at.hash;
-    std::uint32_t place = sealed_.number == 0 ? 0 : sealed_.at.place + 1;
-    if (wrong.at.place >= place) {
+    // None is sealed where the last seal is of before the day: its place is one before 0.
+    std::uint32_t place = sealed_.at.seal == 0 ? 0 : sealed_.at.place + 1;
+    if (wrong.at.place >= place && wrong.at.place != before_day) {
         for (const Entry &entry : log.entries(place, wrong.at.place - place + 1)) {
             check_link(entry, place++, before);
             before = entry.hash;
@@ -94,13 +132,13 @@ void LogGuard::tell_change(LogReader &log, const Seal &wrong) {
     throw std::runtime_error(fmt::format(
         "the log was changed at or before entry {}: seal {} is not that of this venue's "
         "gateways, for this day, its configuration and what stands there",
-        wrong.at.place, wrong.number));
+        column_of_place(wrong.at.place), wrong.at.seal));
 }
 
 // What the other gateway has signed since this one looked last.
 void LogGuard::keep_last(LogReader &log) {
     const auto last = log.last_checkpoint();
-    if (!last || last->number <= signed_) {
+    if (!last || last->number <= signed_.number) {
         return;
     }
     if (!sealer_.is_signed(*last)) {
@@ -109,7 +147,7 @@ void LogGuard::keep_last(LogReader &log) {
                         last->number, last->at.place));
     }
     file_.write(*last);
-    signed_ = last->number;
+    signed_ = *last;
     was_kept_ = true;
 }
 
@@ -127,20 +165,22 @@ void LogGuard::check_end(LogReader &log, const Entry &last) {
 
 void LogGuard::check_sealed(LogReader &log, const Entry &last) {
     read_on(log);
-    const auto event = log.connections().last;
-    const Position end{sealed_.at.term, last.place, last.hash, event ? event->place : 0,
-                       event ? event->hash : Digest{}};
-    if (sealed_.number == 0 || sealed_.at.place != end.place || sealed_.at.hash != end.hash) {
+    const auto event = log.last_connection();
+    const Position &at = sealed_.at;
+    const Position end{
+        at.term, last.place, last.hash, event ? event->place : 0, event ? event->hash : Digest{},
+        at.seal, at.notes};
+    if (at.seal == 0 || at.place != end.place || at.hash != end.hash) {
         throw std::runtime_error(
             fmt::format("entry {} is not sealed: no gateway of this log has put it there. The last "
                         "seal is that of entry {}",
-                        last.place, sealed_.at.place));
+                        last.place, column_of_place(at.place)));
     }
-    if (!(sealed_.at == end)) {
+    if (!(at == end)) {
         throw std::runtime_error(
             fmt::format("row {} of the table connection is not sealed: no gateway of this log has "
                         "put it there. The last seal is that of row {}",
-                        end.event, sealed_.at.event));
+                        end.event, at.event));
     }
 }
 
@@ -149,14 +189,27 @@ std::string LogGuard::way_out() const {
            "mireseason-gateway --accept-loss CONFIG";
 }
 
-std::unique_ptr<Notary> LogGuard::notary(Log &log) const {
-    return std::make_unique<Notary>(log, sealer_, file_, signed_, events_);
+std::unique_ptr<CheckpointSigner> LogGuard::signer(Log &log,
+                                                   const std::vector<std::string> &send) const {
+    return std::make_unique<CheckpointSigner>(log, sealer_, file_, signed_, send, events_);
+}
+
+void LogGuard::sign_end(LogReader &log, LogWriter &writer, std::uint32_t term) {
+    check_chain(log);
+    check_found(log);
+    check_end(log, log.last_entry().value_or(Entry{}));
+    Position end = sealed_.at;
+    end.term = term;
+    signed_ = sealer_.sign({signed_.number + 1, end, signed_.signature, true, {}});
+    Batch batch;
+    batch.checkpoints.push_back(signed_);
+    writer.commit(batch);
+    file_.write(signed_);
 }
 
 std::string LogGuard::accept(LogReader &log, const std::function<void(const Entry &last)> &commit) {
     // What is kept stands until the act is committed: to read the log puts nothing there.
-    const auto checkpoint = log.last_checkpoint();
-    signed_ = checkpoint ? checkpoint->number : 0;
+    signed_ = log.last_checkpoint().value_or(Checkpoint{});
     // A file that is none is given up, too.
     std::string had = "nothing that can be read";
     try {
@@ -172,7 +225,7 @@ std::string LogGuard::accept(LogReader &log, const std::function<void(const Entr
     commit(last.value_or(Entry{}));
     read_on(log);
     was_kept_ = true;
-    file_.write(sealer_.sign(0, sealed_.at));
+    file_.write(sealer_.sign({0, sealed_.at, {}, false, {}}));
     return fmt::format("{}: the log goes on behind {}; the checkpoint that was kept had {}",
                        file_.path().string(),
                        last ? fmt::format("entry {}", last->place) : "nothing", had);

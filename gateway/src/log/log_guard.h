@@ -1,12 +1,12 @@
 // Holds a log against its seals and against the checkpoint that was kept outside of its database.
-#ifndef GATEWAY_LOG_GUARD_H
-#define GATEWAY_LOG_GUARD_H
+#ifndef GATEWAY_LOG_LOG_GUARD_H
+#define GATEWAY_LOG_LOG_GUARD_H
 
-#include "checkpoint_file.h"
-#include "database.h"
-#include "log.h"
-#include "notary.h"
-#include "seals.h"
+#include "log/checkpoint_file.h"
+#include "log/checkpoint_signer.h"
+#include "log/database.h"
+#include "log/log.h"
+#include "log/seals.h"
 
 #include <filesystem>
 #include <functional>
@@ -14,6 +14,8 @@
 #include <optional>
 #include <stdexcept>
 #include <string>
+#include <string_view>
+#include <vector>
 
 #include <spdlog/logger.h>
 
@@ -29,14 +31,19 @@ class LogNotAccepted : public std::runtime_error {
 // One thread at a time.
 class LogGuard {
   public:
-    LogGuard(Sealer sealer, const std::filesystem::path &checkpoints,
-             std::shared_ptr<spdlog::logger> events);
+    // Is told the session notes of each seal that was verified, in their order.
+    using Notes = std::function<void(std::string_view lines)>;
+
+    LogGuard(
+        Sealer sealer, const std::filesystem::path &checkpoints,
+        std::shared_ptr<spdlog::logger> events, Notes notes = [](std::string_view) {});
 
     const Sealer &sealer() const { return sealer_; }
 
     // Before the first batch of the day: throws LogNotAccepted where there was one, which is not
-    // given up just now. The seal is that of the batch, whose last entry this is.
-    Seal begin(const Entry &last);
+    // given up just now. The seal is that of the batch, whose last entry this is; it follows on
+    // those of the session notes from before the day, which are verified.
+    Seal begin(LogReader &log, const Entry &last);
     // Verifies all seals of the log that a start found, and holds it against the checkpoint that
     // was kept. Throws as read_on() and begin() do.
     void check_found(LogReader &log);
@@ -46,13 +53,18 @@ class LogGuard {
     // All is read, and nobody else writes: throws where the last entry is not sealed, and
     // LogNotAccepted where it is not known whether it is the last.
     void check_end(LogReader &log, const Entry &last);
-    // The number of the last seal.
-    std::uint32_t seals() const { return sealed_.number; }
+    // Where the last seal that was verified stands.
+    const Position &sealed() const { return sealed_.at; }
     // Whether a checkpoint of the log is kept: without one check_end() throws.
     bool has_kept() const { return was_kept_; }
 
-    // Who signs the log, from now on.
-    std::unique_ptr<Notary> notary(Log &log) const;
+    // Who signs the log, from now on, and gives each checkpoint to a program, if there is one.
+    std::unique_ptr<CheckpointSigner> signer(Log &log,
+                                             const std::vector<std::string> &send = {}) const;
+
+    // Signs the end of a day that nobody writes any more, in this term, once the log is right:
+    // throws as check_found() and check_end().
+    void sign_end(LogReader &log, LogWriter &writer, std::uint32_t term);
 
     // Takes the log as it is, which is sealed up to its end. First `commit` puts it behind the last
     // entry that the loss is accepted, or begins the log with that: it is given an empty one then.
@@ -64,14 +76,16 @@ class LogGuard {
     void keep_last(LogReader &log);
     void check_sealed(LogReader &log, const Entry &last);
     void check_kept(LogReader &log, const Checkpoint &kept);
+    [[noreturn]] void not_accepted(const Checkpoint &kept, const std::string &what) const;
     std::string way_out() const;
 
     Sealer sealer_;
     CheckpointFile file_;
     std::shared_ptr<spdlog::logger> events_;
-    Seal sealed_;              // the last one that was verified
-    std::uint32_t signed_ = 0; // the number of the log's last checkpoint
-    bool was_kept_ = true;     // a checkpoint that is not given up, or one came since
+    Notes notes_;
+    Seal sealed_;          // the last one that was verified
+    Checkpoint signed_;    // the log's last one; of number 0 where it has none
+    bool was_kept_ = true; // a checkpoint that is not given up, or one came since
 };
 
 } // namespace gateway

@@ -1,7 +1,7 @@
-#include "make_keys.h"
+#include "log/make_keys.h"
 
-#include "private_file.h"
-#include "records.h"
+#include "base/digest.h"
+#include "base/private_file.h"
 
 #include <algorithm>
 #include <cctype>

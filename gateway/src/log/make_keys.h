@@ -1,6 +1,6 @@
 // The keys of the gateways of one log.
-#ifndef GATEWAY_MAKE_KEYS_H
-#define GATEWAY_MAKE_KEYS_H
+#ifndef GATEWAY_LOG_MAKE_KEYS_H
+#define GATEWAY_LOG_MAKE_KEYS_H
 
 #include <filesystem>
 #include <string>

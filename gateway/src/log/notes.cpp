@@ -1,4 +1,6 @@
-#include "notes.h"
+#include "log/notes.h"
+
+#include "base/escaped.h"
 
 #include <algorithm>
 #include <array>
@@ -17,19 +19,6 @@ constexpr std::size_t bytes_before_text = 19;
 constexpr std::string_view reason_begins = "because=\"";
 constexpr std::string_view as_configured = "configured";
 
-std::string escaped(std::string_view text) {
-    std::string line;
-    for (const char c : text) {
-        const auto byte = static_cast<unsigned char>(c);
-        if (byte >= ' ' && byte < 0x7f && c != '"' && c != '\\') {
-            line += c;
-        } else {
-            line += fmt::format("\\x{:02x}", byte);
-        }
-    }
-    return line;
-}
-
 std::string_view take_word(std::string_view &text) {
     const std::size_t end = std::min(text.find(' '), text.size());
     const std::string_view word = text.substr(0, end);
@@ -45,6 +34,14 @@ template <typename Number> std::optional<Number> number_in(std::string_view text
 }
 
 } // namespace
+
+// As much as a line has room for.
+std::string text_of_gateway(std::string_view name, std::string_view version) {
+    constexpr std::size_t bytes_before = std::string_view("# gateway HH:MM:SS.sss ").size();
+    std::string word = escaped(name.substr(0, longest_note / 4));
+    std::ranges::replace(word, ' ', '_');
+    return fmt::format("{} {}", word, escaped(version)).substr(0, longest_note - bytes_before);
+}
 
 std::string text_of(const Act &act) {
     std::string text = act.who + " " + act.words;
@@ -130,7 +127,7 @@ std::optional<FirmOrdered> firm_order_in(const Note &note) {
     }
     for (const auto &[word, order] : words) {
         if (note.words[1] == word) {
-            return FirmOrdered{std::string(note.words[2]), order};
+            return FirmOrdered{std::string(note.words[2]), order, 0};
         }
     }
     return std::nullopt;
@@ -149,6 +146,13 @@ std::optional<HaltSet> halt_in(const Note &note) {
     const bool is_of_bond = note.words.size() == 4 && note.words[2] == "--bond";
     return is_of_bond ? std::optional(HaltSet{std::string(note.words[3]), is_halted})
                       : std::nullopt;
+}
+
+std::optional<std::string> admitted_in(const Note &note) {
+    // WHO admit FIRM UNTIL REPORT
+    const bool is_admission =
+        note.kind == note_kinds::act && note.words.size() == 5 && note.words[1] == "admit";
+    return is_admission ? std::optional(std::string(note.words[2])) : std::nullopt;
 }
 
 std::optional<std::string> bust_in(const Note &note) {

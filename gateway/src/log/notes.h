@@ -1,11 +1,11 @@
 // Lines of the log that the venue ignores: what operators did, and what the machine's clock was.
-#ifndef GATEWAY_NOTES_H
-#define GATEWAY_NOTES_H
+#ifndef GATEWAY_LOG_NOTES_H
+#define GATEWAY_LOG_NOTES_H
 
-#include "clock_watch.h"
-#include "day_end.h"
-#include "moment.h"
-#include "records.h"
+#include "common/moment.h"
+#include "health/clock_watch.h"
+#include "log/day_end.h"
+#include "log/records.h"
 
 #include <chrono>
 #include <cstddef>
@@ -25,6 +25,7 @@ constexpr std::size_t longest_note = 200;
 namespace note_kinds {
 constexpr std::string_view act = "act";
 constexpr std::string_view clock = "clock";
+constexpr std::string_view gateway = "gateway";
 } // namespace note_kinds
 
 // An act whose line would be too long.
@@ -50,6 +51,10 @@ std::vector<std::string> texts_of(const std::vector<Act> &acts);
 std::string text_of(const KernelClock &sample);
 std::string text_of_step(std::chrono::microseconds step);
 
+// The text of the note by which a gateway says that it speaks: its name, and what it says with
+// --version.
+std::string text_of_gateway(std::string_view name, std::string_view version);
+
 // A note's entry, without its hashes.
 Entry note_entry(std::uint32_t place, std::uint32_t term, std::string_view kind,
                  std::string_view text, ExactMoment at);
@@ -74,6 +79,7 @@ enum class FirmOrder { suspend, resume, reset, release };
 struct FirmOrdered {
     std::string firm;
     FirmOrder order = FirmOrder::release;
+    std::uint32_t place = 0; // of the act among the entries, where it is known
 };
 std::optional<FirmOrdered> firm_order_in(const Note &note);
 // A bond that is halted, or goes on; empty for the whole venue.
@@ -82,6 +88,8 @@ struct HaltSet {
     bool is_halted = false;
 };
 std::optional<HaltSet> halt_in(const Note &note);
+// The firm of which it admits a report.
+std::optional<std::string> admitted_in(const Note &note);
 // The trade that it voids.
 std::optional<std::string> bust_in(const Note &note);
 // The end of the day that it orders; as_configured where it orders none.

@@ -1,7 +1,7 @@
 // The log in a schema of PostgreSQL. A commit returns when the server says that it is safe, by its
 // synchronous_commit and its synchronous_standby_names.
-#include "frame.h"
-#include "postgres_parts.h"
+#include "log/postgres.h"
+#include "log/postgres_rows.h"
 
 #include <algorithm>
 #include <array>
@@ -9,9 +9,6 @@
 #include <cstring>
 #include <mutex>
 #include <stdexcept>
-#include <tuple>
-
-#include <pqxx/stream_to>
 
 namespace gateway {
 
@@ -21,47 +18,6 @@ using namespace std::chrono_literals;
 
 // How often a gateway that commits says that it is there.
 constexpr auto seen_each = 1s;
-
-std::string bytea(std::string_view bytes) {
-    std::string text = "\\x";
-    append_hexadecimal(text, bytes);
-    return text;
-}
-
-template <std::size_t Size> std::string bytea(const std::array<unsigned char, Size> &digest) {
-    return bytea({reinterpret_cast<const char *>(digest.data()), digest.size()});
-}
-
-// Puts the rows of a batch into a table by COPY: one round trip however many they are.
-class Rows {
-  public:
-    Rows(pqxx::transaction_base &work, const std::string &table,
-         const std::vector<std::string> &columns)
-        : stream_(work, table, columns) {}
-
-    template <typename... Values> void add(const Values &...values) {
-        stream_ << std::make_tuple(values...);
-    }
-    void end() { stream_.complete(); }
-
-  private:
-    pqxx::stream_to stream_;
-};
-
-// The text of a number that may be absent, for as long as it lives.
-class Nullable {
-  public:
-    explicit Nullable(const std::optional<std::uint32_t> &number)
-        : text_(number ? std::to_string(*number) : ""), null_(!number) {}
-    explicit Nullable(const std::optional<std::string> &text)
-        : text_(text.value_or("")), null_(!text) {}
-
-    const char *text() const { return null_ ? nullptr : text_.c_str(); }
-
-  private:
-    std::string text_;
-    bool null_;
-};
 
 // Hears what the server warns of. Where it did not wait for a standby a commit succeeds, and that
 // is all that it says: in words of its own language, so that these are not looked at.
@@ -116,21 +72,10 @@ class WritingConnection {
     void commit(const Batch &batch) {
         pqxx::work work(*connection_);
         check_connection();
-        add_connections(work, batch.connections);
-        add_entries(work, batch.entries);
-        add_sent(work, batch.sent);
-        for (const DroppedRejects &row : batch.dropped) {
-            work.exec_prepared("drop", row.firm, row.epoch, row.from);
-        }
-        add_outgoing(work, batch.outgoing);
-        for (const SessionReset &row : batch.resets) {
-            work.exec_prepared("reset", row.firm, row.epoch, row.behind);
-        }
-        for (const auto &[firm, row] : batch.sessions) {
-            put_session(work, row);
-        }
+        put_rows(work, batch);
         for (const Checkpoint &row : batch.checkpoints) {
-            work.exec_prepared("checkpoint", row.number, row.at.term, row.at.place, row.at.event,
+            work.exec_prepared("checkpoint", row.number, row.at.term, column_of_place(row.at.place),
+                               row.at.event, row.at.seal, static_cast<int>(row.is_end),
                                bytea(row.signature));
         }
         end_with_words(work, batch.seal);
@@ -149,8 +94,9 @@ class WritingConnection {
             work.exec_prepared("speak", term_);
         }
         if (seal) {
-            work.exec_prepared("seal and speak", term_, seal->number, seal->at.term, seal->at.place,
-                               seal->at.event, bytea(seal->mac));
+            const Position &at = seal->at;
+            work.exec_prepared("seal and speak", term_, at.seal, at.term, column_of_place(at.place),
+                               at.event, bytea(seal->notes), bytea(at.notes), bytea(seal->mac));
         }
     }
 
@@ -177,18 +123,13 @@ class WritingConnection {
             throw std::runtime_error(
                 another_form(schema, form.empty() ? 0 : number_of(form[0][0])));
         }
-        connection_->prepare(
-            "session",
-            fmt::format("INSERT INTO session ({}) VALUES ($1, $2, $3, $4, $5, $6, $7, $8, $9, $10, "
-                        "$11, $12, $13, $14, $15, $16, $17) ON CONFLICT (firm) DO UPDATE SET {}",
-                        session_columns, set_session()));
-        connection_->prepare("drop", drop_rejects("$1", "$2", "$3"));
-        connection_->prepare("reset", copy_kept("$1", "$2", "$3"));
-        connection_->prepare("checkpoint", "INSERT INTO checkpoint (number, term, place, event, "
-                                           "signature) VALUES ($1, $2, $3, $4, $5)");
+        prepare_rows(*connection_);
+        connection_->prepare("checkpoint",
+                             "INSERT INTO checkpoint (number, term, place, event, seal, is_end, "
+                             "signature) VALUES ($1, $2, $3, $4, $5, $6, $7)");
         connection_->prepare("seal and speak",
-                             "WITH sealed AS (INSERT INTO seal (number, term, place, event, mac) "
-                             "VALUES ($2, $3, $4, $5, $6)) SELECT speak($1)");
+                             "WITH sealed AS (INSERT INTO seal (number, term, place, event, notes, "
+                             "hash, mac) VALUES ($2, $3, $4, $5, $6, $7, $8)) SELECT speak($1)");
         connection_->prepare("speak", "SELECT speak($1)");
         connection_->prepare("speak and be seen", "SELECT speak_and_be_seen($1)");
     }
@@ -218,7 +159,7 @@ class WritingConnection {
     }
 
     // Whether the logs of this database have an owner, whose function makes their tables
-    // (deploy/config/database.sql): then this role may not.
+    // (install/hosts/config/database.sql): then this role may not.
     static bool has_owner(pqxx::nontransaction &work) {
         return work.exec("SELECT to_regprocedure('mireseason.make_log(text)') IS NOT NULL")[0][0]
             .as<bool>();
@@ -246,91 +187,6 @@ class WritingConnection {
         if (connection_->backendpid() != backend_) {
             throw std::runtime_error("PostgreSQL: the connection was lost, and with it the term");
         }
-    }
-
-    static void add_entries(pqxx::work &work, const std::vector<Entry> &entries) {
-        if (entries.empty()) {
-            return;
-        }
-        Rows rows(work, "entry",
-                  {"place", "term", "moment", "received", "firm", "number", "connection", "line",
-                   "before", "hash"});
-        for (const Entry &entry : entries) {
-            const Nullable firm(entry.firm);
-            const Nullable number(entry.number);
-            const Nullable connection(entry.connection);
-            rows.add(entry.place, entry.term, entry.moment, entry.received, firm.text(),
-                     number.text(), connection.text(), bytea(entry.line), bytea(entry.before),
-                     bytea(entry.hash));
-        }
-        rows.end();
-    }
-
-    static void add_connections(pqxx::work &work, const std::vector<ConnectionEvent> &events) {
-        if (events.empty()) {
-            return;
-        }
-        Rows rows(work, "connection",
-                  {"place", "term", "moment", "event", "entry", "number", "firm", "address",
-                   "certificate", "why", "left_out", "before", "hash"});
-        for (const ConnectionEvent &event : events) {
-            const Nullable number(event.number);
-            const Nullable firm(event.firm);
-            const Nullable certificate(event.certificate);
-            const Nullable why(event.why);
-            rows.add(event.place, event.term, event.moment, event.event, event.entry, number.text(),
-                     firm.text(), event.address, certificate.text(), why.text(), event.left_out,
-                     bytea(event.before), bytea(event.hash));
-        }
-        rows.end();
-    }
-
-    static void add_sent(pqxx::work &work, const std::vector<Sent> &sent) {
-        if (sent.empty()) {
-            return;
-        }
-        Rows rows(work, "sent", {"firm", "number", "place", "bytes"});
-        for (const Sent &row : sent) {
-            rows.add(row.firm, row.number, row.place, bytea(row.bytes));
-        }
-        rows.end();
-    }
-
-    static void add_outgoing(pqxx::work &work, const std::vector<Outgoing> &outgoing) {
-        if (outgoing.empty()) {
-            return;
-        }
-        Rows rows(
-            work, "outgoing",
-            {"firm", "epoch", "number", "sent", "copy", "dropped", "type", "moment", "bytes"});
-        for (const Outgoing &row : outgoing) {
-            const Nullable sent(row.sent);
-            rows.add(row.firm, row.epoch, row.number, sent.text(), row.is_copy ? 1 : 0,
-                     row.is_dropped ? 1 : 0, row.type, row.moment, bytea(row.bytes));
-        }
-        rows.end();
-    }
-
-    static void put_session(pqxx::work &work, const SessionRow &row) {
-        const SessionNumbers &numbers = row.numbers;
-        const auto mark = [](bool is_set) { return is_set ? 1 : 0; };
-        work.exec_prepared("session", row.firm, row.epoch, row.entries_from, mark(row.logged_on),
-                           numbers.expected, numbers.next, numbers.had, numbers.first_given,
-                           numbers.last_given, numbers.last_kept, mark(numbers.is_one_free),
-                           mark(numbers.was_taken), mark(numbers.is_reset), numbers.reset_at,
-                           mark(numbers.is_locked), numbers.last_logon, mark(numbers.is_suspended));
-    }
-
-    // `COLUMN = excluded.COLUMN` of each but the first.
-    static std::string set_session() {
-        std::string set;
-        std::string_view columns = session_columns;
-        while (columns.find(", ") != std::string_view::npos) {
-            columns.remove_prefix(columns.find(", ") + 2);
-            const std::string_view column = columns.substr(0, columns.find(','));
-            set += fmt::format("{}{} = excluded.{}", set.empty() ? "" : ", ", column, column);
-        }
-        return set;
     }
 
     std::unique_ptr<pqxx::connection> connection_;

@@ -1,8 +1,8 @@
 // What the reader and the writer of PostgreSQL share.
-#ifndef GATEWAY_POSTGRES_PARTS_H
-#define GATEWAY_POSTGRES_PARTS_H
+#ifndef GATEWAY_LOG_POSTGRES_H
+#define GATEWAY_LOG_POSTGRES_H
 
-#include "database.h"
+#include "log/database.h"
 
 #include <memory>
 #include <string>

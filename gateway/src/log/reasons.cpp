@@ -1,6 +1,6 @@
-#include "reasons.h"
+#include "log/reasons.h"
 
-#include "frame.h"
+#include "common/frame.h"
 
 #include <algorithm>
 #include <stdexcept>

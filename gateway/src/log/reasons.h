@@ -1,6 +1,6 @@
 // What the venue notes beside its messages: why one refuses, and which trade one tells of.
-#ifndef GATEWAY_REASONS_H
-#define GATEWAY_REASONS_H
+#ifndef GATEWAY_LOG_REASONS_H
+#define GATEWAY_LOG_REASONS_H
 
 #include <cstdint>
 #include <functional>

@@ -1,8 +1,8 @@
 // Reads a log whose database may go away and come back.
-#ifndef GATEWAY_PATIENT_READER_H
-#define GATEWAY_PATIENT_READER_H
+#ifndef GATEWAY_LOG_RECONNECTING_READER_H
+#define GATEWAY_LOG_RECONNECTING_READER_H
 
-#include "database.h"
+#include "log/database.h"
 
 #include <chrono>
 #include <memory>
@@ -13,9 +13,9 @@
 namespace gateway {
 
 // One thread at a time.
-class PatientReader {
+class ReconnectingReader {
   public:
-    PatientReader(Database &database, std::stop_token stop)
+    ReconnectingReader(Database &database, std::stop_token stop)
         : database_(database), stop_(std::move(stop)) {}
 
     // What `work` makes of a reader. Where the database is away it is asked again, of a new

@@ -1,19 +1,20 @@
 // The rows of the log, and their chain. schema.sql says what each column is.
-#ifndef GATEWAY_RECORDS_H
-#define GATEWAY_RECORDS_H
+#ifndef GATEWAY_LOG_RECORDS_H
+#define GATEWAY_LOG_RECORDS_H
 
-#include "reasons.h"
-#include "session_numbers.h"
+#include "base/digest.h"
+#include "log/reasons.h"
+#include "session/session_numbers.h"
 
 #include <array>
 #include <cstdint>
+#include <limits>
 #include <optional>
 #include <string>
 #include <string_view>
 
 namespace gateway {
 
-using Digest = std::array<unsigned char, 32>;
 using Signature = std::array<unsigned char, 64>; // Ed25519
 
 struct Entry {
@@ -99,39 +100,46 @@ struct SessionReset {
     std::uint32_t behind = 0;
 };
 
-// Up to where a log goes: its last entry, and the last row of `connection`, place 0 where there is
-// none yet.
+// The place of a log that has session notes and no entry yet: its day has not opened.
+constexpr std::uint32_t before_day = std::numeric_limits<std::uint32_t>::max();
+
+// In a column of the tables it is -1.
+constexpr std::int32_t column_of_place(std::uint32_t place) {
+    return static_cast<std::int32_t>(place);
+}
+
+// Up to where a log goes: its last entry, the last row of `connection`, place 0 where there is none
+// yet, and its last seal with the running hash of all session notes.
 struct Position {
     std::uint32_t term = 0; // of the gateway that says so
     std::uint32_t place = 0;
     Digest hash{};
     std::uint32_t event = 0;
     Digest event_hash{};
+    std::uint32_t seal = 0;
+    Digest notes{};
 
     bool operator==(const Position &) const = default;
 };
 
-// A row of `seal`. The hashes of its position are those of the rows that it names, and zeros where
-// there is no such row.
+// A row of `seal`, whose number its position has. The hashes of its position are those of the rows
+// that it names, and zeros where there is no such row.
 struct Seal {
-    std::uint32_t number = 0;
     Position at;
     Digest mac{};
+    std::string notes{}; // the session notes of its batch, a line feed behind each
 };
 
 // A row of `checkpoint`, likewise.
 struct Checkpoint {
     std::uint32_t number = 0;
     Position at;
+    Signature before{};  // that of the checkpoint before; zeros where there is none
+    bool is_end = false; // the day's log ends there
     Signature signature{};
+
+    bool operator==(const Checkpoint &) const = default;
 };
-
-Digest sha256(std::string_view bytes);
-
-// Small hexadecimal digits.
-std::string text_of(const Digest &digest);
-// Reads what text_of wrote, and nothing else.
-std::optional<Digest> digest_of(std::string_view digits);
 
 // The hash that a row must have, from its other columns.
 Digest hash_of(const Entry &entry);

@@ -1,6 +1,7 @@
-#include "seals.h"
+#include "log/seals.h"
 
-#include "private_file.h"
+#include "base/private_file.h"
+#include "log/session_note_line.h"
 
 #include <algorithm>
 #include <stdexcept>
@@ -59,15 +60,28 @@ SealKey read_secret(const std::filesystem::path &file) {
 } // namespace
 
 std::string text_of(const LogName &log, const Position &at) {
+    const bool is_early = at.place == before_day;
     return fmt::format(
-        "mireseason log 4\nvenue {}\nday {}\nconfiguration {}\nterm {}\nentry {} {}\n"
-        "connection {} {}\n",
-        log.venue.empty() ? "-" : log.venue, log.date, text_of(log.configuration), at.term,
-        at.place, text_of(at.hash), at.event, text_of(at.event_hash));
+        "mireseason log 6\nvenue {}\nday {}\nconfiguration {}\nterm {}\nentry {} {}\n"
+        "connection {} {}\nseal {} {}\n",
+        log.venue.empty() ? "-" : log.venue, log.date,
+        text_of(is_early ? Digest{} : log.configuration), at.term,
+        is_early ? "-1" : std::to_string(at.place), text_of(at.hash), at.event,
+        text_of(at.event_hash), at.seal, text_of(at.notes));
 }
 
 std::string text_of(const LogName &log, const Checkpoint &checkpoint) {
-    return fmt::format("{}checkpoint {}\n", text_of(log, checkpoint.at), checkpoint.number);
+    return fmt::format("{}checkpoint {}\nbefore {}\nend {}\n", text_of(log, checkpoint.at),
+                       checkpoint.number, text_of(checkpoint.before),
+                       checkpoint.is_end ? "yes" : "no");
+}
+
+std::string text_of(const Signature &signature) {
+    Digest first{};
+    Digest second{};
+    std::copy_n(signature.begin(), first.size(), first.begin());
+    std::copy_n(signature.begin() + first.size(), second.size(), second.begin());
+    return text_of(first) + text_of(second);
 }
 
 // The key is taken in once: each text begins with a copy of that.
@@ -139,8 +153,8 @@ std::shared_ptr<const SealKeys> read_seal_keys(const SealFiles &files) {
     return std::make_shared<const SealKeys>(std::move(keys));
 }
 
-Seal Sealer::seal(std::uint32_t number, const Position &at) const {
-    return {number, at, keys_->secret.mac_of(text_of(log_, at))};
+Seal Sealer::seal(const Position &at) const {
+    return {at, keys_->secret.mac_of(text_of(log_, at)), {}};
 }
 
 bool Sealer::is_sealed(const Seal &seal) const {
@@ -148,8 +162,12 @@ bool Sealer::is_sealed(const Seal &seal) const {
     return CRYPTO_memcmp(mac.data(), seal.mac.data(), mac.size()) == 0;
 }
 
-Checkpoint Sealer::sign(std::uint32_t number, const Position &at) const {
-    Checkpoint checkpoint{number, at, {}};
+bool Sealer::follows(const Seal &seal, const Position &before) const {
+    return seal.at.seal == before.seal + 1 &&
+           seal.at.notes == hash_of_notes(before.notes, seal.notes) && is_sealed(seal);
+}
+
+Checkpoint Sealer::sign(Checkpoint checkpoint) const {
     checkpoint.signature = keys_->own.sign(text_of(log_, checkpoint));
     return checkpoint;
 }

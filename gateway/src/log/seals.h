@@ -1,9 +1,9 @@
 // Seals and signatures of the log, and the gateways' keys for them: who writes to its database and
 // has none of these can make neither.
-#ifndef GATEWAY_SEALS_H
-#define GATEWAY_SEALS_H
+#ifndef GATEWAY_LOG_SEALS_H
+#define GATEWAY_LOG_SEALS_H
 
-#include "records.h"
+#include "log/records.h"
 
 #include <filesystem>
 #include <memory>
@@ -25,6 +25,8 @@ struct LogName {
 // What is sealed, as schema.sql has it; and what is signed.
 std::string text_of(const LogName &log, const Position &at);
 std::string text_of(const LogName &log, const Checkpoint &checkpoint);
+// Small hexadecimal digits.
+std::string text_of(const Signature &signature);
 
 // The secret of the gateways of a log, for HMAC-SHA-256. Any thread may use it.
 class SealKey {
@@ -83,10 +85,12 @@ class Sealer {
     const LogName &log() const { return log_; }
 
     // Takes a microsecond or two.
-    Seal seal(std::uint32_t number, const Position &at) const;
+    Seal seal(const Position &at) const;
     bool is_sealed(const Seal &seal) const;
-    // Takes some sixty.
-    Checkpoint sign(std::uint32_t number, const Position &at) const;
+    // Whether it is right, and it follows on one that stands there, with its session notes.
+    bool follows(const Seal &seal, const Position &before) const;
+    // The checkpoint with its signature. Takes some sixty.
+    Checkpoint sign(Checkpoint checkpoint) const;
     // By one of the gateways.
     bool is_signed(const Checkpoint &checkpoint) const;
 

@@ -1,9 +1,9 @@
 // The log in a file of SQLite: write-ahead logging, and every commit synchronised.
-#include "database.h"
+#include "log/database.h"
 
-#include "descriptor.h"
-#include "sqlite_parts.h"
-#include "sqlite_statement.h"
+#include "common/descriptor.h"
+#include "log/sqlite.h"
+#include "log/sqlite_statement.h"
 
 #include <array>
 #include <stdexcept>
@@ -56,6 +56,32 @@ void lengthen(const std::string &log) {
     ::fsync(file.number());
 }
 
+// Puts rows into `sent` and `outgoing`.
+class Copy {
+  public:
+    // verb is INSERT, or what leaves the row that is there.
+    Copy(sqlite3 *connection, std::string_view verb)
+        : sent_(connection,
+                fmt::format("{} INTO sent ({}) VALUES (?, ?, ?, ?)", verb, sent_columns)),
+          outgoing_(connection,
+                    fmt::format("{} INTO outgoing ({}) VALUES (?, ?, ?, ?, ?, ?, ?, ?, ?)", verb,
+                                outgoing_columns)) {}
+
+    void put(const Sent &row) {
+        sent_.bind(row.firm).bind(std::int64_t{row.number}).bind(std::int64_t{row.place});
+        sent_.bind_bytes(row.bytes).run();
+    }
+    void put(const Outgoing &row) {
+        outgoing_.bind(row.firm).bind(std::int64_t{row.epoch}).bind(std::int64_t{row.number});
+        outgoing_.bind(row.sent).bind(std::int64_t{row.is_copy}).bind(std::int64_t{row.is_dropped});
+        outgoing_.bind(row.type).bind(row.moment).bind_bytes(row.bytes).run();
+    }
+
+  private:
+    Statement sent_;
+    Statement outgoing_;
+};
+
 class SqliteWriter final : public LogWriter {
   public:
     explicit SqliteWriter(const std::string &path)
@@ -67,11 +93,7 @@ class SqliteWriter final : public LogWriter {
           event_(connection_.get(), fmt::format("INSERT INTO connection ({}) VALUES (?, ?, ?, ?, "
                                                 "?, ?, ?, ?, ?, ?, ?, ?, ?)",
                                                 connection_columns)),
-          sent_(connection_.get(),
-                "INSERT INTO sent (firm, number, place, bytes) VALUES (?, ?, ?, ?)"),
-          outgoing_(connection_.get(), fmt::format("INSERT INTO outgoing ({}) VALUES (?, ?, ?, ?, "
-                                                   "?, ?, ?, ?, ?)",
-                                                   outgoing_columns)),
+          copy_(connection_.get(), "INSERT"), copy_again_(connection_.get(), "INSERT OR IGNORE"),
           session_(connection_.get(),
                    fmt::format("INSERT OR REPLACE INTO session ({}) VALUES (?, ?, ?, ?, ?, ?, ?, "
                                "?, ?, ?, ?, ?, ?, ?, ?, ?, ?)",
@@ -79,9 +101,10 @@ class SqliteWriter final : public LogWriter {
           dropped_(connection_.get(), drop_rejects("?", "?", "?")),
           reset_(connection_.get(), copy_kept("?", "?", "?")),
           seal_(connection_.get(),
-                "INSERT INTO seal (number, term, place, event, mac) VALUES (?, ?, ?, ?, ?)"),
+                "INSERT INTO seal (number, term, place, event, notes, hash, mac) VALUES (?, ?, ?, "
+                "?, ?, ?, ?)"),
           checkpoint_(connection_.get(), "INSERT INTO checkpoint (number, term, place, event, "
-                                         "signature) VALUES (?, ?, ?, ?, ?)") {}
+                                         "seal, is_end, signature) VALUES (?, ?, ?, ?, ?, ?, ?)") {}
 
     void commit(const Batch &batch) override {
         begin_.run();
@@ -91,16 +114,20 @@ class SqliteWriter final : public LogWriter {
         for (const Entry &entry : batch.entries) {
             put(entry);
         }
+        Copy &copy = batch.is_repeated ? copy_again_ : copy_;
         for (const Sent &row : batch.sent) {
-            sent_.bind(row.firm).bind(std::int64_t{row.number}).bind(std::int64_t{row.place});
-            sent_.bind_bytes(row.bytes).run();
+            copy.put(row);
         }
-        put_sessions(batch);
+        put_sessions(batch, copy);
         if (batch.seal) {
-            put(seal_, batch.seal->number, batch.seal->at, batch.seal->mac);
+            put_place(seal_, batch.seal->at.seal, batch.seal->at);
+            seal_.bind_bytes(batch.seal->notes).bind_bytes(batch.seal->at.notes);
+            seal_.bind_bytes(batch.seal->mac).run();
         }
         for (const Checkpoint &row : batch.checkpoints) {
-            put(checkpoint_, row.number, row.at, row.signature);
+            put_place(checkpoint_, row.number, row.at);
+            checkpoint_.bind(std::int64_t{row.at.seal}).bind(std::int64_t{row.is_end});
+            checkpoint_.bind_bytes(row.signature).run();
         }
         commit_.run();
         ++commits_;
@@ -120,18 +147,17 @@ class SqliteWriter final : public LogWriter {
     void be_seen() override {}
 
   private:
-    template <typename Bytes>
-    static void put(Statement &row, std::uint32_t number, const Position &at, const Bytes &bytes) {
-        row.bind(std::int64_t{number}).bind(std::int64_t{at.term}).bind(std::int64_t{at.place});
-        row.bind(std::int64_t{at.event}).bind_bytes(bytes).run();
+    static void put_place(Statement &row, std::uint32_t number, const Position &at) {
+        row.bind(std::int64_t{number}).bind(std::int64_t{at.term});
+        row.bind(std::int64_t{column_of_place(at.place)}).bind(std::int64_t{at.event});
     }
-    void put_sessions(const Batch &batch) {
+    void put_sessions(const Batch &batch, Copy &copy) {
         for (const DroppedRejects &row : batch.dropped) {
             dropped_.bind(row.firm).bind(std::int64_t{row.epoch}).bind(std::int64_t{row.from});
             dropped_.run();
         }
         for (const Outgoing &row : batch.outgoing) {
-            put(row);
+            copy.put(row);
         }
         for (const SessionReset &row : batch.resets) {
             reset_.bind(row.firm).bind(std::int64_t{row.epoch}).bind(std::int64_t{row.behind});
@@ -140,11 +166,6 @@ class SqliteWriter final : public LogWriter {
         for (const auto &[firm, row] : batch.sessions) {
             put(row);
         }
-    }
-    void put(const Outgoing &row) {
-        outgoing_.bind(row.firm).bind(std::int64_t{row.epoch}).bind(std::int64_t{row.number});
-        outgoing_.bind(row.sent).bind(std::int64_t{row.is_copy}).bind(std::int64_t{row.is_dropped});
-        outgoing_.bind(row.type).bind(row.moment).bind_bytes(row.bytes).run();
     }
     void put(const SessionRow &row) {
         const SessionNumbers &numbers = row.numbers;
@@ -190,8 +211,8 @@ class SqliteWriter final : public LogWriter {
     Statement commit_;
     Statement entry_;
     Statement event_;
-    Statement sent_;
-    Statement outgoing_;
+    Copy copy_;
+    Copy copy_again_;
     Statement session_;
     Statement dropped_;
     Statement reset_;

@@ -1,8 +1,8 @@
 // What stands in a file of its own beside sqlite.cpp.
-#ifndef GATEWAY_SQLITE_PARTS_H
-#define GATEWAY_SQLITE_PARTS_H
+#ifndef GATEWAY_LOG_SQLITE_H
+#define GATEWAY_LOG_SQLITE_H
 
-#include "database.h"
+#include "log/database.h"
 
 #include <memory>
 #include <string>

@@ -1,8 +1,8 @@
 // SQLite's connections and statements, closed with their owners.
-#ifndef GATEWAY_SQLITE_STATEMENT_H
-#define GATEWAY_SQLITE_STATEMENT_H
+#ifndef GATEWAY_LOG_SQLITE_STATEMENT_H
+#define GATEWAY_LOG_SQLITE_STATEMENT_H
 
-#include "records.h"
+#include "log/records.h"
 
 #include <algorithm>
 #include <memory>

@@ -1,4 +1,4 @@
-#include "admin_answer.h"
+#include "operator/admin_answer.h"
 
 #include <algorithm>
 #include <cstddef>

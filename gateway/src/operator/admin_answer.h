@@ -1,6 +1,6 @@
 // What a command of the operator answers, for people and for programs.
-#ifndef GATEWAY_ADMIN_ANSWER_H
-#define GATEWAY_ADMIN_ANSWER_H
+#ifndef GATEWAY_OPERATOR_ADMIN_ANSWER_H
+#define GATEWAY_OPERATOR_ADMIN_ANSWER_H
 
 #include <cstdint>
 #include <stdexcept>

@@ -1,5 +1,5 @@
 // The operator's command `bust`.
-#include "admin_command.h"
+#include "operator/admin_command.h"
 
 #include <algorithm>
 #include <string_view>
@@ -43,16 +43,16 @@ TradeName name_of(const std::string &text) {
 }
 
 // The venue of this day that has both firms.
-Speaker &speaker_of(OpenDay &day, const TradeName &name, const std::string &text) {
-    for (Speaker *speaker : day.speakers()) {
-        const FirmSessions &sessions = speaker->sessions();
+Leader &leader_of(OpenDay &day, const TradeName &name, const std::string &text) {
+    for (Leader *leader : day.leaders()) {
+        const FirmSessions &sessions = leader->sessions();
         if (sessions.has_firm(name.investor) && sessions.has_firm(name.dealer)) {
-            if (name.date != speaker->day().clock.date()) {
+            if (name.date != leader->day().clock.date()) {
                 throw AdminFault(fmt::format("{} is of another day than {}: a trade is voided on "
                                              "its own day",
-                                             text, speaker->day().clock.date()));
+                                             text, leader->day().clock.date()));
             }
-            return *speaker;
+            return *leader;
         }
     }
     throw AdminFault(fmt::format("no venue has both {} and {}", name.investor, name.dealer));
@@ -62,14 +62,12 @@ Speaker &speaker_of(OpenDay &day, const TradeName &name, const std::string &text
 
 AdminAnswer run_bust(AdminCall &call) {
     check_words(call, 1, 1);
-    if (call.because.empty()) {
-        throw AdminFault("say why: --because \"both firms agreed by phone\"");
-    }
+    check_reason(call, "both firms agreed by phone");
     const std::string &trade = call.words[0];
     const TradeName name = name_of(trade);
     OpenDay day(call.scene);
-    Speaker &speaker = speaker_of(day, name, trade);
-    Trades &trades = speaker.day().trades;
+    Leader &leader = leader_of(day, name, trade);
+    Trades &trades = leader.day().trades;
     if (!trades.has(trade)) {
         throw AdminFault(fmt::format("there is no trade {} today", trade));
     }
@@ -80,7 +78,7 @@ AdminAnswer run_bust(AdminCall &call) {
     if (!trades.make_void(trade)) {
         throw AdminFault(fmt::format("{} is void already: mireseason-audit acts says why", trade));
     }
-    OpenDay::commit(speaker, act);
+    OpenDay::commit(leader, act);
     return {fmt::format("{} is void: the record says so, and no firm is sent anything", trade), {}};
 }
 

@@ -1,10 +1,10 @@
 // A command of the operator: what it is called, and what it does.
-#ifndef GATEWAY_ADMIN_COMMAND_H
-#define GATEWAY_ADMIN_COMMAND_H
+#ifndef GATEWAY_OPERATOR_ADMIN_COMMAND_H
+#define GATEWAY_OPERATOR_ADMIN_COMMAND_H
 
-#include "admin_answer.h"
-#include "gateway.h"
-#include "notes.h"
+#include "day/gateway.h"
+#include "log/notes.h"
+#include "operator/admin_answer.h"
 
 #include <chrono>
 #include <shared_mutex>
@@ -42,6 +42,15 @@ class AdminScene {
     };
     // Throws AdminFault where there is none.
     virtual NextDay next_day() = 0;
+
+    // What lies beside the day that goes on.
+    struct Beside {
+        std::uint64_t days_without_copy = 0; // of those that have ended, where they are copied
+        std::uint64_t days_without_seal = 0; // of the copies, where a keeper says what it sealed
+        std::vector<std::string> restart;    // what a start now would do
+        bool restart_goes_well = false;
+    };
+    virtual Beside beside() = 0;
 };
 
 // Who calls it, and with which words.
@@ -64,11 +73,13 @@ struct AdminCommand {
 };
 
 AdminAnswer run_status(AdminCall &call);
+AdminAnswer run_backup(AdminCall &call); // an answer of text: its stream is admin_stream.h's
 AdminAnswer run_firms(AdminCall &call);
 AdminAnswer run_firm(AdminCall &call);
 AdminAnswer run_hand_out(AdminCall &call);
 AdminAnswer run_next_day(AdminCall &call);
 AdminAnswer run_end_day(AdminCall &call);
+AdminAnswer run_admit(AdminCall &call);
 AdminAnswer run_bust(AdminCall &call);
 AdminAnswer run_suspend(AdminCall &call);
 AdminAnswer run_resume(AdminCall &call);
@@ -100,12 +111,12 @@ class OpenDay {
 
     Gateway &gateway() { return *held_.gateway; }
     // Those that have the firm. Throws AdminFault where none has.
-    std::vector<Speaker *> speakers_of(const std::string &firm);
-    std::vector<Speaker *> speakers();
+    std::vector<Leader *> leaders_of(const std::string &firm);
+    std::vector<Leader *> leaders();
     // Commits the act into this venue's log, at which it takes effect. Throws AdminFault.
-    static void commit(Speaker &speaker, const Act &act);
+    static void commit(Leader &leader, const Act &act);
     // The same with what ends that the firm has open, in the same transaction.
-    static void commit_with_end(Speaker &speaker, const FirmEnd &end, const Act &act);
+    static void commit_with_end(Leader &leader, const FirmEnd &end, const Act &act);
 
   private:
     AdminScene::HeldDay held_;
@@ -120,6 +131,9 @@ class WrongWords : public AdminFault {
 
 // Throws WrongWords where there are more words, or fewer.
 void check_words(const AdminCall &call, std::size_t least, std::size_t most);
+
+// Throws AdminFault where no reason is given; the example is one.
+void check_reason(const AdminCall &call, std::string_view example);
 
 } // namespace gateway
 

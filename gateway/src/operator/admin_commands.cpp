@@ -1,8 +1,8 @@
-#include "admin_command.h"
+#include "operator/admin_command.h"
 
-#include "admin_words.h"
-#include "nearest_word.h"
-#include "printable.h"
+#include "base/nearest_word.h"
+#include "base/printable.h"
+#include "operator/admin_words.h"
 
 #include <algorithm>
 
@@ -28,13 +28,19 @@ AdminAnswer run_help(AdminCall &call) {
     return answer;
 }
 
+// Without a byte that anybody sees; what is not ASCII may be a letter.
+bool is_blank(std::string_view text) {
+    return std::all_of(text.begin(), text.end(),
+                       [](unsigned char c) { return c <= ' ' || c == 0x7f; });
+}
+
 // Takes `--because TEXT` out of the words.
 std::string take_reason(std::vector<std::string> &words) {
     const auto found = std::find(words.begin(), words.end(), reason);
     if (found == words.end()) {
         return "";
     }
-    if (found + 1 == words.end() || (found + 1)->empty()) {
+    if (found + 1 == words.end() || is_blank(*(found + 1))) {
         throw AdminFault("--because has no reason behind it");
     }
     std::string text = *(found + 1);
@@ -90,6 +96,8 @@ AdminAnswer run(AdminScene &scene, const std::string &who, const AdminRequest &r
 const std::vector<AdminCommand> &admin_commands() {
     static const std::vector<AdminCommand> commands = {
         {"status", "", "says what the gateway does", run_status},
+        {"backup", "", "writes a copy of the open day to standard output, for root; tar reads it",
+         run_backup},
         {"firms", "", "lists the firms: who is there, what they sent, their limits", run_firms},
         {"firm", "FIRM", "shows one firm: since when it is there, its counts, its limits",
          run_firm},
@@ -99,14 +107,16 @@ const std::vector<AdminCommand> &admin_commands() {
         {"end-day", "[--now] [--because TEXT]",
          "takes no new request, and ends the day once none is open; or now, without notices",
          run_end_day},
+        {"admit", "FIRM REPORT [--because TEXT]",
+         "lets a firm log on whose desk was certified, where it has to be", run_admit},
         {"suspend", "FIRM --because TEXT",
          "logs a firm out, refuses it, and cancels its quotes or passes its requests", run_suspend},
         {"resume", "[FIRM | --bond ID] [--because TEXT]",
          "lets a suspended firm log on again; or the venue, or a bond, go on after a halt",
          run_resume},
-        {"halt", "[--bond ID] [--because TEXT]",
+        {"halt", "[--bond ID] --because TEXT",
          "takes no request, quote or hit, of one bond or of any", run_halt},
-        {"cancel", "FIRM [--trader TRADER] [--because TEXT]",
+        {"cancel", "FIRM [--trader TRADER] --because TEXT",
          "cancels all quotes of a dealer, or those that one trader sent", run_cancel},
         {"reset-session", "FIRM [--because TEXT]",
          "has a firm's numbers begin at 1 again, after its engine lost its store",
@@ -151,6 +161,12 @@ void check_words(const AdminCall &call, std::size_t least, std::size_t most) {
     }
 }
 
+void check_reason(const AdminCall &call, std::string_view example) {
+    if (call.because.empty()) {
+        throw AdminFault(fmt::format("say why: --because \"{}\"", example));
+    }
+}
+
 OpenDay::OpenDay(AdminScene &scene) : held_(scene.hold_day()) {
     if (held_.gateway == nullptr) {
         throw AdminFault(fmt::format("no day is open: {}", scene.waits_for()));
@@ -162,17 +178,17 @@ OpenDay::OpenDay(AdminScene &scene) : held_(scene.hold_day()) {
     }
 }
 
-std::vector<Speaker *> OpenDay::speakers() {
-    std::vector<Speaker *> all;
-    for (const auto &speaker : gateway().speakers()) {
-        all.push_back(speaker.get());
+std::vector<Leader *> OpenDay::leaders() {
+    std::vector<Leader *> all;
+    for (const auto &leader : gateway().leaders()) {
+        all.push_back(leader.get());
     }
     return all;
 }
 
-std::vector<Speaker *> OpenDay::speakers_of(const std::string &firm) {
-    std::vector<Speaker *> all = speakers();
-    std::erase_if(all, [&](Speaker *each) { return !each->sessions().has_firm(firm); });
+std::vector<Leader *> OpenDay::leaders_of(const std::string &firm) {
+    std::vector<Leader *> all = leaders();
+    std::erase_if(all, [&](Leader *each) { return !each->sessions().has_firm(firm); });
     if (all.empty()) {
         throw AdminFault(fmt::format("the venue has no firm {}: `firms` lists them", firm));
     }
@@ -183,20 +199,21 @@ namespace {
 
 void check_committed(bool is_committed) {
     if (!is_committed) {
-        throw AdminFault(fmt::format("the log has not committed this act within {} s: it takes "
-                                     "effect when it has",
+        throw AdminFault(fmt::format("the log has not committed this act within {} s: whether it "
+                                     "stands is not known until it has. What it forbids is refused "
+                                     "from now on",
                                      longest_act.count()));
     }
 }
 
 } // namespace
 
-void OpenDay::commit(Speaker &speaker, const Act &act) {
-    check_committed(speaker.commit_act(act, longest_act));
+void OpenDay::commit(Leader &leader, const Act &act) {
+    check_committed(leader.commit_act(act, longest_act));
 }
 
-void OpenDay::commit_with_end(Speaker &speaker, const FirmEnd &end, const Act &act) {
-    check_committed(speaker.commit_act_with_end(end, act, longest_act));
+void OpenDay::commit_with_end(Leader &leader, const FirmEnd &end, const Act &act) {
+    check_committed(leader.commit_act_with_end(end, act, longest_act));
 }
 
 } // namespace gateway

@@ -1,5 +1,5 @@
 // The operator's command `end-day`.
-#include "admin_command.h"
+#include "operator/admin_command.h"
 
 #include <fmt/format.h>
 
@@ -38,9 +38,9 @@ AdminAnswer run_end_day(AdminCall &call) {
     }
     AdminAnswer answer;
     OpenDay day(call.scene);
-    for (Speaker *speaker : day.speakers()) {
-        OpenDay::commit(*speaker, call.act(is_now ? "end-day --now" : "end-day"));
-        put_open(speaker->day(), answer);
+    for (Leader *leader : day.leaders()) {
+        OpenDay::commit(*leader, call.act(is_now ? "end-day --now" : "end-day"));
+        put_open(leader->day(), answer);
     }
     answer.said = said(is_now, answer.rows.size());
     return answer;

@@ -1,5 +1,5 @@
 // The operator's command `firm`.
-#include "admin_command.h"
+#include "operator/admin_command.h"
 
 #include <fmt/format.h>
 
@@ -37,16 +37,17 @@ void add_limits(const std::string &venue, const FirmSessions::Facts &firm, Admin
     }
 }
 
-void add(Speaker &speaker, const std::string &name, AdminAnswer &answer) {
-    const VenueDay &day = speaker.day();
+void add(Leader &leader, const std::string &name, AdminAnswer &answer) {
+    const VenueDay &day = leader.day();
     const std::string &venue = day.config.venue;
-    for (const FirmSessions::Facts &firm : speaker.sessions().facts()) {
+    for (const FirmSessions::Facts &firm : leader.sessions().facts()) {
         if (firm.firm != name) {
             continue;
         }
         answer.rows.push_back(row_of(venue, "logged_on", firm.since));
         answer.rows.push_back(row_of(venue, "address", firm.address));
         answer.rows.push_back(row_of(venue, "suspended", firm.is_suspended));
+        answer.rows.push_back(row_of(venue, "uncertified", firm.lacks_report));
         answer.rows.push_back(row_of(venue, "messages", std::uint64_t{firm.entries}));
         add_counts(venue, day.metrics.firm(venue, name).counts(), answer);
         add_limits(venue, firm, answer);
@@ -59,8 +60,8 @@ AdminAnswer run_firm(AdminCall &call) {
     check_words(call, 1, 1);
     OpenDay day(call.scene);
     AdminAnswer answer;
-    for (Speaker *speaker : day.speakers_of(call.words[0])) {
-        add(*speaker, call.words[0], answer);
+    for (Leader *leader : day.leaders_of(call.words[0])) {
+        add(*leader, call.words[0], answer);
     }
     return answer;
 }

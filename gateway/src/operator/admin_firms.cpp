@@ -1,5 +1,5 @@
 // The operator's command `firms`.
-#include "admin_command.h"
+#include "operator/admin_command.h"
 
 #include <fmt/format.h>
 
@@ -9,6 +9,9 @@ namespace {
 
 std::string words_of(const FirmSessions::Facts &firm) {
     std::string words = firm.is_suspended ? "suspended" : "";
+    if (firm.lacks_report) {
+        words += words.empty() ? "uncertified" : " uncertified";
+    }
     for (const auto &[key, value] : firm.set) {
         words += fmt::format("{}{}={}", words.empty() ? "" : " ", key, value);
     }
@@ -21,10 +24,10 @@ AdminAnswer run_firms(AdminCall &call) {
     check_words(call, 0, 0);
     OpenDay day(call.scene);
     AdminAnswer answer;
-    for (Speaker *speaker : day.speakers()) {
-        for (const FirmSessions::Facts &firm : speaker->sessions().facts()) {
+    for (Leader *leader : day.leaders()) {
+        for (const FirmSessions::Facts &firm : leader->sessions().facts()) {
             answer.rows.push_back({{"firm", firm.firm},
-                                   {"venue", speaker->day().config.venue},
+                                   {"venue", leader->day().config.venue},
                                    {"logged_on", firm.since},
                                    {"address", firm.address},
                                    {"messages", std::uint64_t{firm.entries}},

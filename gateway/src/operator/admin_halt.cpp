@@ -1,7 +1,7 @@
 // The operator's commands `halt` and `resume`.
-#include "admin_command.h"
+#include "operator/admin_command.h"
 
-#include "firm_row.h"
+#include "config/firm_row.h"
 
 #include <fmt/format.h>
 
@@ -25,9 +25,9 @@ std::string bond_of(const AdminCall &call) {
 }
 
 // Whom it is about: all venues, or those that have the bond.
-std::vector<Speaker *> speakers_of(OpenDay &day, const std::string &bond) {
-    std::vector<Speaker *> all = day.speakers();
-    std::erase_if(all, [&](Speaker *each) {
+std::vector<Leader *> leaders_of(OpenDay &day, const std::string &bond) {
+    std::vector<Leader *> all = day.leaders();
+    std::erase_if(all, [&](Leader *each) {
         return !bond.empty() && !has_bond(each->day().config.configuration, bond);
     });
     if (all.empty()) {
@@ -39,8 +39,8 @@ std::vector<Speaker *> speakers_of(OpenDay &day, const std::string &bond) {
 void commit(AdminCall &call, const char *word, const std::string &bond) {
     OpenDay day(call.scene);
     const std::string act = bond.empty() ? word : fmt::format("{} --bond {}", word, bond);
-    for (Speaker *speaker : speakers_of(day, bond)) {
-        OpenDay::commit(*speaker, call.act(act));
+    for (Leader *leader : leaders_of(day, bond)) {
+        OpenDay::commit(*leader, call.act(act));
     }
 }
 
@@ -48,11 +48,22 @@ void commit(AdminCall &call, const char *word, const std::string &bond) {
 
 AdminAnswer run_halt(AdminCall &call) {
     const std::string bond = bond_of(call);
+    check_reason(call, "prices are in doubt");
     commit(call, "halt", bond);
     return {fmt::format("no request, quote or hit {}is taken until `resume`; cancels, declines and "
                         "passes are",
                         bond.empty() ? "" : fmt::format("of {} ", bond)),
             {}};
+}
+
+// What is not taken all the same, a line each.
+std::string said_of_rest(AdminCall &call) {
+    OpenDay day(call.scene);
+    std::string said;
+    for (const std::string &line : day.gateway().not_taken()) {
+        said += "\n" + line;
+    }
+    return said;
 }
 
 AdminAnswer run_resume(AdminCall &call) {
@@ -61,7 +72,10 @@ AdminAnswer run_resume(AdminCall &call) {
     }
     const std::string bond = bond_of(call);
     commit(call, "resume", bond);
-    return {fmt::format("{} goes on", bond.empty() ? "the venue" : bond), {}};
+    const std::string rest = said_of_rest(call);
+    return {fmt::format("{} goes on{}{}", bond.empty() ? "the venue" : bond,
+                        rest.empty() ? "" : ", but for this:", rest),
+            {}};
 }
 
 } // namespace gateway

@@ -1,7 +1,7 @@
 // The operator's command `hand-out`.
-#include "admin_command.h"
+#include "operator/admin_command.h"
 
-#include "hand_out.h"
+#include "config/configuration_for_firm.h"
 
 #include <fmt/format.h>
 
@@ -10,9 +10,9 @@ namespace gateway {
 namespace {
 
 // Of one venue; of several, each one's behind a line with its name.
-std::string told_of(Speaker &speaker, const std::string &firm) {
-    const Config &config = speaker.day().config;
-    const std::string text = hand_out(config.configuration, firm);
+std::string told_of(Leader &leader, const std::string &firm) {
+    const Config &config = leader.day().config;
+    const std::string text = configuration_for_firm(config.configuration, firm);
     return config.venue.empty() ? text : fmt::format("# {}\n{}", config.venue, text);
 }
 
@@ -22,8 +22,8 @@ AdminAnswer run_hand_out(AdminCall &call) {
     check_words(call, 1, 1);
     OpenDay day(call.scene);
     AdminAnswer answer;
-    for (Speaker *speaker : day.speakers_of(call.words[0])) {
-        answer.said += told_of(*speaker, call.words[0]);
+    for (Leader *leader : day.leaders_of(call.words[0])) {
+        answer.said += told_of(*leader, call.words[0]);
     }
     return answer;
 }

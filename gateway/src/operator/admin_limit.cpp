@@ -1,8 +1,8 @@
 // The operator's command `limit`.
-#include "admin_command.h"
+#include "operator/admin_command.h"
 
-#include "firm_limits.h"
-#include "nearest_word.h"
+#include "base/nearest_word.h"
+#include "firms/firm_limits.h"
 
 #include <algorithm>
 
@@ -53,14 +53,14 @@ std::string setting_of(const std::string &word) {
     return fmt::format("{}={}", key.name, number);
 }
 
-AdminAnswer show(const std::vector<Speaker *> &speakers, const std::string &firm) {
+AdminAnswer show(const std::vector<Leader *> &leaders, const std::string &firm) {
     AdminAnswer answer;
-    for (Speaker *speaker : speakers) {
-        for (const FirmSessions::Facts &each : speaker->sessions().facts()) {
+    for (Leader *leader : leaders) {
+        for (const FirmSessions::Facts &each : leader->sessions().facts()) {
             for (const auto &[name, value] :
                  each.firm == firm ? each.limits : decltype(each.limits){}) {
                 answer.rows.push_back({{"limit", name},
-                                       {"venue", speaker->day().config.venue},
+                                       {"venue", leader->day().config.venue},
                                        {"value", value},
                                        {"set", each.set.contains(name)}});
             }
@@ -75,13 +75,13 @@ AdminAnswer run_limit(AdminCall &call) {
     check_words(call, 1, 2);
     const std::string &firm = call.words[0];
     OpenDay day(call.scene);
-    const std::vector<Speaker *> speakers = day.speakers_of(firm);
+    const std::vector<Leader *> leaders = day.leaders_of(firm);
     if (call.words.size() == 1) {
-        return show(speakers, firm);
+        return show(leaders, firm);
     }
     const std::string setting = setting_of(call.words[1]);
-    for (Speaker *speaker : speakers) {
-        OpenDay::commit(*speaker, call.act(fmt::format("limit {} {}", firm, setting)));
+    for (Leader *leader : leaders) {
+        OpenDay::commit(*leader, call.act(fmt::format("limit {} {}", firm, setting)));
     }
     return {fmt::format("{} has {} from now on, for this day", firm, setting), {}};
 }

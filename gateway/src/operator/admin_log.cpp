@@ -1,5 +1,5 @@
 // The operator's command `log accept-loss`.
-#include "admin_command.h"
+#include "operator/admin_command.h"
 
 namespace gateway {
 
@@ -8,9 +8,7 @@ namespace gateway {
 AdminAnswer run_log_accept_loss(AdminCall &call) {
     const bool halts = call.words == std::vector<std::string>{"--halt"};
     check_words(call, 0, halts ? 1 : 0);
-    if (call.because.empty()) {
-        throw AdminFault("say why: --because \"the disk of db1 is gone\"");
-    }
+    check_reason(call, "the disk of db1 is gone");
     std::vector<Act> acts{call.act("log accept-loss")};
     if (halts) {
         acts.push_back(call.act("halt"));

@@ -1,6 +1,7 @@
 // mireseason-admin: says a command of the operator to the gateway, and prints what it answers.
-#include "admin_words.h"
-#include "descriptor.h"
+#include "common/descriptor.h"
+#include "operator/admin_report.h"
+#include "operator/admin_words.h"
 
 #include <algorithm>
 #include <array>
@@ -34,8 +35,15 @@ DESCRIPTION
 
 COMMANDS
     status
-        What the gateway does, for each venue: whether it is open, its date, entries in the log,
-        firms that are logged on, whether requests and quotes are taken, and the machine's clock.
+        What a restart now would do; and what the gateway does, for each venue: whether it is open,
+        its date, entries in the log, and up to which of them it is signed outside of its database,
+        firms that are logged on, whether requests and quotes are taken, the log's disk and its
+        reserve, days without copy or seal, and the machine's clock.
+
+    backup
+        A copy of the open day as it is now, as a stream for tar on standard output: the log, what
+        stands beside it, and its last checkpoint. For root and the gateway's user.
+        mireseason-restore puts it back.
 
     firms
         Each firm: when it logged on and from where, its messages, the bytes of its lines in the
@@ -53,6 +61,12 @@ COMMANDS
         Which trading day opens next and when, what is at fault in the files for it, and which firms
         are new or gone.
 
+    admit FIRM REPORT
+        REPORT is what mireseason-certify --key has written of the firm's desk. The gateway checks
+        who signed it, that every case has passed, until when it holds and of which formats it is.
+        The act holds for this day; for the days to come, and for a gateway whose day has not begun,
+        the report's hash and signature go into the file of credentials, which is root's.
+
     suspend FIRM --because TEXT
         Logs a firm out and refuses it until `resume`. A dealer's quotes are cancelled, an
         investor's open requests passed, in the same transaction as the act.
@@ -60,14 +74,14 @@ COMMANDS
     resume FIRM
         Lets a suspended firm log on again.
 
-    halt [--bond ID]
+    halt [--bond ID] --because TEXT
         Takes no request, quote or hit, of one bond or of any. Each is answered with the reason.
         Cancels, declines and passes are taken as before.
 
     resume [--bond ID]
         Ends a halt.
 
-    cancel FIRM [--trader TRADER]
+    cancel FIRM [--trader TRADER] --because TEXT
         Cancels all quotes of a dealer, or each one that this trader sent. The dealer is told as
         of a cancel of its own.
 
@@ -112,6 +126,8 @@ COMMANDS
 OPTIONS
     --because TEXT  why: it stands in the log with the act. The act's line has 200 bytes at most.
     --json          prints the answer as JSON, in one line.
+    --credentials FILE
+                    where `admit` keeps a report (/etc/mireseason/credentials.toml).
     --socket PATH   where the socket is (/run/mireseason/admin.sock, or what the variable
                     MIRESEASON_ADMIN_SOCKET says).
     --help          prints this.
@@ -120,13 +136,15 @@ EXIT STATUS
     0   done
     1   the gateway says why not
     2   wrong words on the command line
-    3   no gateway answers at the socket
+    3   no gateway answers at the socket, or you may not use it
 
 EXAMPLES
     mireseason-admin firms
     mireseason-admin --json firm DLR1
+    mireseason-admin admit DLR1 certified-DLR1.json
     mireseason-admin limit DLR1 day_bytes=2147483648 --because "agreed with their desk"
     mireseason-admin --json status
+    mireseason-admin backup > /srv/backup/now.tar
 )";
 
 class NoGateway : public std::runtime_error {
@@ -136,15 +154,15 @@ class NoGateway : public std::runtime_error {
 
 struct Words {
     std::string socket = gateway::usual_socket;
+    std::string credentials = "/etc/mireseason/credentials.toml";
     gateway::AdminRequest request;
 };
 
-std::string reason_of(int fault) {
-    if (fault == EACCES) {
-        return "you may not: this is for root, the gateway's user and its operators' group";
-    }
-    return std::strerror(fault);
-}
+// The socket's mode lets only some use it, whether a gateway is there or not.
+class NotAllowed : public std::runtime_error {
+  public:
+    using std::runtime_error::runtime_error;
+};
 
 gateway::Descriptor connected_to(const std::string &path) {
     sockaddr_un address{};
@@ -159,13 +177,17 @@ gateway::Descriptor connected_to(const std::string &path) {
     ::setsockopt(connection.number(), SOL_SOCKET, SO_SNDTIMEO, &longest, sizeof longest);
     if (::connect(connection.number(), reinterpret_cast<const sockaddr *>(&address),
                   sizeof address) != 0) {
-        throw NoGateway(reason_of(errno));
+        if (errno == EACCES) {
+            throw NotAllowed("you may not use " + path +
+                             ": it is for root, the gateway's user and " + "its operators' group");
+        }
+        throw NoGateway(std::strerror(errno));
     }
     return connection;
 }
 
-// The whole answer. What can't be written any more was not wanted: the answer says why.
-std::string answer_to(const gateway::Descriptor &connection, std::string_view line) {
+// What can't be written any more was not wanted: the answer says why.
+void send_line(const gateway::Descriptor &connection, std::string_view line) {
     while (!line.empty()) {
         const ssize_t count = ::send(connection.number(), line.data(), line.size(), MSG_NOSIGNAL);
         if (count < 0) {
@@ -173,17 +195,71 @@ std::string answer_to(const gateway::Descriptor &connection, std::string_view li
         }
         line.remove_prefix(static_cast<std::size_t>(count));
     }
-    std::string answer;
-    std::array<char, 4096> bytes{};
+}
+
+// Puts what comes next behind the text; false where nothing comes any more.
+bool read_more(const gateway::Descriptor &connection, std::string &text) {
+    std::array<char, 65536> bytes{};
+    const ssize_t count = ::recv(connection.number(), bytes.data(), bytes.size(), 0);
+    if (count < 0 && text.empty()) {
+        throw NoGateway(std::strerror(errno));
+    }
+    if (count > 0) {
+        text.append(bytes.data(), static_cast<std::size_t>(count));
+    }
+    return count > 0;
+}
+
+// The stream did not come whole.
+class NotWhole : public std::runtime_error {
+  public:
+    using std::runtime_error::runtime_error;
+};
+
+// Puts the pieces of a stream to standard output, up to the one without bytes. `text` has what came
+// of them. Throws NotWhole.
+void pass_on(const gateway::Descriptor &connection, std::string text) {
     for (;;) {
-        const ssize_t count = ::recv(connection.number(), bytes.data(), bytes.size(), 0);
-        if (count == 0 || (count < 0 && !answer.empty())) {
-            return answer;
+        while (text.size() < gateway::digits_of_length) {
+            if (!read_more(connection, text)) {
+                throw NotWhole("the gateway ended it");
+            }
         }
-        if (count < 0) {
-            throw NoGateway(reason_of(errno));
+        if (text.starts_with(gateway::piece_is_fault)) {
+            while (read_more(connection, text)) {
+            }
+            throw NotWhole(text.substr(gateway::digits_of_length));
         }
-        answer.append(bytes.data(), static_cast<std::size_t>(count));
+        const std::size_t size = std::stoul(text.substr(0, gateway::digits_of_length), nullptr, 16);
+        text.erase(0, gateway::digits_of_length);
+        if (size == 0) {
+            return;
+        }
+        if (size > gateway::longest_piece) {
+            throw NotWhole("what answers there is no gateway");
+        }
+        while (text.size() < size) {
+            if (!read_more(connection, text)) {
+                throw NotWhole("the gateway ended it");
+            }
+        }
+        if (!std::cout.write(text.data(), static_cast<std::streamsize>(size))) {
+            throw NotWhole("standard output takes no more");
+        }
+        text.erase(0, size);
+    }
+}
+
+int take_stream(const gateway::Descriptor &connection, std::string text) {
+    try {
+        pass_on(connection, std::move(text));
+        if (!std::cout.flush()) {
+            throw NotWhole("standard output takes no more");
+        }
+        return 0;
+    } catch (const std::exception &fault) {
+        std::cerr << "mireseason-admin: what was written is not whole: " << fault.what() << '\n';
+        return 1;
     }
 }
 
@@ -198,11 +274,11 @@ std::optional<Words> words_of(const std::vector<std::string> &arguments) {
         const std::string &word = arguments[at];
         if (!is_reason && word == "--json") {
             words.request.wants_json = true;
-        } else if (!is_reason && word == "--socket") {
+        } else if (!is_reason && (word == "--socket" || word == "--credentials")) {
             if (++at == arguments.size()) {
                 return std::nullopt;
             }
-            words.socket = arguments[at];
+            (word == "--socket" ? words.socket : words.credentials) = arguments[at];
         } else {
             is_reason = !is_reason && word == "--because";
             words.request.words.push_back(word);
@@ -217,7 +293,14 @@ int ask(const Words &words) {
         std::cerr << "mireseason-admin: these words are too long\n";
         return 2;
     }
-    const std::string answer = answer_to(connected_to(words.socket), line);
+    const gateway::Descriptor connection = connected_to(words.socket);
+    send_line(connection, line);
+    std::string answer;
+    while (read_more(connection, answer)) {
+        if (answer.starts_with(gateway::answer_is_stream)) {
+            return take_stream(connection, answer.substr(gateway::answer_is_stream.size()));
+        }
+    }
     if (answer.starts_with(gateway::answer_is_good)) {
         std::cout << answer.substr(gateway::answer_is_good.size());
         return 0;
@@ -230,6 +313,26 @@ int ask(const Words &words) {
                                                        : std::cerr << "mireseason-admin: ")
         << what;
     return 1;
+}
+
+// `admit FIRM REPORT`: the gateway is given the line that signs the report, and what it has
+// admitted is kept for the days to come.
+int admit(Words words) {
+    std::vector<std::string> &said = words.request.words;
+    try {
+        said[2] = gateway::line_that_signs(said[2]);
+    } catch (const std::runtime_error &fault) {
+        std::cerr << "mireseason-admin: " << fault.what() << '\n';
+        return 1;
+    }
+    const int status = ask(words);
+    if (status == 0 && !gateway::keep_report(words.credentials, said[1], said[2])) {
+        std::cerr << "mireseason-admin: " << said[1]
+                  << " is admitted for this day alone: " << words.credentials
+                  << " stays as it was. Call this again as root\n";
+        return 1;
+    }
+    return status;
 }
 
 } // namespace
@@ -247,7 +350,11 @@ int main(int count, char **arguments) {
         return 2;
     }
     try {
-        return ask(*words);
+        const std::vector<std::string> &said = words->request.words;
+        return said.size() > 2 && said[0] == "admit" ? admit(*words) : ask(*words);
+    } catch (const NotAllowed &fault) {
+        std::cerr << "mireseason-admin: " << fault.what() << '\n';
+        return 3;
     } catch (const NoGateway &fault) {
         std::cerr << "mireseason-admin: no gateway answers at " << words->socket << ": "
                   << fault.what() << '\n';

@@ -1,5 +1,5 @@
 // The operator's command `next-day`.
-#include "admin_command.h"
+#include "operator/admin_command.h"
 
 #include <algorithm>
 

@@ -1,4 +1,4 @@
-#include "admin_peer.h"
+#include "operator/admin_peer.h"
 
 #include <algorithm>
 #include <array>
@@ -78,7 +78,8 @@ gid_t group_named(const std::string &name) {
     group *found = nullptr;
     if (::getgrnam_r(name.c_str(), &entry, room.data(), room.size(), &found) != 0 ||
         found == nullptr) {
-        throw std::runtime_error(fmt::format("the system has no group {}", name));
+        throw std::runtime_error(
+            fmt::format("[operator] group = \"{0}\": the system has no group {0}", name));
     }
     return entry.gr_gid;
 }

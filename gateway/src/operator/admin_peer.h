@@ -1,6 +1,6 @@
 // Who is at the other end of a local socket.
-#ifndef GATEWAY_ADMIN_PEER_H
-#define GATEWAY_ADMIN_PEER_H
+#ifndef GATEWAY_OPERATOR_ADMIN_PEER_H
+#define GATEWAY_OPERATOR_ADMIN_PEER_H
 
 #include <optional>
 #include <string>

@@ -1,6 +1,7 @@
-#include "admin_socket.h"
+#include "operator/admin_socket.h"
 
-#include "admin_words.h"
+#include "base/printable.h"
+#include "operator/admin_words.h"
 
 #include <algorithm>
 #include <array>
@@ -29,6 +30,8 @@ constexpr std::size_t most_visits_of_a_user = 4;
 // In which a whole line has to come, and in which an answer has to be taken.
 constexpr auto longest_line_time = 2s;
 constexpr auto longest_answer_time = 2s;
+// The same of a piece of a stream.
+constexpr auto longest_piece_time = 10s;
 
 // Between two looks whether to stop.
 constexpr auto look = 100ms;
@@ -47,8 +50,8 @@ sockaddr_un address_of(const std::filesystem::path &path) {
     sockaddr_un address{};
     address.sun_family = AF_UNIX;
     const std::string text = path.string();
-    if (text.size() >= sizeof address.sun_path) {
-        fail(path, fmt::format("has more than {} bytes", sizeof address.sun_path - 1));
+    if (text.size() > longest_socket_path) {
+        fail(path, fmt::format("has more than {} bytes", longest_socket_path));
     }
     std::copy(text.begin(), text.end(), std::begin(address.sun_path));
     return address;
@@ -117,8 +120,9 @@ Line read_line(const Descriptor &connection, const std::stop_token &stop) {
     return line;
 }
 
-void write(const Descriptor &connection, std::string_view text, const std::stop_token &stop) {
-    const auto until = Clock::now() + longest_answer_time;
+// What is not taken until then is left out.
+void write(const Descriptor &connection, std::string_view &text, Clock::time_point until,
+           const std::stop_token &stop) {
     while (!text.empty() && wait_for(connection, POLLOUT, until, stop)) {
         const ssize_t count =
             ::send(connection.number(), text.data(), text.size(), MSG_DONTWAIT | MSG_NOSIGNAL);
@@ -132,10 +136,10 @@ void write(const Descriptor &connection, std::string_view text, const std::stop_
 } // namespace
 
 AdminSocket::AdminSocket(std::filesystem::path path, const std::string &group, Answer answer,
-                         std::shared_ptr<spdlog::logger> events)
+                         std::shared_ptr<spdlog::logger> events, Stream stream)
     : path_(std::move(path)),
       group_(group.empty() ? std::nullopt : std::optional(group_named(group))),
-      answer_(std::move(answer)), events_(std::move(events)) {
+      answer_(std::move(answer)), stream_(std::move(stream)), events_(std::move(events)) {
     open();
     thread_ = std::jthread([this](const std::stop_token &stop) { run(stop); });
 }
@@ -201,7 +205,7 @@ void AdminSocket::take(Descriptor connection) {
     }
     Visit &made = visits_.emplace_back(peer->user);
     made.thread = std::jthread(
-        [this, &made, own = std::move(connection), who = peer->who](const std::stop_token &stop) {
+        [this, &made, own = std::move(connection), who = *peer](const std::stop_token &stop) {
             visit(stop, own, who);
             made.is_over = true;
         });
@@ -221,13 +225,39 @@ std::string AdminSocket::too_many(uid_t user) {
 }
 
 void AdminSocket::visit(const std::stop_token &stop, const Descriptor &connection,
-                        const std::string &who) {
+                        const AdminPeer &peer) {
     const Line line = read_line(connection, stop);
     if (!line.fault.empty()) {
-        refuse(connection, who, line.fault);
+        refuse(connection, peer.who, line.fault);
         return;
     }
-    write(connection, answer_(who, line.text), stop);
+    if (answer_by_stream(stop, connection, peer, line.text)) {
+        return;
+    }
+    const std::string answer = answer_(peer.who, line.text);
+    std::string_view left = answer;
+    write(connection, left, Clock::now() + longest_answer_time, stop);
+}
+
+bool AdminSocket::answer_by_stream(const std::stop_token &stop, const Descriptor &connection,
+                                   const AdminPeer &peer, const std::string &line) {
+    const auto put = [&](std::string_view bytes) {
+        write(connection, bytes, Clock::now() + longest_piece_time, stop);
+        if (!bytes.empty()) {
+            throw std::runtime_error("it is not taken");
+        }
+    };
+    try {
+        const bool is_stream = stream_ && stream_(peer.user, line, put);
+        if (is_stream) {
+            events_->info("operator took who={} what=\"{}\"", peer.who, printable(line, 40));
+        }
+        return is_stream;
+    } catch (const std::exception &fault) {
+        events_->warn("operator did not take who={} what=\"{}\" cause=\"{}\"", peer.who,
+                      printable(line, 40), fault.what());
+        return true;
+    }
 }
 
 // The line goes into the socket's own room: nobody is waited for.

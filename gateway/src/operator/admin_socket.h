@@ -1,10 +1,10 @@
 // The operator's socket: who may connect, how much is read, how long anything may take.
-#ifndef GATEWAY_ADMIN_SOCKET_H
-#define GATEWAY_ADMIN_SOCKET_H
+#ifndef GATEWAY_OPERATOR_ADMIN_SOCKET_H
+#define GATEWAY_OPERATOR_ADMIN_SOCKET_H
 
-#include "admin_peer.h"
-#include "descriptor.h"
-#include "limiter.h"
+#include "base/limiter.h"
+#include "common/descriptor.h"
+#include "operator/admin_peer.h"
 
 #include <atomic>
 #include <filesystem>
@@ -13,11 +13,16 @@
 #include <memory>
 #include <optional>
 #include <string>
+#include <string_view>
 #include <thread>
 
 #include <spdlog/logger.h>
+#include <sys/un.h>
 
 namespace gateway {
+
+// As the system has it of a socket of the file system.
+constexpr std::size_t longest_socket_path = sizeof sockaddr_un{}.sun_path - 1;
 
 // A socket of the file system, of mode 0660, that belongs to a group where one is named. Whoever
 // may not is told so and closed. A connection brings one line, is answered, and is closed: it has a
@@ -27,10 +32,15 @@ class AdminSocket final {
     // What a line is answered; it may take some seconds, and throws nothing.
     using Answer = std::function<std::string(const std::string &who, const std::string &line)>;
 
+    // Writes bytes; throws std::runtime_error where they are not taken in time.
+    using Put = std::function<void(std::string_view bytes)>;
+    // Answers a line by a stream; false where its answer is a text. Throws what `put` throws.
+    using Stream = std::function<bool(uid_t user, const std::string &line, const Put &put)>;
+
     // Throws std::runtime_error where another process listens there, where something stands there
     // that is no socket, and where the group is none, or one that this process may not give it to.
     AdminSocket(std::filesystem::path path, const std::string &group, Answer answer,
-                std::shared_ptr<spdlog::logger> events);
+                std::shared_ptr<spdlog::logger> events, Stream stream = {});
     // Takes no more, waits for the lines that are being answered, and removes the file.
     ~AdminSocket();
     AdminSocket(const AdminSocket &) = delete;
@@ -50,12 +60,16 @@ class AdminSocket final {
     void take(Descriptor connection);
     // Why a connection of this user is not taken; empty where it is.
     std::string too_many(uid_t user);
-    void visit(const std::stop_token &stop, const Descriptor &connection, const std::string &who);
+    void visit(const std::stop_token &stop, const Descriptor &connection, const AdminPeer &peer);
+    // Whether the line is answered by a stream, as far as it is taken.
+    bool answer_by_stream(const std::stop_token &stop, const Descriptor &connection,
+                          const AdminPeer &peer, const std::string &line);
     void refuse(const Descriptor &connection, const std::string &who, const std::string &why);
 
     const std::filesystem::path path_;
     const std::optional<gid_t> group_;
     const Answer answer_;
+    const Stream stream_;
     const std::shared_ptr<spdlog::logger> events_;
     Limiter lines_;
     Descriptor listening_;

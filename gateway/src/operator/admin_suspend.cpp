@@ -1,8 +1,8 @@
 // The operator's commands that order something of one firm: `suspend`, `resume FIRM`, `cancel`,
 // `reset-session` and `release`.
-#include "admin_command.h"
+#include "operator/admin_command.h"
 
-#include "firm_row.h"
+#include "config/firm_row.h"
 
 #include <algorithm>
 
@@ -17,24 +17,24 @@ namespace {
 template <typename Commit>
 void order(AdminCall &call, const std::string &firm, const Commit &commit) {
     OpenDay day(call.scene);
-    for (Speaker *speaker : day.speakers_of(firm)) {
-        commit(*speaker);
-        speaker->carry_out_orders();
+    for (Leader *leader : day.leaders_of(firm)) {
+        commit(*leader);
+        leader->carry_out_orders();
     }
 }
 
 void order_plain(AdminCall &call, const char *word) {
     const std::string &firm = call.words[0];
-    order(call, firm, [&](Speaker &speaker) {
-        OpenDay::commit(speaker, call.act(fmt::format("{} {}", word, firm)));
+    order(call, firm, [&](Leader &leader) {
+        OpenDay::commit(leader, call.act(fmt::format("{} {}", word, firm)));
     });
 }
 
 // With what ends that the firm has open.
 void order_with_end(AdminCall &call, const char *word) {
     const std::string &firm = call.words[0];
-    order(call, firm, [&](Speaker &speaker) {
-        OpenDay::commit_with_end(speaker, {firm}, call.act(fmt::format("{} {}", word, firm)));
+    order(call, firm, [&](Leader &leader) {
+        OpenDay::commit_with_end(leader, {firm}, call.act(fmt::format("{} {}", word, firm)));
     });
 }
 
@@ -53,9 +53,7 @@ void check_dealer(const FirmRow &row, const FirmEnd &end) {
 
 AdminAnswer run_suspend(AdminCall &call) {
     check_words(call, 1, 1);
-    if (call.because.empty()) {
-        throw AdminFault("say why: --because \"their risk desk called\"");
-    }
+    check_reason(call, "their risk desk called");
     order_with_end(call, "suspend");
     return {fmt::format("{} is logged out and refused, and what it had open is taken back, until "
                         "`resume {}`",
@@ -76,14 +74,15 @@ AdminAnswer run_cancel(AdminCall &call) {
     if (call.words.size() == 3 && end.trader.empty()) {
         throw AdminFault("--trader has no name behind it");
     }
+    check_reason(call, "their desk has lost its connection");
     OpenDay day(call.scene);
-    const std::vector<Speaker *> speakers = day.speakers_of(end.firm);
-    for (Speaker *speaker : speakers) {
-        check_dealer(firm_row(speaker->day().config.configuration, end.firm), end);
+    const std::vector<Leader *> leaders = day.leaders_of(end.firm);
+    for (Leader *leader : leaders) {
+        check_dealer(firm_row(leader->day().config.configuration, end.firm), end);
     }
     const std::string of_trader = end.trader.empty() ? "" : " --trader " + end.trader;
-    for (Speaker *speaker : speakers) {
-        OpenDay::commit_with_end(*speaker, end,
+    for (Leader *leader : leaders) {
+        OpenDay::commit_with_end(*leader, end,
                                  call.act(fmt::format("cancel {}{}", end.firm, of_trader)));
     }
     return {fmt::format("{} are cancelled; it is told as of a cancel of its own",

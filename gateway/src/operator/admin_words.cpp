@@ -1,4 +1,4 @@
-#include "admin_words.h"
+#include "operator/admin_words.h"
 
 #include <charconv>
 
@@ -75,6 +75,14 @@ std::optional<std::vector<std::string>> words_in(std::string_view line) {
 }
 
 } // namespace
+
+std::string length_of_piece(std::size_t bytes) {
+    std::string text(digits_of_length, '0');
+    for (std::size_t at = digits_of_length; bytes != 0 && at != 0; bytes >>= 4) {
+        text[--at] = digits[bytes & 15];
+    }
+    return text;
+}
 
 std::string line_of(const AdminRequest &request) {
     std::string line = std::string(version) + (request.wants_json ? " json" : " text");

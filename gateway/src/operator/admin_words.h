@@ -1,7 +1,7 @@
 // A request at the operator's socket, as it stands on the line: what the program mireseason-admin
 // writes and the gateway reads.
-#ifndef GATEWAY_ADMIN_WORDS_H
-#define GATEWAY_ADMIN_WORDS_H
+#ifndef GATEWAY_OPERATOR_ADMIN_WORDS_H
+#define GATEWAY_OPERATOR_ADMIN_WORDS_H
 
 #include <optional>
 #include <string>
@@ -25,6 +25,15 @@ constexpr std::size_t longest_request = 1024;
 // what is wrong, and nothing was done.
 constexpr std::string_view answer_is_good = "ok\n";
 constexpr std::string_view answer_is_error = "error\n";
+
+// Or a stream of bytes follows: pieces, each behind its length in eight hexadecimal digits, up to a
+// piece of no bytes. In the place of a length `piece_is_fault` says that the stream is not whole,
+// and what follows says why.
+constexpr std::string_view answer_is_stream = "stream\n";
+constexpr std::string_view piece_is_fault = "--------";
+constexpr std::size_t digits_of_length = 8;
+constexpr std::size_t longest_piece = std::size_t{64} << 10;
+std::string length_of_piece(std::size_t bytes);
 
 // Where the socket is if nobody says otherwise.
 constexpr const char *usual_socket = "/run/mireseason/admin.sock";

@@ -1,10 +1,11 @@
-#include "accept_loss.h"
+#include "recovery/accept_loss.h"
 
-#include "chain.h"
-#include "day.h"
-#include "log_guard.h"
-#include "log_places.h"
-#include "moment.h"
+#include "common/moment.h"
+#include "config/log_location.h"
+#include "log/act_event.h"
+#include "log/chain.h"
+#include "log/log_guard.h"
+#include "recovery/open_day.h"
 
 #include <stdexcept>
 
@@ -24,22 +25,19 @@ std::uint32_t term_in(Database &database) {
     return *term;
 }
 
-// The log is sealed up to this entry, and `seals` is the number of that seal.
+// The log is sealed up to this entry, where that seal stands.
 void commit_acts(const Config &config, const std::vector<std::string> &texts, Database &database,
-                 LogReader &log, const Entry &last, std::uint32_t seals) {
-    const std::uint32_t term = term_in(database);
+                 const Entry &last, Position sealed) {
+    sealed.term = term_in(database);
     DayClock clock(config.firms.date);
     clock.not_before(ExactMoment::end_of(moment_of(last.moment).value_or(Moment{})));
-    const auto event = log.connections().last;
-    const Position end{term, last.place, last.hash, event ? event->place : 0,
-                       event ? event->hash : Digest{}};
     Batch batch;
     std::uint32_t place = last.place;
     for (const std::string &text : texts) {
         batch.entries.push_back(
-            note_entry(++place, term, note_kinds::act, text, clock.exact_now()));
+            note_entry(++place, sealed.term, note_kinds::act, text, clock.exact_now()));
     }
-    Chain chain(end, sealer_of(config), seals);
+    Chain chain(sealed, sealer_of(config));
     chain.link(batch);
     chain.seal(batch);
     database.writer()->commit(batch);
@@ -67,10 +65,12 @@ std::string accept_loss(const Config &config, const std::vector<Act> &acts,
         if (is_gone) {
             begin_with_acts(config, texts, *database, guard, events);
         } else {
-            commit_acts(config, texts, *database, *reader, last, guard.seals());
+            commit_acts(config, texts, *database, last, guard.sealed());
         }
     });
-    events->warn("loss accepted {} act=\"{}\"", said, fmt::join(texts, "; "));
+    for (const Act &act : acts) {
+        events->warn("loss accepted {} {}", said, event_of(act));
+    }
     return said;
 }
 

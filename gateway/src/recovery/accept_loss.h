@@ -1,9 +1,9 @@
 // What an operator does where the end of a log was lost.
-#ifndef GATEWAY_ACCEPT_LOSS_H
-#define GATEWAY_ACCEPT_LOSS_H
+#ifndef GATEWAY_RECOVERY_ACCEPT_LOSS_H
+#define GATEWAY_RECOVERY_ACCEPT_LOSS_H
 
-#include "config.h"
-#include "notes.h"
+#include "config/config.h"
+#include "log/notes.h"
 
 #include <memory>
 #include <string>

@@ -1,14 +1,19 @@
 // The numbers of sessions before their day has opened.
-#ifndef GATEWAY_EARLY_NUMBERS_H
-#define GATEWAY_EARLY_NUMBERS_H
+#ifndef GATEWAY_RECOVERY_EARLY_NUMBERS_H
+#define GATEWAY_RECOVERY_EARLY_NUMBERS_H
 
-#include "config.h"
-#include "database.h"
+#include "config/config.h"
+#include "log/chain.h"
+#include "log/database.h"
+#include "recovery/session_recovery.h"
+#include "session/session_event.h"
 
 #include <map>
 #include <memory>
 #include <mutex>
+#include <optional>
 #include <string>
+#include <string_view>
 
 namespace gateway {
 
@@ -23,18 +28,22 @@ class EarlyNumbers {
     // Where the firm's session is. Throws std::runtime_error where that can't be known: the log is
     // away, another gateway writes it, or the day has begun.
     SessionNumbers of(const std::string &firm);
-    // Returns when they are safe on disk. Throws where they may not be.
-    void put(const std::string &firm, const SessionNumbers &numbers);
+    // Puts an event there, with its session notes. Returns when that is safe on disk. Throws where
+    // it may not be.
+    void put(const std::string &firm, const SessionEvent &event);
 
   private:
     void open();
+    void take_notes(std::string_view lines);
+    Recovered &session_of(const std::string &firm);
 
     const Config &config_;
     std::mutex mutex_;
     // None until they are asked for, and again after a fault: then they are read anew.
     std::unique_ptr<Database> database_;
     std::unique_ptr<LogWriter> writer_;
-    std::map<std::string, SessionRow> rows_;
+    std::optional<Chain> chain_; // of the log's seals, as they stand
+    std::map<std::string, Recovered> sessions_;
 };
 
 } // namespace gateway

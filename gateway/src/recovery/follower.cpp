@@ -1,10 +1,12 @@
-#include "follower.h"
+#include "recovery/follower.h"
 
-#include "frame.h"
-#include "kept_check.h"
-#include "log_watch.h"
-#include "wire.h"
+#include "common/frame.h"
+#include "recovery/log_watch.h"
+#include "recovery/unnoted_rows.h"
+#include "session/session_names.h"
+#include "session/wire.h"
 
+#include <algorithm>
 #include <stdexcept>
 #include <utility>
 
@@ -36,11 +38,11 @@ Follower::Follower(VenueDay &day, std::optional<std::uint32_t> term)
 
 Follower::Follower(VenueDay &day, const OpenedDay &opened)
     : day_(day), last_(opened.last), found_(last_.place), reasons_(opened.reasons),
-      committed_(last_.place), comparison_(*day.database, day.status.stopping()),
-      ahead_(day.config.waiting_messages, comparison_), silence_(day.events, day.of_venue()),
+      entry_feed_(last_.place), recovered_(day.spool, day.session_notes, day.config.firms.date),
+      silence_(day.events, day.of_venue()),
       venue_({with_notes(day.config.command, !reasons_.empty()), day.config.configuration,
               day.config.venue_starts, day.config.confined},
-             *day.database, committed_, opened.first.hash, *this, day.metrics, day.events) {
+             *day.database, entry_feed_, opened.first.hash, *this, day.metrics, day.events) {
     day_.metrics.venue_is(day_.config.venue, day_of(opened.first.line).version);
     if (reasons_.empty()) {
         day_.events->warn("no reasons and no trade names{}: the day began with a program that does "
@@ -55,8 +57,7 @@ Follower::~Follower() {
 }
 
 void Follower::close() {
-    ahead_.close();
-    outlet_ = &ahead_;
+    sink_ = nullptr;
     venue_.stop();
 }
 
@@ -69,11 +70,8 @@ std::optional<std::uint32_t> Follower::follow(const std::function<bool()> &may) 
     watch.watch(day_.status.stopping(), [this](LogReader &log) {
         day_.look_at_clock();
         read_on(log);
-        ahead_.settle(log);
-        if (!ahead_.is_full()) {
-            // Else it waits for the log.
-            look_at_venue(last_.place);
-        }
+        recovered_.go_on([this] { return venue_.replay_summary(); });
+        look_at_venue(last_.place);
         tell_if_ready();
         return false;
     });
@@ -81,15 +79,14 @@ std::optional<std::uint32_t> Follower::follow(const std::function<bool()> &may) 
 }
 
 // A day begins with the gateway that speaks first. Where there is a log, only one whose venue has
-// answered it takes over: another may be ready at once. Or one whose venue waits for a log that
-// lacks more than may wait: nobody else may be there to put it into it.
+// answered it takes over: another may be ready at once.
 bool Follower::may_take_over() {
-    return ahead_.is_full() || answers_.wait(found_, 0ms, day_.status.stopping());
+    return progress_.wait(found_, 0ms, day_.status.stopping());
 }
 
 // Once: from now on a take-over costs no replay, and asks for no operator.
 void Follower::tell_if_ready() {
-    if (!ready_ && day_.guard.has_kept() && answers_.wait(found_, 0ms, day_.status.stopping())) {
+    if (!ready_ && day_.guard.has_kept() && progress_.wait(found_, 0ms, day_.status.stopping())) {
         ready_ = true;
         day_.status.is_now(Phase::stands_by);
         day_.events->info("stands by{} entries={}", day_.of_venue(), last_.place);
@@ -106,7 +103,7 @@ bool Follower::read_on(LogReader &log) {
     }
     day_.guard.read_on(log);
     const bool some = !entries.empty();
-    committed_.put(entries);
+    entry_feed_.put(entries);
     return some;
 }
 
@@ -120,63 +117,47 @@ std::optional<Follower::End> Follower::catch_up() {
     while (read_on(*reader)) {
     }
     day_.guard.check_end(*reader, last_);
-    ahead_.lift_limit();
     const auto writer = day_.database->writer();
-    // With a venue that is silent it says nothing: a gateway that follows takes over then.
-    const auto lock = all_answered([&] {
-        day_.look_at_clock();
-        if (look_at_venue(last_.place) < longest_silence) {
-            writer->be_seen();
-        }
-    });
-    if (!lock) {
+    const auto replayed = all_answered(*writer);
+    if (!replayed) {
         return std::nullopt;
     }
-    ahead_.settle(*reader);
-    const FedEntries fed = venue_.fed();
-    if (!fed.ends_with(last_)) {
+    if (!replayed->ends_with(last_)) {
         throw std::runtime_error(
             fmt::format("the log was changed while it was read: what the venue was fed does not "
                         "end with entry {} as it is sealed",
                         last_.place));
     }
-    End end{last_, reader->states(), fed.notes()};
-    fed.count_in(end.states);
-    comparison_.check_sent(end.states);
-    check_kept(*reader, end.states);
+    recovered_.go_on([&] { return *replayed; });
+    End end{last_, recovered_.finished(*replayed), replayed->notes()};
+    put_unnoted(*writer, end.states, day_.spool);
     return end;
 }
 
-// Waits until the venue has answered the log as far as it was read. Under the lock no other process
-// of it begins, which would give all again. Nothing where the gateway is to stop.
-std::unique_lock<std::mutex> Follower::all_answered(const std::function<void()> &meanwhile) {
+// Waits until the venue has answered the log as far as it was read: what it was fed. With a venue
+// that is silent it says nothing: a gateway that follows takes over then. Nothing where the gateway
+// is to stop.
+std::optional<ReplaySummary> Follower::all_answered(LogWriter &writer) {
     const std::stop_token stop = day_.status.stopping();
     while (!stop.stop_requested()) {
-        if (!answers_.wait(last_.place, sign_of_life, stop)) {
-            meanwhile();
+        if (!progress_.wait(last_.place, sign_of_life, stop)) {
+            day_.look_at_clock();
+            if (look_at_venue(last_.place) < longest_silence) {
+                writer.be_seen();
+            }
             continue;
         }
-        std::unique_lock lock(beginning_mutex_);
-        if (answers_.wait(last_.place, 0ms, stop)) {
-            return lock;
+        // No other process of it begins meanwhile, which would be fed all again.
+        const std::lock_guard lock(beginning_mutex_);
+        if (progress_.wait(last_.place, 0ms, stop)) {
+            return venue_.replay_summary();
         }
     }
-    return {};
-}
-
-// The venue's process may have ended since the log was caught up with.
-bool Follower::give_to(Outlet &outlet) {
-    const auto lock = all_answered([this] { look_at_venue(last_.place); });
-    if (!lock) {
-        return false;
-    }
-    ahead_.give_to(outlet);
-    outlet_ = &outlet;
-    return true;
+    return std::nullopt;
 }
 
 std::chrono::steady_clock::duration Follower::look_at_venue(std::uint32_t last_place) {
-    const auto silent = silence_.look(answers_.last_place(), last_place);
+    const auto silent = silence_.look(progress_.last_place(), last_place);
     const std::chrono::seconds longest(day_.config.venue_seconds);
     if (silent >= longest) {
         venue_.abandon();
@@ -190,32 +171,50 @@ std::chrono::steady_clock::duration Follower::look_at_venue(std::uint32_t last_p
 
 void Follower::venue_starts() {
     const std::lock_guard lock(beginning_mutex_);
-    outlet_.load()->begins_again();
-    comparison_.begin();
-    answers_.begin(committed_.last_place());
+    given_.clear();
+    progress_.begin(entry_feed_.last_place());
 }
 
-void Follower::venue_gave(std::uint32_t place, std::uint32_t number, std::string name,
-                          std::string frame, std::optional<VenueNote> note) {
+void Follower::venue_gave(const AnsweredEntry &entry, std::string name, std::string frame,
+                          std::optional<VenueNote> note) {
     day_.open_requests.was_given(name, frame);
     day_.shown_quotes.was_given(name, frame);
-    day_.live_quotes.was_given(place, name, frame);
+    day_.live_quotes.was_given(entry.line, name, frame);
     if (note && note->kind == VenueNote::Kind::trade) {
         day_.trades.add(note->name);
     }
-    Delivery delivery;
-    delivery.number = number_of(value_in(frame, "34")).value_or(0);
-    delivery.wire = on_the_wire(name, delivery.number, number, frame, note);
-    if (!comparison_.is_new(name, delivery.number, frame, delivery.wire)) {
+    const std::uint32_t number = number_of(value_in(frame, "34")).value_or(0);
+    if (number != ++given_[name]) {
+        throw std::runtime_error(fmt::format("the venue gave {} message {} where {} was due", name,
+                                             number, given_[name]));
+    }
+    GivenMessage message{number,
+                         entry.place,
+                         static_cast<std::uint32_t>(entry.moment.milliseconds),
+                         std::string(value_in(frame, "35")),
+                         on_the_wire(name, number, entry.number, frame, note),
+                         {}};
+    MessageSink *const sink = sink_;
+    if (sink == nullptr && number > day_.session_notes.noted(name)) {
+        // The gateway before may not have put it where readers look.
+        message.frame = frame;
+    }
+    const auto hash = day_.spool.give(name, message);
+    if (!hash || sink == nullptr) {
         return;
     }
+    Delivery delivery;
     delivery.session = session_name(day_.config.venue, name);
     delivery.firm = std::move(name);
-    delivery.place = place;
-    delivery.type = value_in(frame, "35");
+    delivery.number = number;
+    delivery.place = entry.place;
+    delivery.moment = message.moment;
     delivery.frame = std::move(frame);
+    delivery.type = std::move(message.type);
+    delivery.wire = std::move(message.wire);
+    delivery.hash = *hash;
     delivery.given = std::chrono::steady_clock::now();
-    outlet_.load()->take(std::move(delivery));
+    sink->take(std::move(delivery));
 }
 
 // A message of the venue as its session keeps it, which answers the session's message `refers_to`.
@@ -234,12 +233,33 @@ std::string Follower::on_the_wire(const std::string &firm, std::uint32_t number,
 }
 
 void Follower::venue_pauses() {
-    outlet_.load()->pauses();
+    if (MessageSink *const sink = sink_) {
+        sink->pauses();
+    }
 }
 
 void Follower::venue_answered(std::uint32_t place, std::optional<Moment> deadline) {
-    answers_.put(place, deadline);
-    outlet_.load()->answered(place);
+    if (place == answered_) {
+        check_given(place);
+    }
+    answered_ = std::max(answered_, place);
+    progress_.put(place, deadline);
+    if (MessageSink *const sink = sink_) {
+        sink->answered(place);
+    }
+}
+
+// A process that was started again has given all that the one before gave for the entries up to
+// this place, which is the last one that was answered. That each is the same, the spool says.
+void Follower::check_given(std::uint32_t place) const {
+    for (const std::string &firm : day_.spool.firms()) {
+        const auto found = given_.find(firm);
+        const std::uint32_t next = (found == given_.end() ? 0 : found->second) + 1;
+        if (next <= day_.spool.last_given(firm) && day_.spool.given(firm, next).place <= place) {
+            throw std::runtime_error(
+                fmt::format("the venue does not give {} message {} again", firm, next));
+        }
+    }
 }
 
 void Follower::venue_failed(const std::string &cause) {

@@ -1,16 +1,15 @@
 // A venue's day as every gateway has it: the log, fed to a venue of its own, and what that gives.
-#ifndef GATEWAY_FOLLOWER_H
-#define GATEWAY_FOLLOWER_H
+#ifndef GATEWAY_RECOVERY_FOLLOWER_H
+#define GATEWAY_RECOVERY_FOLLOWER_H
 
-#include "ahead.h"
-#include "answers.h"
-#include "committed.h"
-#include "comparison.h"
-#include "day.h"
-#include "outlet.h"
-#include "silence.h"
-#include "venue.h"
-#include "venue_day.h"
+#include "health/silence.h"
+#include "log/entry_feed.h"
+#include "recovery/open_day.h"
+#include "recovery/recovered_sessions.h"
+#include "venue/message_sink.h"
+#include "venue/venue.h"
+#include "venue/venue_day.h"
+#include "venue/venue_progress.h"
 
 #include <atomic>
 #include <chrono>
@@ -23,16 +22,16 @@
 
 namespace gateway {
 
-// Feeds the venue all that is committed, whoever writes the log, and holds what it gives against
-// what the log says was sent. Writes nothing but the begin of a log that has none. What the log
-// lacks is kept until this gateway speaks, and then it goes to the Speaker's outlet.
+// Feeds the venue all that is committed, whoever writes the log, and recovers the sessions by what
+// it gives and what is sealed. Writes nothing but the begin of a log that has none. Once this
+// gateway speaks, what the venue gives goes to the Leader's sink.
 class Follower final : private VenueListener {
   public:
     // How far the log is when nobody else writes any more.
     struct End {
         Entry last;
         std::map<std::string, FirmState> states;
-        std::vector<std::string> notes; // lines, in order
+        std::vector<ReplaySummary::Note> notes; // in order
     };
 
     // Starts the venue's process. Where the log has no begin, it is begun in this term. Throws
@@ -45,14 +44,14 @@ class Follower final : private VenueListener {
 
     // Follows a gateway that writes, until this one may write: its term then. Nothing where the
     // gateway is to stop. `may` says whether it may take over at all. Throws std::runtime_error
-    // where the venue gives something else than was sent.
+    // where the sessions do not follow from the log and what the venue gives.
     std::optional<std::uint32_t> follow(const std::function<bool()> &may);
     // Reads the log of a gateway that has ended to its end. Returns when the venue has answered all
-    // of it and gave what was sent, or nothing when the gateway is to stop; throws as follow().
+    // of it and the sessions are recovered, or nothing when the gateway is to stop; throws as
+    // follow().
     std::optional<End> catch_up();
-    // Gives the outlet what the log lacks, and from then on what the venue gives. False, and
-    // nothing was given, where the gateway is to stop.
-    bool give_to(Outlet &outlet);
+    // Gives the sink what the venue gives from now on.
+    void give_to(MessageSink &sink) { sink_ = &sink; }
     // Ends the venue's process: it is fed no more, and answers what it has. Returns when it has
     // ended.
     void end_venue();
@@ -64,9 +63,9 @@ class Follower final : private VenueListener {
     // silent.
     std::chrono::steady_clock::duration look_at_venue(std::uint32_t last_place);
 
-    Answers &answers() { return answers_; }
+    VenueProgress &progress() { return progress_; }
     // Whoever writes the log puts there what it committed.
-    Committed &committed() { return committed_; }
+    EntryFeed &entry_feed() { return entry_feed_; }
 
   private:
     Follower(VenueDay &day, const OpenedDay &opened);
@@ -74,13 +73,14 @@ class Follower final : private VenueListener {
     void tell_if_ready();
     bool may_take_over();
     bool read_on(LogReader &log);
-    std::unique_lock<std::mutex> all_answered(const std::function<void()> &meanwhile);
+    std::optional<ReplaySummary> all_answered(LogWriter &writer);
+    void check_given(std::uint32_t place) const;
     std::string on_the_wire(const std::string &firm, std::uint32_t number, std::uint32_t refers_to,
                             const std::string &frame, const std::optional<VenueNote> &note) const;
 
     // VenueListener
     void venue_starts() override;
-    void venue_gave(std::uint32_t place, std::uint32_t number, std::string firm, std::string frame,
+    void venue_gave(const AnsweredEntry &entry, std::string firm, std::string frame,
                     std::optional<VenueNote> note) override;
     void venue_answered(std::uint32_t place, std::optional<Moment> deadline) override;
     void venue_pauses() override;
@@ -91,14 +91,16 @@ class Follower final : private VenueListener {
     const std::uint32_t found_; // the last place when the venue was started
     const Reasons reasons_;     // the day's; none where it gives none
     bool ready_ = false;        // it was answered
-    Committed committed_;
-    Comparison comparison_;
-    Ahead ahead_;
-    Answers answers_;
+    EntryFeed entry_feed_;
+    RecoveredSessions recovered_;
+    VenueProgress progress_;
     Silence silence_;
-
-    std::mutex beginning_mutex_; // over the begin of each process, and the change of the outlet
-    std::atomic<Outlet *> outlet_{&ahead_};
+    std::mutex beginning_mutex_; // over the begin of each process
+    std::atomic<MessageSink *> sink_{nullptr};
+    // Of the thread that reads the venue: how many messages the process of now has given each firm,
+    // and the last place that one of them all has answered.
+    std::map<std::string, std::uint32_t> given_;
+    std::uint32_t answered_ = 0;
 
     Venue venue_; // whose threads use all the others
 };

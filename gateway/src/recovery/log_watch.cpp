@@ -1,4 +1,4 @@
-#include "log_watch.h"
+#include "recovery/log_watch.h"
 
 #include <chrono>
 #include <condition_variable>

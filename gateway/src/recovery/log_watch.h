@@ -1,8 +1,8 @@
 // Waits for the log of a gateway that speaks, and for its end.
-#ifndef GATEWAY_LOG_WATCH_H
-#define GATEWAY_LOG_WATCH_H
+#ifndef GATEWAY_RECOVERY_LOG_WATCH_H
+#define GATEWAY_RECOVERY_LOG_WATCH_H
 
-#include "database.h"
+#include "log/database.h"
 
 #include <functional>
 #include <memory>

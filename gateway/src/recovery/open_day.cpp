@@ -1,13 +1,15 @@
-#include "day.h"
+#include "recovery/open_day.h"
 
-#include "confinement.h"
-#include "notes.h"
-#include "pause.h"
-#include "process.h"
-#include "reasons.h"
-#include "regular_file.h"
-#include "venue_trial.h"
-#include "version.h"
+#include "base/pause.h"
+#include "base/process.h"
+#include "common/regular_file.h"
+#include "common/version.h"
+#include "config/venue_file.h"
+#include "log/log_guard.h"
+#include "log/notes.h"
+#include "log/reasons.h"
+#include "venue/confinement.h"
+#include "venue/venue_trial.h"
 
 #include <chrono>
 #include <cstdlib>
@@ -34,10 +36,11 @@ std::string first_line(const std::vector<std::string> &command) {
         Process process(command);
         process.close_input();
         // One that does not know --version may do anything, and not end.
-        const std::jthread limit([&process] { process.end_within(longest_answer); });
+        const std::jthread limit([&process] { process.end_all_within(longest_answer); });
+        const auto latest = std::chrono::steady_clock::now() + longest_answer;
         std::string text;
-        for (std::string bytes = process.read_output(); !bytes.empty();
-             bytes = process.read_output()) {
+        for (std::string bytes = process.read_output(latest); !bytes.empty();
+             bytes = process.read_output(latest)) {
             text += bytes.substr(0, longest_version - text.size());
         }
         if (process.wait() != "ended with status 0" || text.empty()) {
@@ -111,7 +114,7 @@ OpenedDay begin_log(const Config &config, const Day &day, Database &database, Lo
         act.hash = hash_of(act);
         batch.entries.push_back(std::move(act));
     }
-    batch.seal = guard.begin(batch.entries.back());
+    batch.seal = guard.begin(*database.reader(), batch.entries.back());
     database.writer()->commit(batch);
     return {first, batch.entries.back(), {}};
 }
@@ -127,6 +130,20 @@ OpenedDay begin_day_of(Day day, const Config &config, Database &database, LogGua
     events->info("log begun date={} program=\"{}\"", clock.date(), day.version);
     begun.reasons = std::move(day.reasons);
     return begun;
+}
+
+// Where another day's log is in the place of this one's, an operator has to say what is to become
+// of it.
+void check_day(const Config &config, const Day &begun) {
+    const std::string date =
+        read_venue_file("entry 0", begun.configuration, config.firms.date).date;
+    if (date != config.firms.date) {
+        throw LogNotAccepted(fmt::format(
+            "{} has the log of {}, and the day is {}: move it away, or give each day a log of its "
+            "own by {{date}} in [log]",
+            config.sqlite.empty() ? "the schema " + config.schema : config.sqlite.string(), date,
+            config.firms.date));
+    }
 }
 
 // A day goes on as it began.
@@ -162,6 +179,7 @@ OpenedDay open_day(const Config &config, Database &database, LogGuard &guard,
     const Entry &first = found.front();
     check_link(first, 0, Digest{});
     const Day begun = day_of(first.line);
+    check_day(config, begun);
     if (begun.configuration != now.configuration) {
         throw std::runtime_error("entry 0: the venue's configuration is not the one that the day "
                                  "began with");

@@ -1,11 +1,11 @@
 // The day that a log is of.
-#ifndef GATEWAY_DAY_H
-#define GATEWAY_DAY_H
+#ifndef GATEWAY_RECOVERY_OPEN_DAY_H
+#define GATEWAY_RECOVERY_OPEN_DAY_H
 
-#include "config.h"
-#include "database.h"
-#include "log_guard.h"
-#include "moment.h"
+#include "common/moment.h"
+#include "config/config.h"
+#include "log/database.h"
+#include "log/log_guard.h"
 
 #include <memory>
 

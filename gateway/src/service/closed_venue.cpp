@@ -1,8 +1,8 @@
-#include "closed_venue.h"
+#include "service/closed_venue.h"
 
-#include "doorkeeper.h"
-#include "early_numbers.h"
-#include "moment.h"
+#include "common/moment.h"
+#include "firms/authenticator.h"
+#include "recovery/early_numbers.h"
 
 #include <exception>
 #include <optional>
@@ -31,20 +31,20 @@ class ClosedVenue::Firms final : public SessionHost {
   public:
     Firms(const Config &config, const TradingDay &day, const std::string &today, Metrics &metrics,
           OperatorEvents &told)
-        : metrics_(metrics), told_(told), doorkeeper_(config), numbers_(config),
+        : metrics_(metrics), told_(told), authenticator_(config), numbers_(config),
           is_safe_(!has_ended_today(config.days, day, today)),
           text_(fmt::format("the venue is closed: it opens at {:%Y%m%d-%H:%M:%S} UTC",
                             fmt::gmtime(day.opens.time_since_epoch().count()))) {}
 
     Refusal judge(const LogonFacts &facts) override {
-        const Refusal refusal = doorkeeper_.judge(facts);
+        const Refusal refusal = authenticator_.judge(facts);
         if (refusal == Refusal::wrong_password) {
             metrics_.wrong_password(facts.firm);
         }
         return refusal;
     }
     Time judges_from(const std::string &address) override {
-        return doorkeeper_.judges_from(address);
+        return authenticator_.judges_from(address);
     }
     void logon_refused(const std::string &firm, const ConnectionFacts &facts,
                        const std::string &why) override {
@@ -62,7 +62,7 @@ class ClosedVenue::Firms final : public SessionHost {
         return NotOpen{text_, std::nullopt};
     }
     std::uint64_t put(const std::string &firm, const SessionEvent &event) override {
-        numbers_.put(firm, event.numbers);
+        numbers_.put(firm, event);
         return 0;
     }
     void wait_stored(std::uint64_t) override {}
@@ -86,7 +86,7 @@ class ClosedVenue::Firms final : public SessionHost {
   private:
     Metrics &metrics_;
     OperatorEvents &told_;
-    Doorkeeper doorkeeper_;
+    Authenticator authenticator_;
     EarlyNumbers numbers_;
     const bool is_safe_;
     const std::string text_; // 58

@@ -1,13 +1,13 @@
 // The gateway's port before a day opens.
-#ifndef GATEWAY_CLOSED_VENUE_H
-#define GATEWAY_CLOSED_VENUE_H
+#ifndef GATEWAY_SERVICE_CLOSED_VENUE_H
+#define GATEWAY_SERVICE_CLOSED_VENUE_H
 
-#include "config.h"
-#include "engine.h"
-#include "listening_port.h"
-#include "metrics.h"
-#include "operator_events.h"
-#include "trading_days.h"
+#include "config/config.h"
+#include "config/trading_days.h"
+#include "health/metrics.h"
+#include "health/operator_events.h"
+#include "session/engine.h"
+#include "session/listening_port.h"
 
 #include <memory>
 #include <vector>

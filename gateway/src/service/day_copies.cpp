@@ -1,13 +1,13 @@
-#include "day_copies.h"
+#include "service/day_copies.h"
 
-#include "checkpoint_file.h"
-#include "database.h"
-#include "file_copy.h"
-#include "log_places.h"
-#include "pause.h"
-#include "private_file.h"
-#include "records.h"
-#include "venue_rules.h"
+#include "base/file_copy.h"
+#include "base/pause.h"
+#include "base/private_file.h"
+#include "config/log_location.h"
+#include "config/venue_rules.h"
+#include "log/checkpoint_file.h"
+#include "log/database.h"
+#include "log/records.h"
 
 #include <algorithm>
 #include <chrono>
@@ -96,9 +96,7 @@ fs::path DayCopies::copy_of(std::string_view date) const {
 }
 
 fs::path DayCopies::checkpoint_of(std::string_view date) const {
-    return CheckpointFile(config_.checkpoints,
-                          Sealer({config_.venue, std::string(date), {}}, config_.keys))
-        .path();
+    return checkpoint_path(config_.checkpoints, config_.venue, date);
 }
 
 // In their order.
@@ -241,6 +239,23 @@ void DayCopies::try_remove(const std::string &date, const std::stop_token &stop)
     } catch (const std::exception &fault) {
         events_->error("log is not removed date={} cause=\"{}\"", date, fault.what());
     }
+}
+
+std::size_t copies_without_seal(const Config &config) {
+    if (config.copies.empty() || config.sealed.empty()) {
+        return 0;
+    }
+    std::size_t count = 0;
+    std::error_code fault;
+    for (const fs::directory_entry &each : fs::directory_iterator(config.copies, fault)) {
+        const std::string name = each.path().filename();
+        const std::string date = name.substr(0, name.find('-'));
+        const bool is_own =
+            name == (config.venue.empty() ? date : fmt::format("{}-{}", date, config.venue));
+        std::error_code none;
+        count += is_date(date) && is_own && !fs::exists(config.sealed / name, none) ? 1 : 0;
+    }
+    return count;
 }
 
 } // namespace gateway

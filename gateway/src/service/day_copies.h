@@ -1,10 +1,10 @@
 // Copies of the logs of days that have ended, at the place that the configuration names.
-#ifndef GATEWAY_DAY_COPIES_H
-#define GATEWAY_DAY_COPIES_H
+#ifndef GATEWAY_SERVICE_DAY_COPIES_H
+#define GATEWAY_SERVICE_DAY_COPIES_H
 
-#include "config.h"
-#include "metrics.h"
-#include "records.h"
+#include "config/config.h"
+#include "health/metrics.h"
+#include "log/records.h"
 
 #include <filesystem>
 #include <memory>
@@ -48,6 +48,10 @@ class DayCopies {
     const Config &config_;
     std::shared_ptr<spdlog::logger> events_;
 };
+
+// How many copies there are of which the keeper does not say yet that it has sealed them; none
+// where no keeper says anything.
+std::size_t copies_without_seal(const Config &config);
 
 } // namespace gateway
 

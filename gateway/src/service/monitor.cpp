@@ -1,8 +1,8 @@
-#include "monitor.h"
+#include "service/monitor.h"
 
-#include "monitor_files.h"
-#include "web/files.h"
-#include "web/server.h"
+#include "common/web/server.h"
+#include "common/web/static_files.h"
+#include "service/monitor_files.h"
 
 #include <exception>
 #include <stdexcept>
@@ -17,14 +17,14 @@ namespace gateway {
 namespace {
 
 // A few programs and people of this machine.
-web::Door door_at(unsigned short port) {
-    web::Door door;
-    door.port = port;
-    door.limits.connections = 32;
-    door.limits.connections_per_address = 32;
-    door.limits.header_bytes = 8192;
-    door.limits.body_bytes = 1024;
-    return door;
+web::ServerSettings settings_at(unsigned short port) {
+    web::ServerSettings settings;
+    settings.port = port;
+    settings.limits.connections = 32;
+    settings.limits.connections_per_address = 32;
+    settings.limits.header_bytes = 8192;
+    settings.limits.body_bytes = 1024;
+    return settings;
 }
 
 web::Response line(bool is_well, const std::string &words) {
@@ -73,7 +73,7 @@ class MonitorSite final : public web::Site {
     }
 
     MonitorSources sources_;
-    web::Files files_;
+    web::StaticFiles files_;
 };
 
 } // namespace
@@ -81,7 +81,7 @@ class MonitorSite final : public web::Site {
 class Monitor::Parts {
   public:
     Parts(unsigned short port, MonitorSources sources)
-        : site_(std::move(sources)), server_(io_, door_at(port), site_),
+        : site_(std::move(sources)), server_(io_, settings_at(port), site_),
           thread_([this] { io_.run(); }) {}
     ~Parts() { io_.stop(); }
 

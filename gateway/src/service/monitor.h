@@ -1,9 +1,9 @@
 // What whoever looks after the service may ask on this machine: how it is, what it counts, and a
 // page with both.
-#ifndef GATEWAY_MONITOR_H
-#define GATEWAY_MONITOR_H
+#ifndef GATEWAY_SERVICE_MONITOR_H
+#define GATEWAY_SERVICE_MONITOR_H
 
-#include "condition.h"
+#include "health/condition.h"
 
 #include <functional>
 #include <memory>

@@ -1,6 +1,6 @@
-#include "next_configuration.h"
+#include "service/next_configuration.h"
 
-#include "start_check.h"
+#include "service/start_check.h"
 
 #include <exception>
 #include <sstream>
@@ -47,9 +47,7 @@ void NextConfiguration::try_files(const TradingDay &day) {
         for (const Config &config : configs) {
             check_day(config, day.date);
         }
-        if (const auto doubt = doubt_about(configs.front())) {
-            events_->warn("configuration in doubt: {}", *doubt);
-        }
+        tell_doubts(configs.front());
         if (!(tried_ == in_force_)) {
             ++changes_;
             tell_change(day);
@@ -69,6 +67,17 @@ void NextConfiguration::try_files(const TradingDay &day) {
     metrics_.next_configuration_is_right(faults_.empty());
 }
 
+void NextConfiguration::tell_doubts(const Config &config) {
+    if (const auto doubt = doubt_about(config)) {
+        events_->warn("configuration in doubt: {}", *doubt);
+    }
+    // The unit gives a gateway the right to write there at its start.
+    if (const auto fault = fault_of_copies(config)) {
+        events_->warn("configuration in doubt: {}: no day is copied, or not before a restart",
+                      fault->words);
+    }
+}
+
 // Only credentials may come to hold within a day.
 void NextConfiguration::tell_change(const TradingDay &day) {
     if (tried_.differ_only_in(credentials_file(tried_, path_), in_force_)) {
@@ -83,7 +92,9 @@ void NextConfiguration::tell_change(const TradingDay &day) {
 
 std::vector<Config> NextConfiguration::in_force(std::string_view day) {
     const std::lock_guard lock(mutex_);
-    std::vector<Config> configs = read_configs(in_force_, path_, day);
+    // They were found right, or are those that the day began with.
+    std::vector<Config> configs =
+        read_configs(in_force_, path_, day, UnknownFirms::count_for_nothing);
     if (!faults_.empty()) {
         take_credentials(configs);
     }

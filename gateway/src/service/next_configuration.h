@@ -1,11 +1,11 @@
 // The configuration that the next trading day opens with.
-#ifndef GATEWAY_NEXT_CONFIGURATION_H
-#define GATEWAY_NEXT_CONFIGURATION_H
+#ifndef GATEWAY_SERVICE_NEXT_CONFIGURATION_H
+#define GATEWAY_SERVICE_NEXT_CONFIGURATION_H
 
-#include "config.h"
-#include "config_files.h"
-#include "metrics.h"
-#include "trading_days.h"
+#include "config/config.h"
+#include "config/config_files.h"
+#include "config/trading_days.h"
+#include "health/metrics.h"
 
 #include <cstdint>
 #include <filesystem>
@@ -44,6 +44,7 @@ class NextConfiguration {
 
   private:
     void try_files(const TradingDay &day);
+    void tell_doubts(const Config &config);
     void tell_change(const TradingDay &day);
     void take_credentials(std::vector<Config> &configs) const;
 

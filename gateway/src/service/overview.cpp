@@ -1,6 +1,7 @@
-#include "overview.h"
+#include "service/overview.h"
 
 #include <string_view>
+#include <utility>
 
 #include <fmt/format.h>
 
@@ -49,11 +50,18 @@ std::string escaped(std::string_view text) {
     return html;
 }
 
-std::string condition_html(const Condition &condition) {
+// Why business is not taken has lines of its own.
+std::string condition_html(Condition condition) {
+    const std::vector<std::string> not_taken = std::exchange(condition.not_taken, {});
     const char *kind = condition.fault()                 ? "fault"
                        : condition.phase == Phase::ready ? "ready"
                                                          : "waits";
-    return fmt::format("<p class=\"condition {}\">{}</p>\n", kind, escaped(condition.words()));
+    std::string html =
+        fmt::format("<p class=\"condition {}\">{}</p>\n", kind, escaped(condition.words()));
+    for (const std::string &line : not_taken) {
+        html += fmt::format("<p class=\"condition fault\">{}</p>\n", escaped(line));
+    }
+    return html;
 }
 
 std::string cell(double number) {
@@ -64,8 +72,9 @@ std::string cell(std::string_view text) {
     return fmt::format("<td>{}</td>", escaped(text));
 }
 
-const char *session_words(const FirmMetrics::Counts &firm) {
-    return firm.is_suspended ? "suspended" : firm.is_on ? "on" : "off";
+std::string session_words(const FirmMetrics::Counts &firm) {
+    const std::string words = firm.is_suspended ? "suspended" : firm.is_on ? "on" : "off";
+    return firm.doubt.empty() ? words : words + ", " + firm.doubt;
 }
 
 std::string firm_html(const FirmMetrics::Counts &firm) {
@@ -91,7 +100,7 @@ std::string firms_html(const std::vector<FirmMetrics::Counts> &firms) {
     for (const FirmMetrics::Counts &firm : firms) {
         rows += firm_html(firm);
     }
-    return table_html("Firms",
+    return table_html("Firms, counted since this gateway's start",
                       "<th scope=\"col\">Firm</th><th scope=\"col\">Session</th>"
                       "<th scope=\"col\" class=\"number\">Messages</th>"
                       "<th scope=\"col\" class=\"number\">Requests</th>"
@@ -117,9 +126,9 @@ std::string requests_html(const std::vector<OpenRequests::Open> &requests) {
                       rows);
 }
 
-std::string queues_html(const std::vector<Queue> &queues) {
+std::string queues_html(const std::vector<QueueSize> &queues) {
     std::string rows;
-    for (const Queue &queue : queues) {
+    for (const QueueSize &queue : queues) {
         rows += "<tr>" + cell(queue.what) + cell(queue.size) + "</tr>\n";
     }
     return table_html("Queues",
@@ -142,9 +151,6 @@ std::string html_of(const Overview &seen) {
     std::string html(head);
     html += "<main>\n<h1>Mireseason gateway</h1>\n";
     html += condition_html(seen.condition);
-    for (const std::string &line : seen.halts) {
-        html += fmt::format("<p class=\"condition fault\">{}</p>\n", escaped(line));
-    }
     html += firms_html(seen.firms);
     html += requests_html(seen.requests);
     html += queues_html(seen.queues);

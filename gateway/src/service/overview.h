@@ -1,11 +1,11 @@
 // The page of the gateway: what an operator looks at first.
-#ifndef GATEWAY_OVERVIEW_H
-#define GATEWAY_OVERVIEW_H
+#ifndef GATEWAY_SERVICE_OVERVIEW_H
+#define GATEWAY_SERVICE_OVERVIEW_H
 
-#include "condition.h"
-#include "firm_metrics.h"
-#include "open_requests.h"
-#include "queue.h"
+#include "health/condition.h"
+#include "health/firm_metrics.h"
+#include "health/queue_size.h"
+#include "venue/open_requests.h"
 
 #include <string>
 #include <vector>
@@ -15,11 +15,10 @@ namespace gateway {
 // What the page shows.
 struct Overview {
     Condition condition;
-    std::vector<std::string> halts; // lines
     std::string version;
     std::vector<FirmMetrics::Counts> firms;
     std::vector<OpenRequests::Open> requests;
-    std::vector<Queue> queues;
+    std::vector<QueueSize> queues;
     std::vector<std::string> events; // lines, the latest last
 };
 

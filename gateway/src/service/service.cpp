@@ -1,11 +1,17 @@
-#include "service.h"
+#include "service/service.h"
 
-#include "accept_loss.h"
-#include "day_copies.h"
-#include "log_places.h"
-#include "start_check.h"
-#include "venue_file.h"
-#include "version.h"
+#include "common/version.h"
+#include "config/cancel_traders.h"
+#include "config/log_location.h"
+#include "config/venue_file.h"
+#include "operator/admin_stream.h"
+#include "recovery/accept_loss.h"
+#include "recovery/late_end.h"
+#include "service/day_copies.h"
+#include "service/day_hours.h"
+#include "service/ended_day.h"
+#include "service/restart_forecast.h"
+#include "service/start_check.h"
 
 #include <algorithm>
 #include <utility>
@@ -40,12 +46,12 @@ TradingDay whole_day_of(const std::string &date) {
 
 Service::Service(std::filesystem::path path, ConfigFiles files, std::vector<Config> configs,
                  std::shared_ptr<spdlog::logger> events, std::shared_ptr<RecentEvents> recent,
-                 SupervisorSocket supervisor)
+                 SystemdSocket systemd)
     : path_(std::move(path)), first_(std::move(configs)), events_(std::move(events)),
       recent_(std::move(recent)),
       next_(path_, std::move(files), first_.front().days, metrics_, events_),
       monitor_(first_.front().metrics_port, sources()),
-      supervised_(std::move(supervisor), [this] { return condition(); }) {
+      notifier_(std::move(systemd), [this] { return condition(); }) {
     if (const auto doubt = doubt_about(first_.front())) {
         events_->warn("configuration in doubt: {}", *doubt);
     }
@@ -72,6 +78,7 @@ Condition Service::condition() {
     if (gateway_ != nullptr) {
         now.phase = gateway_->phase();
         now.silent = gateway_->silent();
+        now.not_taken = gateway_->halts();
     }
     return now;
 }
@@ -87,8 +94,8 @@ Overview Service::overview() {
     }
     const std::lock_guard lock(mutex_);
     if (gateway_ != nullptr) {
+        seen.condition.not_taken = gateway_->not_taken();
         seen.requests = gateway_->open_requests();
-        seen.halts = gateway_->halts();
     }
     return seen;
 }
@@ -138,22 +145,34 @@ int Service::run() {
 
 int Service::run_days() {
     const std::jthread watching([this](const std::stop_token &stop) { watch_files(stop); });
-    SystemSeconds ended{}; // the day before, which an operator may have ended early
+    TradingDay day = day_of_start();
     while (!stopping_.stop_requested()) {
-        const TradingDay day = day_after(std::max(now(), ended));
         show(day);
         copy_days(day.date);
         if (!wait_for(day)) {
             break;
         }
         next_.look(day);
-        if (const int status = run_day(as_begun(next_.in_force(day.date)), day); status != 0) {
+        const std::vector<Config> configs = as_begun(next_.in_force(day.date));
+        keep_hours_of(configs.front(), day);
+        if (const int status = run_day(configs, day); status != 0) {
             return status;
         }
-        ended = day.ends;
+        day = day_after(std::max(now(), day.ends)); // an operator may have ended it early
     }
     events_->info("stop cause=\"{}\"", why());
     return 0;
+}
+
+// A log that is not right is for an operator to look at, and keeps no other day from opening.
+void Service::sign_late_ends(const std::string &before) {
+    for (const Config &config : next_.in_force(before)) {
+        try {
+            sign_late_end(config, before, events_);
+        } catch (const std::exception &fault) {
+            events_->error("the end of a day is not signed cause=\"{}\"", fault.what());
+        }
+    }
 }
 
 // Beside the day that opens next, which does not wait for it.
@@ -163,12 +182,14 @@ void Service::copy_days(const std::string &before) {
 }
 
 void Service::make_copies(const std::string &before, const std::stop_token &stop) {
+    sign_late_ends(before);
     try {
         std::size_t missing = 0;
         for (const Config &config : next_.in_force(before)) {
             missing += config.copies.empty() ? 0 : DayCopies(config, events_).make(before, stop);
         }
         metrics_.days_without_copy(missing);
+        days_without_copy_ = missing;
     } catch (const std::exception &fault) {
         events_->error("days are not copied cause=\"{}\"", fault.what());
     }
@@ -183,11 +204,17 @@ std::vector<Config> Service::as_begun(std::vector<Config> configs) {
             continue;
         }
         VenueFile file = read_venue_file("entry 0", *begun, config.firms.date);
+        if (file.date != config.firms.date) {
+            continue; // another day's log is in the place of this one's: its opening says so
+        }
         events_->info("the day goes on with the configuration that it began with{}: that of the "
                       "files applies to the next day",
                       config.venue.empty() ? "" : " venue=" + config.venue);
         config.configuration = std::move(file.text);
         config.firms = {std::move(file.date), std::move(file.firms), false};
+        for (const std::string &told : take_cancel_traders_of_day(config)) {
+            events_->warn("{}", told);
+        }
     }
     return configs;
 }
@@ -238,6 +265,37 @@ TradingDay Service::day_after(SystemSeconds now) {
     return TradingDays(next_.days_in_force(), now).first_after(now);
 }
 
+// A day that is open is not closed by hours that were changed since it began: that takes an
+// operator's word. One that was ended by such a word is over.
+TradingDay Service::day_of_start() {
+    const SystemSeconds moment = now();
+    const TradingDay by_rules = day_after(moment);
+    const auto begun = day_that_goes_on(first_, by_rules, moment);
+    if (!begun && by_rules.opens <= moment && is_ended_by_order(first_, by_rules.date)) {
+        events_->info("an operator has ended this day: it is not opened again date={}",
+                      by_rules.date);
+        return day_after(by_rules.ends);
+    }
+    if (!begun) {
+        return by_rules;
+    }
+    events_->warn("the day goes on by the hours that it began with: by [day] as it is now it would "
+                  "be closed date={} ends={}; `mireseason-admin end-day` ends it",
+                  begun->date, text_of(begun->ends));
+    const std::lock_guard lock(mutex_);
+    goes_on_to_ = begun->ends;
+    return *begun;
+}
+
+// For a start within the day.
+void Service::keep_hours_of(const Config &config, const TradingDay &day) {
+    try {
+        keep_hours(config, day);
+    } catch (const std::exception &fault) {
+        events_->warn("the hours of the day are not kept cause=\"{}\"", fault.what());
+    }
+}
+
 // Whether it has come; false where the service is to stop.
 bool Service::wait_for(const TradingDay &day) {
     if (now() < day.opens) {
@@ -272,7 +330,10 @@ void Service::open_operator_socket() {
             [this](const std::string &who, const std::string &line) {
                 return answer_to(*this, who, line);
             },
-            events_);
+            events_,
+            [this](uid_t user, const std::string &line, const PutBytes &put) {
+                return stream_backup(*this, user, line, put);
+            });
     }
 }
 
@@ -332,7 +393,12 @@ std::string Service::accept_loss(const std::vector<Act> &acts) {
 
 // The first that has not opened yet.
 TradingDay Service::day_to_open() {
-    const TradingDay today = day_after(now());
+    SystemSeconds moment = now();
+    {
+        const std::lock_guard lock(mutex_);
+        moment = std::max(moment, goes_on_to_);
+    }
+    const TradingDay today = day_after(moment);
     return today.opens <= now() ? day_after(today.ends) : today;
 }
 
@@ -346,6 +412,18 @@ AdminScene::NextDay Service::next_day() {
     next_.look(day);
     return {day.date, text_of(day.opens), text_of(day.ends), next_.in_force(day.date),
             next_.faults()};
+}
+
+AdminScene::Beside Service::beside() {
+    Beside seen;
+    seen.days_without_copy = days_without_copy_;
+    for (const Config &config : first_) {
+        seen.days_without_seal += copies_without_seal(config);
+    }
+    RestartForecast forecast = forecast_restart(path_, now(), Viewer::running_gateway);
+    seen.restart = std::move(forecast.sentences);
+    seen.restart_goes_well = forecast.goes_well;
+    return seen;
 }
 
 void Service::look_at_files(std::string &tried) {

@@ -1,18 +1,18 @@
 // The gateway over its trading days.
-#ifndef GATEWAY_SERVICE_H
-#define GATEWAY_SERVICE_H
+#ifndef GATEWAY_SERVICE_SERVICE_H
+#define GATEWAY_SERVICE_SERVICE_H
 
-#include "admin_command.h"
-#include "admin_socket.h"
-#include "closed_venue.h"
-#include "condition.h"
-#include "gateway.h"
-#include "metrics.h"
-#include "monitor.h"
-#include "next_configuration.h"
-#include "overview.h"
-#include "supervised.h"
-#include "trading_days.h"
+#include "config/trading_days.h"
+#include "day/gateway.h"
+#include "health/condition.h"
+#include "health/metrics.h"
+#include "operator/admin_command.h"
+#include "operator/admin_socket.h"
+#include "service/closed_venue.h"
+#include "service/monitor.h"
+#include "service/next_configuration.h"
+#include "service/overview.h"
+#include "service/systemd_notifier.h"
 
 #include <atomic>
 #include <condition_variable>
@@ -42,7 +42,7 @@ class Service final : private AdminScene {
     // `files` were read from the path, and give these configurations.
     Service(std::filesystem::path path, ConfigFiles files, std::vector<Config> configs,
             std::shared_ptr<spdlog::logger> events, std::shared_ptr<RecentEvents> recent,
-            SupervisorSocket supervisor);
+            SystemdSocket systemd);
 
     // Ends the day that goes on, and opens no other; of any thread.
     void ask_to_stop(const std::string &why);
@@ -83,8 +83,11 @@ class Service final : private AdminScene {
     std::string waits_for() override;
     std::string accept_loss(const std::vector<Act> &acts) override;
     NextDay next_day() override;
+    Beside beside() override;
 
     TradingDay day_after(SystemSeconds now);
+    TradingDay day_of_start();
+    void keep_hours_of(const Config &config, const TradingDay &day);
     TradingDay day_to_open();
     bool wait_for(const TradingDay &day);
     void refuse_logons(const TradingDay &day);
@@ -94,6 +97,7 @@ class Service final : private AdminScene {
     void look_at_files(std::string &tried);
     bool wait_a_second();
     void copy_days(const std::string &before);
+    void sign_late_ends(const std::string &before);
     void make_copies(const std::string &before, const std::stop_token &stop);
     MonitorSources sources();
     Overview overview();
@@ -109,7 +113,7 @@ class Service final : private AdminScene {
     std::shared_ptr<RecentEvents> recent_;
     NextConfiguration next_;
     std::stop_source stopping_;
-    // Over what other threads see of the day: the next five, and those for the operator below. The
+    // Over what other threads see of the day: the next six, and those for the operator below. The
     // locks of the gateway that it shows are taken under it, and it is taken under the two others
     // of this class.
     std::mutex mutex_;
@@ -117,10 +121,11 @@ class Service final : private AdminScene {
     std::string why_;
     Gateway *gateway_ = nullptr;   // of the day that goes on
     std::string day_;              // of today, or the next one
+    SystemSeconds goes_on_to_{};   // of a day that is open by hours which [day] has no more
     Phase between_ = Phase::opens; // what it does where there is no gateway
     std::jthread copying_;         // of the service's own thread
     Monitor monitor_;
-    Supervised supervised_;
+    SystemdNotifier notifier_;
 
     // Before a day opens; of the service's own thread.
     std::unique_ptr<ClosedVenue> closed_;
@@ -128,6 +133,7 @@ class Service final : private AdminScene {
     std::string door_fault_;      // that was told
     ListeningPort port_;          // for the day
     std::atomic<bool> is_to_renew_{false};
+    std::atomic<std::uint64_t> days_without_copy_{0}; // as the last copying left them
 
     // For the operator.
     std::shared_mutex day_mutex_; // over the end of a day, which waits for commands

@@ -1,7 +1,7 @@
 // The port before a day opens, at which each Logon is refused.
-#include "check_settings.h"
-#include "moment.h"
-#include "service.h"
+#include "common/moment.h"
+#include "service/service.h"
+#include "session/check_settings.h"
 
 #include <memory>
 #include <utility>

@@ -1,11 +1,13 @@
-#include "start_check.h"
+#include "service/start_check.h"
 
-#include "admin_peer.h"
-#include "check_settings.h"
-#include "descriptor.h"
-#include "disk_reserve.h"
-#include "frame.h"
-#include "venue_trial.h"
+#include "common/descriptor.h"
+#include "common/frame.h"
+#include "config/certified_firms.h"
+#include "health/disk_reserve.h"
+#include "operator/admin_peer.h"
+#include "operator/admin_socket.h"
+#include "session/check_settings.h"
+#include "venue/venue_trial.h"
 
 #include <cerrno>
 #include <fstream>
@@ -70,6 +72,17 @@ void check_reserve(const Config &config) {
     }
 }
 
+// A word without a slash is looked up in PATH.
+void check_program(const Config &config) {
+    const fs::path program = config.command.front();
+    std::error_code fault;
+    if (program.has_parent_path() && !fs::exists(program, fault)) {
+        throw std::runtime_error(fmt::format("[venue{}] command: there is no program {}",
+                                             config.venue.empty() ? "" : "." + config.venue,
+                                             program.string()));
+    }
+}
+
 // This process has to find it, and to write there where it `writes`.
 void check_folder(const fs::path &folder, std::string_view key, bool writes) {
     std::error_code fault;
@@ -80,8 +93,8 @@ void check_folder(const fs::path &folder, std::string_view key, bool writes) {
                                                  : ""));
     }
     if (::access(folder.c_str(), writes ? W_OK | X_OK : R_OK | X_OK) != 0) {
-        const std::string cause = std::system_category().message(errno);
-        throw std::runtime_error(fmt::format("{} {}: {}", key, folder.string(), cause));
+        throw std::system_error(errno, std::system_category(),
+                                fmt::format("{} {}", key, folder.string()));
     }
 }
 
@@ -89,11 +102,68 @@ void check_folders(const Config &config) {
     if (!config.sqlite.empty()) {
         check_folder(config.sqlite.parent_path(), "[log] sqlite", true);
     }
+    if (config.spool != config.checkpoints) {
+        check_folder(config.spool, "[log] spool", true);
+    }
+}
+
+void check_copies(const Config &config) {
     if (!config.copies.empty()) {
         check_folder(config.copies, "[copies] folder", true);
     }
     if (!config.sealed.empty()) {
         check_folder(config.sealed, "[copies] sealed", false);
+    }
+}
+
+// The file whose hash begins a day.
+void check_logged_program(const Config &config) {
+    std::error_code fault;
+    if (config.program.has_parent_path() && !fs::exists(config.program, fault)) {
+        throw std::runtime_error(fmt::format("[venue{}] program: there is no file {}",
+                                             config.venue.empty() ? "" : "." + config.venue,
+                                             config.program.string()));
+    }
+}
+
+// Which the gateway makes where it is not there yet.
+void check_folder_to_make(const fs::path &folder, std::string_view key) {
+    fs::path there = folder;
+    std::error_code fault;
+    while (!fs::exists(fs::symlink_status(there, fault)) && there.has_relative_path()) {
+        there = there.parent_path();
+    }
+    check_folder(there, key, true);
+}
+
+// A folder of it in /run is made by systemd when the service starts.
+void check_socket(const Config &config) {
+    const fs::path &path = config.operator_socket;
+    if (path.empty()) {
+        return;
+    }
+    if (path.string().size() > longest_socket_path) {
+        throw std::runtime_error(fmt::format("[operator] socket: {} has more than {} bytes",
+                                             path.string(), longest_socket_path));
+    }
+    std::error_code fault;
+    const fs::file_status found = fs::symlink_status(path, fault);
+    if (fs::exists(found) && !fs::is_socket(found)) {
+        throw std::runtime_error(fmt::format(
+            "[operator] socket: something stands at {} that is no socket", path.string()));
+    }
+    const fs::path folder = path.parent_path();
+    if (!folder.string().starts_with("/run/") || fs::exists(folder, fault)) {
+        check_folder(folder, "[operator] socket", true);
+    }
+}
+
+// Each would be free without the other.
+void check_ports(const Config &config) {
+    const bool share = config.engine.address == "127.0.0.1" || config.engine.address == "0.0.0.0";
+    if (share && config.metrics_port != 0 && config.metrics_port == config.engine.port) {
+        throw std::runtime_error(
+            fmt::format("[metrics] port = {}: [fix] port is the same", config.metrics_port));
     }
 }
 
@@ -106,6 +176,8 @@ void check_day(const Config &config, std::string_view day) {
     }
     check_settings(config.engine);
     check_reserve(config);
+    check_program(config);
+    check_logged_program(config);
     try_configuration(config);
 }
 
@@ -116,6 +188,24 @@ std::optional<std::string> doubt_about(const Config &config) {
     }
     return "[seal] gateways: none of them is the public key of signing_key. Who checks a day by "
            "these keys takes this gateway's signatures for nobody's";
+}
+
+std::vector<std::string> kept_out(const Config &config, std::string_view day) {
+    std::vector<std::string> told;
+    const CertifiedFirms certified(config);
+    for (const std::string &name : config.firms.names) {
+        const auto own = config.credentials.find(name);
+        if (own == config.credentials.end()) {
+            told.push_back(fmt::format("{} can't log on: it has no credentials", name));
+        } else if (!own->second.ends.empty() && own->second.ends < day) {
+            told.push_back(
+                fmt::format("{} can't log on: its credentials held to {}", name, own->second.ends));
+        } else if (const std::string why = certified.keeps_out(name, own->second); !why.empty()) {
+            told.push_back(
+                fmt::format("{} can't log on unless an act of the day admits it: {}", name, why));
+        }
+    }
+    return told;
 }
 
 std::optional<int> running_gateway(const fs::path &file) {
@@ -133,12 +223,34 @@ std::optional<int> running_gateway(const fs::path &file) {
     return std::nullopt;
 }
 
-void check_start(const Config &config, std::string_view day, bool runs) {
-    check_day(config, day);
+void check_machine(const Config &config) {
+    check_settings(config.engine);
+    check_reserve(config);
+    check_logged_program(config);
     check_folders(config);
+    check_folder_to_make(config.checkpoints, "[seal] checkpoints");
+    check_socket(config);
+    check_ports(config);
     if (!config.operator_group.empty()) {
         group_named(config.operator_group);
     }
+}
+
+std::optional<CopiesFault> fault_of_copies(const Config &config) {
+    try {
+        check_copies(config);
+        return std::nullopt;
+    } catch (const std::system_error &fault) {
+        return CopiesFault{fault.what(), fault.code() == std::errc::read_only_file_system};
+    } catch (const std::runtime_error &fault) {
+        return CopiesFault{fault.what(), false};
+    }
+}
+
+void check_start(const Config &config, std::string_view day, bool runs) {
+    check_day(config, day);
+    check_machine(config);
+    check_copies(config);
     if (runs) {
         return;
     }

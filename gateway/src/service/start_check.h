@@ -1,24 +1,37 @@
 // What a start would find, without one.
-#ifndef GATEWAY_START_CHECK_H
-#define GATEWAY_START_CHECK_H
+#ifndef GATEWAY_SERVICE_START_CHECK_H
+#define GATEWAY_SERVICE_START_CHECK_H
 
-#include "config.h"
+#include "config/config.h"
 
 #include <filesystem>
 #include <optional>
 #include <string>
 #include <string_view>
+#include <vector>
 
 namespace gateway {
 
 // Holds a configuration against what this day (eight digits) needs: its date, the certificates, and
 // a program of the venue that takes it. Throws std::runtime_error with the first fault.
 void check_day(const Config &config, std::string_view day);
-// The same, and what a start needs beside it: the folders of logs and copies, the operators' group,
-// and ports that nobody has. A gateway of this configuration that runs has these itself.
+// What a start needs of this machine, but for ports: what the sessions begin with, the log's
+// folders, room, and the operators' group. Throws std::runtime_error with the first fault.
+void check_machine(const Config &config);
+// What keeps days from being copied, though a start goes well.
+struct CopiesFault {
+    std::string words;
+    bool is_read_only = false; // to this process
+};
+std::optional<CopiesFault> fault_of_copies(const Config &config);
+// The same as check_day(), and what a start needs beside it: the folders of logs and copies, the
+// operators' group, and ports that nobody has. A gateway of this configuration that runs has these
+// itself.
 void check_start(const Config &config, std::string_view day, bool runs);
 // What is no fault of a configuration, and yet hardly meant; nothing where there is no such thing.
 std::optional<std::string> doubt_about(const Config &config);
+// The firms that can't log on on this day, each with the reason, in words.
+std::vector<std::string> kept_out(const Config &config, std::string_view day);
 // The process of a gateway that runs with this configuration's file; nothing where none is seen.
 std::optional<int> running_gateway(const std::filesystem::path &file);
 

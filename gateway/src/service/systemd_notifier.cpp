@@ -1,6 +1,6 @@
-#include "supervised.h"
+#include "service/systemd_notifier.h"
 
-#include "pause.h"
+#include "base/pause.h"
 
 #include <algorithm>
 #include <utility>
@@ -12,21 +12,21 @@ namespace {
 using namespace std::chrono_literals;
 
 // A second, or less where the watchdog waits for less than four.
-std::chrono::microseconds pause_of(const SupervisorSocket &socket) {
+std::chrono::microseconds pause_of(const SystemdSocket &socket) {
     const auto watchdog = socket.watchdog();
     return watchdog ? std::min<std::chrono::microseconds>(1s, *watchdog / 4) : 1s;
 }
 
 } // namespace
 
-Supervised::Supervised(SupervisorSocket socket, std::function<Condition()> condition)
+SystemdNotifier::SystemdNotifier(SystemdSocket socket, std::function<Condition()> condition)
     : socket_(std::move(socket)), condition_(std::move(condition)) {
     if (socket_.is_there()) {
         thread_ = std::jthread([this](const std::stop_token &stop) { run(stop); });
     }
 }
 
-Supervised::~Supervised() {
+SystemdNotifier::~SystemdNotifier() {
     if (thread_.joinable()) {
         thread_.request_stop();
         thread_.join();
@@ -34,14 +34,14 @@ Supervised::~Supervised() {
     }
 }
 
-void Supervised::run(const std::stop_token &stop) {
+void SystemdNotifier::run(const std::stop_token &stop) {
     while (!stop.stop_requested()) {
         tell(condition_());
         pause_for(pause_of(socket_), stop);
     }
 }
 
-void Supervised::tell(const Condition &now) {
+void SystemdNotifier::tell(const Condition &now) {
     if (const std::string words = now.words(); words != told_) {
         told_ = words;
         socket_.send("STATUS=" + words);
@@ -58,7 +58,7 @@ void Supervised::tell(const Condition &now) {
 
 // A part may be silent for half of what the watchdog waits for, and then systemd waits for as long
 // again as it does.
-bool Supervised::shows_life(const Condition &now) const {
+bool SystemdNotifier::shows_life(const Condition &now) const {
     const auto most = socket_.watchdog().value_or(60s) / 2;
     return !now.silent || now.silent->time < most;
 }

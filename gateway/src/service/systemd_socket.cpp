@@ -1,4 +1,4 @@
-#include "supervisor_socket.h"
+#include "service/systemd_socket.h"
 
 #include <cerrno>
 #include <charconv>
@@ -56,7 +56,7 @@ std::optional<std::chrono::microseconds> watchdog_of(const std::string &microsec
 
 } // namespace
 
-SupervisorSocket::SupervisorSocket() {
+SystemdSocket::SystemdSocket() {
     const std::string name = take("NOTIFY_SOCKET");
     const std::string microseconds = take("WATCHDOG_USEC");
     const std::string process = take("WATCHDOG_PID");
@@ -72,7 +72,7 @@ SupervisorSocket::SupervisorSocket() {
     }
 }
 
-void SupervisorSocket::send(std::string_view lines) const {
+void SystemdSocket::send(std::string_view lines) const {
     if (socket_) {
         ::sendto(socket_->number(), lines.data(), lines.size(), MSG_NOSIGNAL | MSG_DONTWAIT,
                  reinterpret_cast<const sockaddr *>(address_.data()),

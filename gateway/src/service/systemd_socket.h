@@ -1,8 +1,8 @@
 // The socket at which systemd hears how a service is: sd_notify(3).
-#ifndef GATEWAY_SUPERVISOR_SOCKET_H
-#define GATEWAY_SUPERVISOR_SOCKET_H
+#ifndef GATEWAY_SERVICE_SYSTEMD_SOCKET_H
+#define GATEWAY_SERVICE_SYSTEMD_SOCKET_H
 
-#include "descriptor.h"
+#include "common/descriptor.h"
 
 #include <chrono>
 #include <optional>
@@ -13,10 +13,10 @@ namespace gateway {
 
 // Takes what systemd has put into the environment out of it, so that the venue's process and others
 // can't speak for the service. Where nobody listens, nothing is sent.
-class SupervisorSocket {
+class SystemdSocket {
   public:
     // Throws std::runtime_error where NOTIFY_SOCKET names no socket that can be had.
-    SupervisorSocket();
+    SystemdSocket();
 
     bool is_there() const { return socket_.has_value(); }
     // Lines `KEY=VALUE`. A datagram that systemd does not take is lost: the next one says it again.

@@ -1,6 +1,6 @@
-#include "channel.h"
+#include "session/channel.h"
 
-#include "regular_file.h"
+#include "common/regular_file.h"
 
 #include <cerrno>
 #include <cstring>
@@ -108,6 +108,10 @@ void TlsServer::ask_for_certificates(const EngineSettings &settings) {
 }
 
 TlsServer::~TlsServer() = default;
+
+std::shared_ptr<const TlsServer> tls_of(const EngineSettings &settings) {
+    return settings.certificate.empty() ? nullptr : std::make_shared<const TlsServer>(settings);
+}
 
 Channel::Channel(Descriptor socket, const TlsServer *server) : socket_(std::move(socket)) {
     if (server != nullptr) {

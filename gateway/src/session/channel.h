@@ -2,8 +2,8 @@
 #ifndef GATEWAY_SESSION_CHANNEL_H
 #define GATEWAY_SESSION_CHANNEL_H
 
-#include "descriptor.h"
-#include "engine.h"
+#include "common/descriptor.h"
+#include "session/engine_settings.h"
 
 #include <cstddef>
 #include <memory>
@@ -34,6 +34,9 @@ class TlsServer {
     std::unique_ptr<ssl_ctx_st, Free> context_;
     const bool asks_;
 };
+
+// Null for plain TCP.
+std::shared_ptr<const TlsServer> tls_of(const EngineSettings &settings);
 
 class Channel {
   public:

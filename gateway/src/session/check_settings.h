@@ -2,7 +2,7 @@
 #ifndef GATEWAY_SESSION_CHECK_SETTINGS_H
 #define GATEWAY_SESSION_CHECK_SETTINGS_H
 
-#include "engine.h"
+#include "session/engine_settings.h"
 
 namespace gateway {
 

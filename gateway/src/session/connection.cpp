@@ -1,7 +1,7 @@
-#include "connection.h"
+#include "session/connection.h"
 
-#include "refusal_words.h"
-#include "sessions.h"
+#include "session/refusal_words.h"
+#include "session/sessions.h"
 
 #include <algorithm>
 #include <array>

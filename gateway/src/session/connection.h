@@ -2,12 +2,13 @@
 #ifndef GATEWAY_SESSION_CONNECTION_H
 #define GATEWAY_SESSION_CONNECTION_H
 
-#include "channel.h"
-#include "conversation.h"
-#include "engine.h"
-#include "line.h"
-#include "strangers.h"
-#include "turns.h"
+#include "session/channel.h"
+#include "session/conversation.h"
+#include "session/engine_events.h"
+#include "session/engine_settings.h"
+#include "session/strangers.h"
+#include "session/transport.h"
+#include "session/turns.h"
 
 #include <atomic>
 #include <chrono>
@@ -21,7 +22,7 @@ namespace gateway {
 
 // A thread reads and writes the connection, and has its conversation. Other threads leave bytes to
 // be written, or shut it.
-class Connection final : public Line {
+class Connection final : public Transport {
   public:
     using Clock = std::chrono::steady_clock;
 
@@ -32,8 +33,8 @@ class Connection final : public Line {
     Connection(const Connection &) = delete;
     Connection &operator=(const Connection &) = delete;
 
-    // Line. Where more waits than may, the connection is shut: the firm does not read, and what it
-    // was to be sent is kept for it.
+    // Transport. Where more waits than may, the connection is shut: the firm does not read, and
+    // what it was to be sent is kept for it.
     bool send(std::string_view bytes) override;
     void finish(const std::string &why) override;
     void shut(const std::string &why) override;

@@ -1,7 +1,7 @@
 // How what comes on a connection is read: by a firm's rate, and at the end passed over.
-#include "connection.h"
+#include "session/connection.h"
 
-#include "refusal_words.h"
+#include "session/refusal_words.h"
 
 #include <algorithm>
 #include <array>

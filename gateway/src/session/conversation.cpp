@@ -1,7 +1,7 @@
-#include "conversation.h"
+#include "session/conversation.h"
 
-#include "line.h"
-#include "refusal_words.h"
+#include "session/refusal_words.h"
+#include "session/transport.h"
 
 #include <utility>
 
@@ -21,8 +21,8 @@ constexpr const char *held_too_long =
 
 } // namespace
 
-Conversation::Conversation(const Sessions &sessions, EngineEvents &events, Line &line)
-    : line_(line), events_(events), door_(sessions, events, line) {}
+Conversation::Conversation(const Sessions &sessions, EngineEvents &events, Transport &transport)
+    : transport_(transport), events_(events), door_(sessions, events, transport) {}
 
 void Conversation::hear(const char *bytes, std::size_t count, Received at) {
     stream_.append(bytes, count);
@@ -69,7 +69,7 @@ void Conversation::tick(Received now) {
 }
 
 bool Conversation::may_go_on() const {
-    return !waits_ && !line_.is_ending() && (is_first_ || is_known());
+    return !waits_ && !transport_.is_ending() && (is_first_ || is_known());
 }
 
 // What follows a Logon in the same bytes is not looked at before the Logon has been answered.
@@ -95,7 +95,8 @@ void Conversation::go_on() {
     }
     if (is_known()) {
         door_.session()->all_taken();
-    } else if (is_first_ && !line_.is_ending() && stream_.size() - begin_ > most_before_logon) {
+    } else if (is_first_ && !transport_.is_ending() &&
+               stream_.size() - begin_ > most_before_logon) {
         turn_away(stranger_words::no_logon, "a first message that is too long");
     }
 }

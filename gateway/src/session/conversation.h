@@ -3,7 +3,7 @@
 #ifndef GATEWAY_SESSION_CONVERSATION_H
 #define GATEWAY_SESSION_CONVERSATION_H
 
-#include "door.h"
+#include "session/door.h"
 
 #include <chrono>
 #include <cstddef>
@@ -13,13 +13,13 @@
 
 namespace gateway {
 
-// Knows nothing of sockets and threads: it is given bytes, and a Line for what is said to the peer.
-// One thread calls it.
+// Knows nothing of sockets and threads: it is given bytes, and a Transport for what is said to the
+// peer. One thread calls it.
 class Conversation {
   public:
     using Received = std::chrono::system_clock::time_point;
 
-    Conversation(const Sessions &sessions, EngineEvents &events, Line &line);
+    Conversation(const Sessions &sessions, EngineEvents &events, Transport &transport);
     Conversation(const Conversation &) = delete;
     Conversation &operator=(const Conversation &) = delete;
 
@@ -33,7 +33,7 @@ class Conversation {
     void look_again();
     // From when on the firm may be read again, by its rate: these are the bytes that it was heard.
     std::chrono::steady_clock::time_point may_hear_from(std::size_t bytes);
-    // What the session has to say leaves with the line, once the firm's rate lets it:
+    // What the session has to say leaves with the transport, once the firm's rate lets it:
     // FirmSession::serve().
     void serve();
     // From when on there is more to say; nothing where all is said.
@@ -62,7 +62,7 @@ class Conversation {
     void logon_was_judged(Door::Standing standing);
     void skip(std::size_t count);
 
-    Line &line_;
+    Transport &transport_;
     EngineEvents &events_;
     Door door_;
     std::string stream_;

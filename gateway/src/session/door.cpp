@@ -1,9 +1,10 @@
-#include "door.h"
+#include "session/door.h"
 
-#include "line.h"
-#include "refusal_words.h"
-#include "sessions.h"
-#include "turns.h"
+#include "session/refusal_words.h"
+#include "session/session_names.h"
+#include "session/sessions.h"
+#include "session/transport.h"
+#include "session/turns.h"
 
 namespace gateway {
 
@@ -27,6 +28,8 @@ const char *word_of(Refusal refusal) {
         return refusal_words::wrong_address;
     case Refusal::no_longer:
         return refusal_words::no_longer;
+    case Refusal::not_certified:
+        return refusal_words::not_certified;
     }
     return stranger_words::unknown_name;
 }
@@ -40,8 +43,9 @@ Turns::Time next_turn_of(const FirmSession &asked, const std::string &address) {
 
 } // namespace
 
-Door::Door(const Sessions &sessions, EngineEvents &events, Line &line)
-    : sessions_(sessions), events_(events), line_(line), connection_(sessions.next_connection()) {}
+Door::Door(const Sessions &sessions, EngineEvents &events, Transport &transport)
+    : sessions_(sessions), events_(events), transport_(transport),
+      connection_(sessions.next_connection()) {}
 
 Door::Standing Door::judge(std::string_view first) {
     const std::optional<LogonQuestion> logon = question_of(first);
@@ -49,7 +53,7 @@ Door::Standing Door::judge(std::string_view first) {
         turn_away(stranger_words::no_logon, "a first message that is no Logon");
         return Standing::over;
     }
-    line_.is_judged();
+    transport_.is_judged();
     session_ = named_in(*logon);
     Judged judged;
     if (!judge_sender(*logon, judged)) {
@@ -60,15 +64,15 @@ Door::Standing Door::judge(std::string_view first) {
         return Standing::over;
     }
     if (judged.refusal != Refusal::none) {
-        return refuse(word_of(judged.refusal));
+        return refuse(word_of(judged.refusal), first);
     }
-    if (line_.is_ending()) {
+    if (transport_.is_ending()) {
         // Meanwhile.
         return Standing::over;
     }
     // From here on the session tells how it ends.
     is_known_ = is_told_ = true;
-    const Standing standing = session_->enter(connection_, line_, first, judged.reading);
+    const Standing standing = session_->enter(connection_, transport_, first, judged.reading);
     if (standing == Standing::waits) {
         logon_ = first;
     }
@@ -86,7 +90,7 @@ FirmSession *Door::named_in(const LogonQuestion &logon) const {
 // Of a name that nobody has too, by what the venue asks of the names that it has: so that it takes
 // as long. False where the connection has ended before its turn came.
 bool Door::judge_sender(const LogonQuestion &logon, Judged &judged) const {
-    const ConnectionFacts connection = line_.facts();
+    const ConnectionFacts connection = transport_.facts();
     LogonFacts facts;
     facts.firm = logon.firm;
     facts.username = logon.username;
@@ -103,7 +107,7 @@ bool Door::judge_sender(const LogonQuestion &logon, Judged &judged) const {
         return true;
     }
     return sessions_.turns().take(
-        facts.address, [this] { return line_.is_ending(); },
+        facts.address, [this] { return transport_.is_ending(); },
         [&] {
             judged.reading = asked->host().readings();
             judged.refusal = asked->host().judge(facts);
@@ -112,18 +116,19 @@ bool Door::judge_sender(const LogonQuestion &logon, Judged &judged) const {
 }
 
 // The connection ends before anybody is told: what that takes is nothing to go by.
-Door::Standing Door::refuse(const char *word) {
+Door::Standing Door::refuse(const char *word, std::string_view logon) {
     is_told_ = true;
-    line_.shut(word);
-    session_->host().logon_refused(session_->firm(), line_.facts(), word);
+    transport_.shut(word);
+    session_->host().logon_refused(session_->firm(), transport_.facts(), word);
+    session_->credentials_refused(logon);
     return Standing::over;
 }
 
 void Door::turn_away(const char *word, const std::string &text) {
-    line_.shut(word);
+    transport_.shut(word);
     if (!is_told_) {
         is_told_ = true;
-        events_.stranger(line_.facts(), word, text);
+        events_.stranger(transport_.facts(), word, text);
     }
 }
 

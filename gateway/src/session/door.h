@@ -2,9 +2,10 @@
 #ifndef GATEWAY_SESSION_DOOR_H
 #define GATEWAY_SESSION_DOOR_H
 
-#include "engine.h"
-#include "firm_session.h"
-#include "machine.h"
+#include "session/connection_facts.h"
+#include "session/engine_events.h"
+#include "session/firm_session.h"
+#include "session/machine.h"
 
 #include <cstdint>
 #include <string>
@@ -12,7 +13,7 @@
 
 namespace gateway {
 
-class Line;
+class Transport;
 class Sessions;
 
 // Stands between a connection and all sessions until a Logon was accepted. Whoever connects may
@@ -22,7 +23,7 @@ class Door {
   public:
     using Standing = FirmSession::Standing;
 
-    Door(const Sessions &sessions, EngineEvents &events, Line &line);
+    Door(const Sessions &sessions, EngineEvents &events, Transport &transport);
 
     // Judges the first message of the connection, in this order: whether it is a Logon that can be
     // read; which session its 49, 56 and 57 name; its credentials and the certificate; and then
@@ -49,11 +50,11 @@ class Door {
         std::uint64_t reading = 0;
     };
     bool judge_sender(const LogonQuestion &logon, Judged &judged) const;
-    Standing refuse(const char *word);
+    Standing refuse(const char *word, std::string_view logon);
 
     const Sessions &sessions_;
     EngineEvents &events_;
-    Line &line_;
+    Transport &transport_;
     const std::uint64_t connection_;
     FirmSession *session_ = nullptr; // that the Logon names
     bool is_known_ = false;          // the sender is the firm

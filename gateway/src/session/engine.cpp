@@ -1,13 +1,10 @@
-#include "engine.h"
+#include "session/engine.h"
 
-#include "check_settings.h"
-#include "connection.h"
-#include "firm_session.h"
-#include "listening_port.h"
-#include "refusal_words.h"
-#include "sessions.h"
-#include "socket_address.h"
-#include "strangers.h"
+#include "session/connection.h"
+#include "session/firm_session.h"
+#include "session/refusal_words.h"
+#include "session/sessions.h"
+#include "session/strangers.h"
 
 #include <algorithm>
 #include <cerrno>
@@ -66,11 +63,6 @@ void watch_peer(const Descriptor &socket) {
     set_option(socket, IPPROTO_TCP, TCP_USER_TIMEOUT, gone_milliseconds);
 }
 
-// Null for plain TCP.
-std::shared_ptr<const TlsServer> tls_of(const EngineSettings &settings) {
-    return settings.certificate.empty() ? nullptr : std::make_shared<const TlsServer>(settings);
-}
-
 // Has the process open as many files as it may, and looks whether that is enough: each connection
 // takes two, strangers that make room have theirs until they have ended, and there is the rest.
 void allow_descriptors(std::size_t strangers, std::size_t sessions) {
@@ -93,11 +85,6 @@ void allow_descriptors(std::size_t strangers, std::size_t sessions) {
 }
 
 } // namespace
-
-void check_settings(const EngineSettings &settings) {
-    address_of(settings);
-    tls_of(settings);
-}
 
 class Engine::Parts {
   public:
@@ -344,12 +331,16 @@ void Engine::suspend(const std::string &session) {
     parts_->sessions().of(session).suspend();
 }
 
-void Engine::release(const std::string &session) {
-    parts_->sessions().of(session).release_firm();
+void Engine::resume(const std::string &session) {
+    parts_->sessions().of(session).resume();
 }
 
-void Engine::reset(const std::string &session) {
-    parts_->sessions().of(session).reset();
+void Engine::release(const std::string &session, std::uint32_t act) {
+    parts_->sessions().of(session).release_firm(act);
+}
+
+void Engine::reset(const std::string &session, std::uint32_t act) {
+    parts_->sessions().of(session).reset(act);
 }
 
 void Engine::renew(const EngineSettings &settings) {

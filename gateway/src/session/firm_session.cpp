@@ -1,7 +1,9 @@
-#include "firm_session.h"
+#include "session/firm_session.h"
 
-#include "line.h"
-#include "own_fields.h"
+#include "session/notes_of_turn.h"
+#include "session/own_fields.h"
+#include "session/session_names.h"
+#include "session/transport.h"
 
 #include <algorithm>
 #include <stdexcept>
@@ -115,22 +117,30 @@ SessionEvent FirmSession::event_of(const Delivery *delivery) const {
     const MachineTurn &turn = machine_.turn();
     SessionEvent event;
     event.numbers = machine_.next_numbers();
+    event.moment = moment_;
     event.is_logged_on = is_on(machine_.next());
     event.drops_rejects = turn.told.drops_rejects;
     event.given = delivery;
+    if (delivery == nullptr) {
+        event.notes = notes_of_turn(machine_, moment_);
+    }
     if (turn.told.first.is_kept) {
         KeptMessage &kept = event.kept.emplace();
         kept.number = static_cast<std::uint32_t>(turn.told.first.number);
         kept.frame = turn.kept;
         kept.type = own_fields::value_in(turn.kept, own_fields::msg_type);
-        kept.first = moment_;
+        kept.first = delivery == nullptr ? moment_ : delivery->moment;
     }
     return event;
 }
 
 // The machine's event is put into the log, and then it is so.
 void FirmSession::carry_out(const Delivery *delivery) {
-    const SessionEvent event = event_of(delivery);
+    carry_out(event_of(delivery));
+}
+
+void FirmSession::carry_out(SessionEvent event) {
+    const Delivery *const delivery = event.given;
     begin_if_accepted();
     const bool was_on = machine_.is_on();
     if (was_on && !event.is_logged_on) {
@@ -138,7 +148,8 @@ void FirmSession::carry_out(const Delivery *delivery) {
         host_.logged_off(names_.firm);
     }
     const bool changes = event.kept || event.given != nullptr || event.drops_rejects ||
-                         was_on != event.is_logged_on || event.numbers != machine_.numbers();
+                         was_on != event.is_logged_on || !event.notes.empty() ||
+                         event.numbers != machine_.numbers();
     const std::uint64_t ticket = changes ? host_.put(names_.firm, event) : 0;
     if (changes && delivery == nullptr) {
         own_ticket_ = ticket;
@@ -159,7 +170,7 @@ void FirmSession::begin_if_accepted() {
     Visitor *const from = is_on(next) ? visitor(next.line.connection) : nullptr;
     if (!machine_.is_on() && from != nullptr) {
         logons_.add(LogonRate::Time::clock::now());
-        from->number = host_.logon_accepted(names_.firm, from->line->facts());
+        from->number = host_.logon_accepted(names_.firm, from->transport->facts());
     }
 }
 
@@ -189,10 +200,10 @@ void FirmSession::complete(std::uint64_t ticket, const Delivery *delivery) {
         tell(turn);
     }
     end_as_told(turn);
-    note_line();
+    note_transport();
     if (machine_.wants().kind != static_cast<std::uint32_t>(Want::nothing)) {
         if (Visitor *const has = holder()) {
-            has->line->wake();
+            has->transport->wake();
         }
     }
 }
@@ -211,7 +222,7 @@ void FirmSession::post(const MachineTurn &turn, std::uint64_t ticket) {
     to->last_ticket = std::max(to->last_ticket, ticket);
     send_what_may_leave(*to);
     if (to->last_ticket > stored_ticket_) {
-        to->line->wake();
+        to->transport->wake();
     }
 }
 
@@ -226,7 +237,7 @@ void FirmSession::send_what_may_leave(Visitor &to) {
         to.unsent.pop_front();
     }
     if (!bytes.empty()) {
-        to.line->send(bytes);
+        to.transport->send(bytes);
     }
 }
 
@@ -237,9 +248,9 @@ void FirmSession::send_held_back() {
         }
         return;
     }
-    const std::lock_guard lock(line_mutex_);
-    if (line_ != nullptr) {
-        line_->wake();
+    const std::lock_guard lock(transport_mutex_);
+    if (transport_ != nullptr) {
+        transport_->wake();
     }
 }
 
@@ -288,7 +299,10 @@ bool FirmSession::deliver_at_once(const Delivery &delivery) {
 
 void FirmSession::deliver_here(const Delivery &delivery) {
     given_for_ = std::max(given_for_, delivery.place);
-    machine_.given(begin(), delivery.wire);
+    // No earlier than its entry, which is the moment that a resend has (122), whichever gateway's
+    // clock is behind.
+    moment_ = std::max(begin(), delivery.moment);
+    machine_.given(moment_, delivery.wire);
     if (!machine_.turn().told.first.is_kept) {
         // Its firm has used the numbers up; the venue goes on, and so does whoever else is there.
         events_.dropped("session over", name_);
@@ -297,21 +311,21 @@ void FirmSession::deliver_here(const Delivery &delivery) {
 }
 
 void FirmSession::shut() {
-    const std::lock_guard lock(line_mutex_);
-    if (line_ != nullptr) {
-        line_->shut("the firm does not keep up");
+    const std::lock_guard lock(transport_mutex_);
+    if (transport_ != nullptr) {
+        transport_->shut("the firm does not keep up");
     }
 }
 
 std::size_t FirmSession::waiting_bytes() const {
-    const std::lock_guard lock(line_mutex_);
-    return line_ == nullptr ? 0 : line_->waiting();
+    const std::lock_guard lock(transport_mutex_);
+    return transport_ == nullptr ? 0 : transport_->waiting();
 }
 
-void FirmSession::note_line() {
+void FirmSession::note_transport() {
     Visitor *const has = holder();
-    const std::lock_guard lock(line_mutex_);
-    line_ = has == nullptr ? nullptr : has->line;
+    const std::lock_guard lock(transport_mutex_);
+    transport_ = has == nullptr ? nullptr : has->transport;
 }
 
 // What is read of the log just now is old, too.

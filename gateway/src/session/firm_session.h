@@ -2,10 +2,12 @@
 #ifndef GATEWAY_SESSION_FIRM_SESSION_H
 #define GATEWAY_SESSION_FIRM_SESSION_H
 
-#include "engine.h"
-#include "kept_rows.h"
-#include "logon_rate.h"
-#include "machine.h"
+#include "session/engine_events.h"
+#include "session/kept_rows.h"
+#include "session/logon_rate.h"
+#include "session/machine.h"
+#include "session/refused_numbers.h"
+#include "session/session_start.h"
 
 #include <chrono>
 #include <cstdint>
@@ -17,7 +19,7 @@
 
 namespace gateway {
 
-class Line;
+class Transport;
 
 // The machine decides; this moves bytes between it and connections, puts what each event does into
 // the log, and hands the machine what it keeps. Nothing that the machine did is seen before it is
@@ -53,8 +55,8 @@ class FirmSession final {
     };
 
     // The first message of a connection, a Logon with the right credentials by this reading of
-    // them, is judged. The line is called until release().
-    Standing enter(std::uint64_t connection, Line &line, std::string_view logon,
+    // them, is judged. The transport is called until release().
+    Standing enter(std::uint64_t connection, Transport &transport, std::string_view logon,
                    std::uint64_t reading);
     // The same again of one that waits.
     Standing look_again(std::uint64_t connection, std::string_view logon);
@@ -65,11 +67,11 @@ class FirmSession final {
     void all_taken();
     // Heartbeats, and what else time brings about.
     void tick(Received now);
-    // Ends what the connection had. No call reaches its line after it.
+    // Ends what the connection had. No call reaches its transport after it.
     void release(std::uint64_t connection, const std::string &why);
 
-    // Leaves with the line what is to leave now, as far as it is committed and the firm takes it.
-    // From when on it is to be called again, if there is more.
+    // Leaves with the transport what is to leave now, as far as it is committed and the firm takes
+    // it. From when on it is to be called again, if there is more.
     struct Work {
         bool has_more = false;
         Time from{};
@@ -87,10 +89,13 @@ class FirmSession final {
     std::size_t waiting_bytes() const;
     // Logs the firm out, if it is logged on.
     void log_out(const std::string &reason);
-    // What an operator orders.
+    // A Logon in the firm's name has wrong credentials. Anybody may send one.
+    void credentials_refused(std::string_view logon);
+    // What an operator orders; some with the place of the act in the log.
     void suspend() { order(Order::suspend); }
-    void release_firm() { order(Order::release); }
-    void reset();
+    void resume() { order(Order::resume); }
+    void release_firm(std::uint32_t act);
+    void reset(std::uint32_t act);
 
   private:
     // What waits for its commit: that of a batch, 0 for none, and of the entries up to a place.
@@ -101,7 +106,7 @@ class FirmSession final {
     };
     // A connection that has the session, or would have it.
     struct Visitor {
-        Line *line = nullptr;
+        Transport *transport = nullptr;
         std::uint64_t reading = 0; // of the credentials that were right
         std::uint32_t number = 0;  // in the log, 0 where no Logon was accepted
         std::deque<Unsent> unsent;
@@ -122,15 +127,17 @@ class FirmSession final {
     std::uint32_t begin();
     Visitor *visitor(std::uint64_t connection);
     Visitor *holder();
-    void note_line();
+    void note_transport();
     Standing standing_here(std::uint64_t connection) const;
     void order(Order order); // takes the lock
+    SessionNote note_of_act(char kind, std::uint32_t act) const;
     void note_why(const std::string &why);
     void note_unsaid();
     void deliver_here(const Delivery &delivery);
     void forget_rows();
     SessionEvent event_of(const Delivery *delivery) const;
     void carry_out(const Delivery *delivery);
+    void carry_out(SessionEvent event);
     void begin_if_accepted();
     void complete(std::uint64_t ticket, const Delivery *delivery);
     void note_kept(const SessionEvent &event, std::uint64_t ticket);
@@ -149,6 +156,7 @@ class FirmSession final {
     Standing refuse_old_reading(std::uint64_t connection);
     const char *word_of_refusal(std::uint64_t connection, std::string_view logon);
     void tell_refused(Visitor &refused, const char *word);
+    void tell_climb(std::string_view logon, std::uint32_t expected);
     Came judge(std::uint64_t connection, std::string_view message, Received at); // takes the lock
     void deny(std::uint64_t connection, std::string_view message, Received at, const Taken &taken);
     void log_out_if_too_much(std::string_view text);
@@ -169,13 +177,14 @@ class FirmSession final {
     EngineEvents &events_;
     const Received midnight_;
 
-    // Over all that follows. `line_mutex_`, and the locks of the host and of lines, are taken under
-    // it: whoever holds one of those may try it, and not wait for it.
+    // Over all that follows. `transport_mutex_`, and the locks of the host and of transports, are
+    // taken under it: whoever holds one of those may try it, and not wait for it.
     mutable std::mutex mutex_;
     Machine machine_;
     std::uint32_t moment_ = 0; // of its last event
     std::string_view message_; // that it is, empty where it is another
     LogonRate logons_;
+    RefusedNumbers refused_;
     KeptRows rows_;
     Time hands_from_{};            // by the firm's rate of what is sent again
     std::uint32_t load_from_ = 0;  // the number that step() found unknown
@@ -187,9 +196,10 @@ class FirmSession final {
     bool has_received_ = false;       // what the host was not told the end of
     std::map<std::uint64_t, Visitor> visitors_;
 
-    // Over the line of the connection that has the session: whoever shuts it waits for no event.
-    mutable std::mutex line_mutex_;
-    Line *line_ = nullptr;
+    // Over the transport of the connection that has the session: whoever shuts it waits for no
+    // event.
+    mutable std::mutex transport_mutex_;
+    Transport *transport_ = nullptr;
 };
 
 } // namespace gateway

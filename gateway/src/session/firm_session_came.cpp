@@ -1,7 +1,7 @@
 // What a session does with what comes on connections.
-#include "firm_session.h"
-#include "line.h"
-#include "refusal_words.h"
+#include "session/firm_session.h"
+#include "session/refusal_words.h"
+#include "session/transport.h"
 
 #include <array>
 #include <utility>
@@ -23,7 +23,7 @@ constexpr std::array<RefusalText, 11> refusal_texts = {{
     {"HeartBtInt", refusal_words::heartbeat},
     {"SendingTime", refusal_words::sending_time},
     {"numbers are not reset", refusal_words::reset},
-    {"MsgSeqNum was too low", refusal_words::lost_store},
+    {"MsgSeqNum was too low", refusal_words::locked},
     {"numbers begin at 1", refusal_words::begin},
     {"MsgSeqNum too low", refusal_words::number},
     {"NextExpectedMsgSeqNum", refusal_words::number},
@@ -39,11 +39,11 @@ constexpr const char *logs_on_too_often =
 
 } // namespace
 
-FirmSession::Standing FirmSession::enter(std::uint64_t connection, Line &line,
+FirmSession::Standing FirmSession::enter(std::uint64_t connection, Transport &transport,
                                          std::string_view logon, std::uint64_t reading) {
     const std::lock_guard lock(mutex_);
     Visitor &of = visitors_[connection];
-    of.line = &line;
+    of.transport = &transport;
     of.reading = reading;
     return judge_logon(connection, logon);
 }
@@ -74,18 +74,21 @@ FirmSession::Standing FirmSession::judge_logon(std::uint64_t connection, std::st
     }
     const bool too_often = !logons_.may_log_on(LogonRate::Time::clock::now());
     const Denial denial{0, {}, logs_on_too_often};
+    const std::uint32_t expected = machine_.numbers().expected;
     machine_.came(begin(), connection, logon, true, too_often ? &denial : nullptr);
     const auto notice = static_cast<Notice>(machine_.turn().told.notice);
+    if (notice == Notice::lost_store) {
+        tell_refused(visitors_[connection], refusal_words::lost_store);
+    }
     carry_out(nullptr);
     const Standing standing = standing_here(connection);
     Visitor &of = visitors_[connection];
     if (standing == Standing::on) {
         of.was_judged = true;
+        tell_climb(logon, expected);
     } else if (standing != Standing::waits) {
         const char *word = refusal_words::second_connection;
-        if (notice == Notice::lost_store) {
-            word = refusal_words::lost_store;
-        } else if (notice == Notice::refused) {
+        if (notice == Notice::refused) {
             word = too_often ? refusal_words::too_often : word_of_refusal(connection, logon);
         } else if (machine_.numbers().is_spent()) {
             word = refusal_words::over;
@@ -93,6 +96,23 @@ FirmSession::Standing FirmSession::judge_logon(std::uint64_t connection, std::st
         tell_refused(of, word);
     }
     return standing;
+}
+
+void FirmSession::credentials_refused(std::string_view logon) {
+    const std::lock_guard lock(mutex_);
+    if (const auto number = logon_number(logon)) {
+        refused_.refuse(*number, machine_.numbers().expected);
+    }
+}
+
+// Who climbed over numbers that came before, while it was refused for its credentials.
+void FirmSession::tell_climb(std::string_view logon, std::uint32_t expected) {
+    const bool resets = logon.find("\x01"
+                                   "141=Y\x01") != std::string_view::npos;
+    const auto climb = refused_.accept(logon_number(logon).value_or(0), expected, resets);
+    if (climb) {
+        host_.may_have_lost_store(names_.firm, *climb);
+    }
 }
 
 // The numbers are the host's, since another gateway may use some up. The host keeps them before
@@ -139,7 +159,7 @@ const char *FirmSession::word_of_refusal(std::uint64_t connection, std::string_v
 
 void FirmSession::tell_refused(Visitor &refused, const char *word) {
     if (!std::exchange(refused.was_judged, true)) {
-        host_.logon_refused(names_.firm, refused.line->facts(), word);
+        host_.logon_refused(names_.firm, refused.transport->facts(), word);
     }
 }
 
@@ -254,7 +274,7 @@ void FirmSession::leave(std::uint64_t connection) {
         machine_.adopt();
     }
     visitors_.erase(connection);
-    note_line();
+    note_transport();
 }
 
 } // namespace gateway

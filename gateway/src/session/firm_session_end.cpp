@@ -1,7 +1,7 @@
 // How connections of a session end: by the session's rules, by the gateway, by an operator.
-#include "firm_session.h"
-#include "line.h"
-#include "own_fields.h"
+#include "session/firm_session.h"
+#include "session/own_fields.h"
+#include "session/transport.h"
 
 #include <utility>
 
@@ -62,7 +62,7 @@ void FirmSession::end(Visitor &ended, const std::string &why) {
     if (number != 0) {
         host_.connection_ended(names_.firm, number, "the session ended it: " + ended.why);
     }
-    ended.line->wake();
+    ended.transport->wake();
 }
 
 // Who was refused with a Logout, and has had its time to answer.
@@ -106,11 +106,30 @@ void FirmSession::order(Order order) {
     carry_out(nullptr);
 }
 
-void FirmSession::reset() {
+// Its note says that the act is carried out, whether the session was locked or not: a start carries
+// out what stands behind it.
+void FirmSession::release_firm(std::uint32_t act) {
+    const std::lock_guard lock(mutex_);
+    machine_.ordered(begin(), Order::release);
+    SessionEvent event = event_of(nullptr);
+    event.notes.push_back(note_of_act(session_notes::lock, act));
+    carry_out(std::move(event));
+}
+
+SessionNote FirmSession::note_of_act(char kind, std::uint32_t act) const {
+    SessionNote note;
+    note.kind = kind;
+    note.moment = moment_;
+    note.act = act;
+    return note;
+}
+
+void FirmSession::reset(std::uint32_t act) {
     const std::lock_guard lock(mutex_);
     const std::uint32_t had = machine_.numbers().had;
     machine_.ordered(begin(), Order::reset, host_.count_kept(names_.firm, had));
-    const SessionEvent event = event_of(nullptr);
+    SessionEvent event = event_of(nullptr);
+    event.notes = {note_of_act(session_notes::reset, act)};
     note_why("an operator has reset the session");
     if (machine_.is_on()) {
         host_.logged_off(names_.firm);

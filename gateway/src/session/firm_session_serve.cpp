@@ -1,6 +1,6 @@
 // How what a session has to say leaves.
-#include "firm_session.h"
-#include "line.h"
+#include "session/firm_session.h"
+#include "session/transport.h"
 
 #include <algorithm>
 #include <chrono>
@@ -73,7 +73,7 @@ bool FirmSession::flush(std::uint64_t connection, bool waits) {
         }
         send_what_may_leave(*to);
         if (to->unsent.empty() && to->is_over) {
-            to->line->finish(to->why);
+            to->transport->finish(to->why);
             return false;
         }
         const bool has_own = to->last_ticket > stored_ticket_;
@@ -103,7 +103,7 @@ FirmSession::Step FirmSession::step(std::uint64_t connection) {
     const SessionState &state = machine_.state();
     Visitor *const of = visitor(connection);
     if (!machine_.is_on() || state.line.connection != connection || of == nullptr ||
-        of->line->waiting() >= enough_bytes) {
+        of->transport->waiting() >= enough_bytes) {
         return Step::idle;
     }
     const Wanted wanted = machine_.wants();
@@ -135,7 +135,8 @@ FirmSession::Step FirmSession::hand(const Wanted &wanted) {
         machine_.hands(begin(), found.next, {}, 0, false);
     } else {
         const KeptMessage &kept = found.row->message;
-        machine_.hands(begin(), found.next, kept.frame, kept.first, kept.is_copy);
+        moment_ = std::max(begin(), kept.first);
+        machine_.hands(moment_, found.next, kept.frame, kept.first, kept.is_copy);
     }
     carry_out(nullptr);
     rows_.drop_before(wanted.number);

@@ -171,8 +171,8 @@ bool fix_sessions_tick(SessionState *, Bytes firm, std::size_t, Bytes venue, std
                        Bytes desk, std::size_t, Bytes date, std::size_t, std::uint32_t moment,
                        std::uint8_t *out, std::size_t, Told *);
 
-// An operator orders something: 0 open, 1 close, 2 suspend, 3 release, 4 reset, with so many
-// copies.
+// An operator orders something: 0 open, 1 close, 2 suspend, 3 resume, 4 release, 5 reset, with so
+// many copies.
 bool fix_sessions_ordered(SessionState *, Bytes firm, std::size_t, Bytes venue, std::size_t,
                           Bytes desk, std::size_t, Bytes date, std::size_t, std::uint32_t moment,
                           std::uint32_t kind, std::uint64_t copies, std::uint8_t *out, std::size_t,

@@ -1,4 +1,4 @@
-#include "kept_rows.h"
+#include "session/kept_rows.h"
 
 #include <algorithm>
 #include <limits>

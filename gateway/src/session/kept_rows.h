@@ -3,7 +3,7 @@
 #ifndef GATEWAY_SESSION_KEPT_ROWS_H
 #define GATEWAY_SESSION_KEPT_ROWS_H
 
-#include "engine.h"
+#include "session/session_event.h"
 
 #include <cstddef>
 #include <cstdint>

@@ -1,6 +1,6 @@
-#include "listening_port.h"
+#include "session/listening_port.h"
 
-#include "socket_address.h"
+#include "session/socket_address.h"
 
 #include <cerrno>
 #include <cstring>

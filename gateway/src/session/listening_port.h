@@ -2,8 +2,8 @@
 #ifndef GATEWAY_SESSION_LISTENING_PORT_H
 #define GATEWAY_SESSION_LISTENING_PORT_H
 
-#include "descriptor.h"
-#include "engine.h"
+#include "common/descriptor.h"
+#include "session/engine_settings.h"
 
 #include <cstdint>
 #include <string>

@@ -2,7 +2,7 @@
 #ifndef GATEWAY_SESSION_LOGON_RATE_H
 #define GATEWAY_SESSION_LOGON_RATE_H
 
-#include "rate.h"
+#include "common/rate.h"
 
 namespace gateway {
 

@@ -1,7 +1,7 @@
-#include "machine.h"
+#include "session/machine.h"
 
-#include "engine.h"
-#include "own_fields.h"
+#include "session/own_fields.h"
+#include "session/session_names.h"
 
 #include <stdexcept>
 #include <utility>

@@ -3,8 +3,8 @@
 #ifndef GATEWAY_SESSION_MACHINE_H
 #define GATEWAY_SESSION_MACHINE_H
 
-#include "fix_sessions.h"
-#include "session_numbers.h"
+#include "session/fix_sessions.h"
+#include "session/session_numbers.h"
 
 #include <array>
 #include <cstdint>
@@ -45,7 +45,7 @@ struct LogonQuestion {
     std::string password; // 554
 };
 
-enum class Order : std::uint32_t { open, close, suspend, release, reset };
+enum class Order : std::uint32_t { open, close, suspend, resume, release, reset };
 enum class Ending : std::uint32_t { stands, ends, parts };
 enum class Notice : std::uint32_t { none, credentials, refused, lost_store, rejected, dead };
 enum class Want : std::uint32_t { nothing, again, fresh, tick, logon };

@@ -25,6 +25,7 @@ constexpr const char *wrong_password = "wrong password";
 constexpr const char *wrong_certificate = "wrong certificate";
 constexpr const char *wrong_address = "wrong address";
 constexpr const char *no_longer = "credentials have ended";
+constexpr const char *not_certified = "no admitted report";
 // While its password was judged, or while it waited for the firm's old connection to end.
 constexpr const char *read_again = "credentials were read again";
 constexpr const char *second_connection = "second connection";
@@ -40,7 +41,8 @@ constexpr const char *begin = "numbers begin at 1: log on with 141=Y";
 constexpr const char *over = "session over";         // it has no number left
 constexpr const char *closed = "closed";             // the venue
 constexpr const char *suspended = "suspended";       // by an operator
-constexpr const char *lost_store = "lost its store"; // until an operator releases the session
+constexpr const char *lost_store = "lost its store"; // its engine: the session is locked by it
+constexpr const char *locked = "locked";             // until an operator releases the session
 } // namespace refusal_words
 
 } // namespace gateway

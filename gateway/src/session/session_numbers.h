@@ -1,6 +1,6 @@
 // What is kept of a session: its numbers, and what operators said.
-#ifndef GATEWAY_SESSION_NUMBERS_H
-#define GATEWAY_SESSION_NUMBERS_H
+#ifndef GATEWAY_SESSION_SESSION_NUMBERS_H
+#define GATEWAY_SESSION_SESSION_NUMBERS_H
 
 #include <cstdint>
 

@@ -1,6 +1,7 @@
-#include "sessions.h"
+#include "session/sessions.h"
 
-#include "firm_session.h"
+#include "session/firm_session.h"
+#include "session/session_names.h"
 
 #include <algorithm>
 #include <stdexcept>
@@ -22,10 +23,6 @@ std::size_t judged_at_once() {
 }
 
 } // namespace
-
-std::string session_name(const std::string &venue, const std::string &firm) {
-    return venue.empty() ? firm : venue + "/" + firm;
-}
 
 Sessions::Sessions(const std::vector<SessionStart> &starts, EngineEvents &events)
     : events_(events), turns_(judged_at_once()), handshakes_(judged_at_once()) {

@@ -2,8 +2,9 @@
 #ifndef GATEWAY_SESSION_SESSIONS_H
 #define GATEWAY_SESSION_SESSIONS_H
 
-#include "engine.h"
-#include "turns.h"
+#include "session/engine_events.h"
+#include "session/session_start.h"
+#include "session/turns.h"
 
 #include <atomic>
 #include <cstdint>

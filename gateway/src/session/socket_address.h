@@ -2,7 +2,7 @@
 #ifndef GATEWAY_SESSION_SOCKET_ADDRESS_H
 #define GATEWAY_SESSION_SOCKET_ADDRESS_H
 
-#include "engine.h"
+#include "session/engine_settings.h"
 
 #include <stdexcept>
 #include <string>

@@ -1,4 +1,4 @@
-#include "strangers.h"
+#include "session/strangers.h"
 
 namespace gateway {
 

@@ -1,18 +1,18 @@
 // A connection as the door and its session see it: where their bytes go, and who is at the other
 // end.
-#ifndef GATEWAY_SESSION_LINE_H
-#define GATEWAY_SESSION_LINE_H
+#ifndef GATEWAY_SESSION_TRANSPORT_H
+#define GATEWAY_SESSION_TRANSPORT_H
 
-#include "engine.h"
+#include "session/connection_facts.h"
 
 #include <string>
 #include <string_view>
 
 namespace gateway {
 
-class Line {
+class Transport {
   public:
-    virtual ~Line() = default;
+    virtual ~Transport() = default;
 
     // Leaves bytes to be written; waits for nothing. False where the connection has ended or ends
     // by it. Any thread may call it.

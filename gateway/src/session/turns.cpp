@@ -1,4 +1,4 @@
-#include "turns.h"
+#include "session/turns.h"
 
 namespace gateway {
 

@@ -1,6 +1,6 @@
-#include "wire.h"
+#include "session/wire.h"
 
-#include "fix_sessions.h"
+#include "session/fix_sessions.h"
 
 #include <array>
 #include <stdexcept>

@@ -1,8 +1,8 @@
 // By Landlock (files, signals) and seccomp (calls of the system), which this process asks for
 // itself: no privilege is needed.
-#include "confinement.h"
+#include "venue/confinement.h"
 
-#include "descriptor.h"
+#include "common/descriptor.h"
 
 #include <array>
 #include <cerrno>

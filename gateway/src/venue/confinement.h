@@ -1,6 +1,6 @@
 // What the venue's process is left: its program, and three pipes.
-#ifndef GATEWAY_CONFINEMENT_H
-#define GATEWAY_CONFINEMENT_H
+#ifndef GATEWAY_VENUE_CONFINEMENT_H
+#define GATEWAY_VENUE_CONFINEMENT_H
 
 #include <string>
 #include <string_view>

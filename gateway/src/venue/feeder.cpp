@@ -1,4 +1,4 @@
-#include "feeder.h"
+#include "venue/feeder.h"
 
 #include <stdexcept>
 #include <utility>
@@ -15,7 +15,7 @@ constexpr std::uint32_t chunk = 256;
 } // namespace
 
 Feeder::Feeder(Process &process, const Log &log, std::string head, Feeding feeding)
-    : process_(process), database_(log.database), committed_(log.committed), head_(std::move(head)),
+    : process_(process), database_(log.database), entry_feed_(log.feed), head_(std::move(head)),
       feeding_(std::move(feeding)), before_(log.first_hash),
       thread_([this](const std::stop_token &stop) { run(stop); }) {}
 
@@ -29,17 +29,17 @@ std::string Feeder::end() {
 
 void Feeder::run(const std::stop_token &stop) {
     try {
-        committed_.tell(this);
+        entry_feed_.tell(this);
         feed(stop);
     } catch (const std::exception &fault) {
         fault_ = fault.what();
     }
-    committed_.tell(nullptr);
+    entry_feed_.tell(nullptr);
     process_.close_input();
 }
 
 void Feeder::feed(const std::stop_token &stop) {
-    PatientReader reader(database_, stop);
+    ReconnectingReader reader(database_, stop);
     bool takes = process_.write(head_);
     while (takes && wait_for_entries(stop)) {
         const std::string lines =
@@ -51,18 +51,18 @@ void Feeder::feed(const std::stop_token &stop) {
 bool Feeder::wait_for_entries(const std::stop_token &stop) {
     std::unique_lock lock(mutex_);
     const auto has_some = [this] {
-        return !unwritten_.empty() || committed_.last_place() >= next_;
+        return !unwritten_.empty() || entry_feed_.last_place() >= next_;
     };
     waits_ = true;
-    changed_.wait(lock, stop, [&] { return has_some() || committed_.is_closed(); });
+    changed_.wait(lock, stop, [&] { return has_some() || entry_feed_.is_closed(); });
     waits_ = false;
     // A line that was begun is written to its end.
     return stop.stop_requested() ? !unwritten_.empty() : has_some();
 }
 
-std::vector<LoggedEntry> Feeder::next_entries(PatientReader &reader) {
+std::vector<LoggedEntry> Feeder::next_entries(ReconnectingReader &reader) {
     std::vector<LoggedEntry> entries;
-    if (auto recent = committed_.from(next_)) {
+    if (auto recent = entry_feed_.from(next_)) {
         entries = std::move(*recent);
     } else {
         for (Entry &entry :

@@ -1,11 +1,11 @@
 // Feeds the log to one process of the venue.
-#ifndef GATEWAY_FEEDER_H
-#define GATEWAY_FEEDER_H
+#ifndef GATEWAY_VENUE_FEEDER_H
+#define GATEWAY_VENUE_FEEDER_H
 
-#include "committed.h"
-#include "database.h"
-#include "patient_reader.h"
-#include "process.h"
+#include "base/process.h"
+#include "log/database.h"
+#include "log/entry_feed.h"
+#include "log/reconnecting_reader.h"
 
 #include <condition_variable>
 #include <functional>
@@ -19,11 +19,11 @@ namespace gateway {
 // From its beginning on. What was committed before, and what the pipe does not take at once, is
 // written by a thread of its own. While that one has nothing to do, the thread that commits an
 // entry writes it itself: so an entry that comes alone waits for no other thread.
-class Feeder final : private Committed::Reader {
+class Feeder final : private EntryFeed::Reader {
   public:
     struct Log {
         Database &database;
-        Committed &committed;
+        EntryFeed &feed;
         Digest first_hash{}; // of place 0
     };
     // Told of entries before they are written.
@@ -46,21 +46,21 @@ class Feeder final : private Committed::Reader {
     void feed(const std::stop_token &stop);
     // False where nothing is to be fed any more.
     bool wait_for_entries(const std::stop_token &stop);
-    std::vector<LoggedEntry> next_entries(PatientReader &reader);
+    std::vector<LoggedEntry> next_entries(ReconnectingReader &reader);
     // The lines of the entries, which are fed from now on.
     std::string lines_of(const std::vector<LoggedEntry> &entries);
 
-    // Committed::Reader
+    // EntryFeed::Reader
     void entries_came(const std::vector<LoggedEntry> &entries) override;
     void no_more_come() override;
 
     Process &process_;
     Database &database_;
-    Committed &committed_;
+    EntryFeed &entry_feed_;
     const std::string head_;
     const Feeding feeding_;
 
-    // Taken under that by which Committed tells its reader. Committed's other one, and those of
+    // Taken under that by which EntryFeed tells its reader. EntryFeed's other one, and those of
     // whoever is told of entries, are taken under it.
     std::mutex mutex_;
     std::condition_variable_any changed_;

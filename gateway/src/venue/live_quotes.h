@@ -1,8 +1,7 @@
-// The quotes of dealers that live now, and the entry of each.
-#ifndef GATEWAY_LIVE_QUOTES_H
-#define GATEWAY_LIVE_QUOTES_H
+// The quotes of dealers that live now, and who sent each.
+#ifndef GATEWAY_VENUE_LIVE_QUOTES_H
+#define GATEWAY_VENUE_LIVE_QUOTES_H
 
-#include <cstdint>
 #include <map>
 #include <mutex>
 #include <string>
@@ -17,13 +16,13 @@ namespace gateway {
 class LiveQuotes {
   public:
     struct Live {
-        std::string quote;       // its name (117)
-        std::string request;     // the dealer's name of what it is on (131)
-        std::uint32_t place = 0; // of the entry that is the quote
+        std::string quote;   // its name (117)
+        std::string request; // the dealer's name of what it is on (131)
+        std::string trader;  // who sent it (50)
     };
 
-    // A message of the venue to a firm, as it gave it for this entry; one thread.
-    void was_given(std::uint32_t place, const std::string &firm, std::string_view frame);
+    // A message of the venue to a firm, as it gave it for the entry of this line; one thread.
+    void was_given(std::string_view line, const std::string &firm, std::string_view frame);
     // Those of a dealer, in the order of their entries; of any thread.
     std::vector<Live> of(const std::string &firm) const;
 

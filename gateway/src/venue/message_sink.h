@@ -1,27 +1,24 @@
 // Where the messages go that a venue gives.
-#ifndef GATEWAY_OUTLET_H
-#define GATEWAY_OUTLET_H
+#ifndef GATEWAY_VENUE_MESSAGE_SINK_H
+#define GATEWAY_VENUE_MESSAGE_SINK_H
 
-#include "engine.h"
+#include "session/session_event.h"
 
 #include <cstdint>
 
 namespace gateway {
 
 // Called by the thread that reads the venue.
-class Outlet {
+class MessageSink {
   public:
-    virtual ~Outlet() = default;
+    virtual ~MessageSink() = default;
 
-    // The next message of a firm.
+    // The next message of a firm: each once, however often the venue's process is started.
     virtual void take(Delivery delivery) = 0;
     // All that the venue has said so far was given.
     virtual void pauses() = 0;
     // All messages for the entries up to this place were given.
     virtual void answered(std::uint32_t place) = 0;
-    // A process of the venue begins, and gives all from the beginning on. What this has of them
-    // that the log has not by its return is given here once more.
-    virtual void begins_again() = 0;
 };
 
 } // namespace gateway

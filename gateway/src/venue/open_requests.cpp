@@ -1,6 +1,6 @@
-#include "open_requests.h"
+#include "venue/open_requests.h"
 
-#include "frame.h"
+#include "common/frame.h"
 
 namespace gateway {
 

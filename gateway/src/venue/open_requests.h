@@ -1,6 +1,6 @@
 // The requests that are open now, for who looks after the venue.
-#ifndef GATEWAY_OPEN_REQUESTS_H
-#define GATEWAY_OPEN_REQUESTS_H
+#ifndef GATEWAY_VENUE_OPEN_REQUESTS_H
+#define GATEWAY_VENUE_OPEN_REQUESTS_H
 
 #include <map>
 #include <mutex>

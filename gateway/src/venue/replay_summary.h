@@ -1,14 +1,14 @@
 // What a start takes from the entries that it has fed to the venue.
-#ifndef GATEWAY_FED_ENTRIES_H
-#define GATEWAY_FED_ENTRIES_H
+#ifndef GATEWAY_VENUE_REPLAY_SUMMARY_H
+#define GATEWAY_VENUE_REPLAY_SUMMARY_H
 
-#include "database.h"
-#include "records.h"
+#include "log/notes.h"
+#include "log/records.h"
 
 #include <cstdint>
 #include <map>
-#include <optional>
 #include <string>
+#include <utility>
 #include <vector>
 
 namespace gateway {
@@ -16,35 +16,39 @@ namespace gateway {
 // Nothing of entries is asked of the database a second time, when somebody who writes there could
 // have changed it: what firms have there, and what operators did, is of the entries that were fed,
 // up to one whose hash a seal covers.
-class FedEntries {
+class ReplaySummary {
   public:
     // In order, from place 1 on.
     void add(const Entry &entry);
+    // The last one; 0 for none.
+    std::uint32_t last_place() const { return last_place_; }
     // Whether this is the last one. There is none behind place 0.
     bool ends_with(const Entry &last) const;
-    // The lines of all notes (notes.h), in order.
-    const std::vector<std::string> &notes() const { return notes_; }
-    // Puts what firms have there into their states. A session's row says from where on its numbers
-    // count, and nobody has sealed it: throws std::runtime_error that names the firm where no act
-    // of an operator is what it begins with, or a number before it was used again.
-    void count_in(std::map<std::string, FirmState> &states) const;
+    // The lines of all notes (notes.h), each with its place, in order.
+    using Note = std::pair<std::uint32_t, std::string>;
+    const std::vector<Note> &notes() const { return notes_; }
 
-  private:
+    // The messages of a firm.
     struct Came {
         std::uint32_t entries = 0;
-        std::uint64_t bytes = 0;
+        std::uint64_t bytes = 0;       // of their lines
         std::uint32_t last_place = 0;  // of one with a number of the session,
         std::uint32_t last_number = 0; // and that
-        std::uint32_t fell_at = 0;     // the last place whose number is not behind the one before
+        std::uint32_t fell_at = 0;     // the last place whose number is not behind the one before,
+        std::uint32_t fell_behind = 0; // and the place of that one
     };
+    // By firm; no more of those that have none.
+    const std::map<std::string, Came> &came() const { return came_; }
+    // What operators have ordered of a firm's session, in order, each with its place.
+    std::vector<FirmOrdered> orders_of(const std::string &firm) const;
 
+  private:
     void add_message(const std::string &firm, const Entry &entry);
     void add_note(const Entry &entry);
-    void check_epoch(const std::string &firm, const SessionRow &session) const;
 
     std::map<std::string, Came> came_;
-    std::map<std::string, std::vector<std::uint32_t>> resets_; // places of the acts
-    std::vector<std::string> notes_;
+    std::map<std::string, std::vector<FirmOrdered>> orders_;
+    std::vector<Note> notes_;
     std::uint32_t last_place_ = 0;
     Digest last_hash_{};
 };

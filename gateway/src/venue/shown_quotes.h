@@ -1,8 +1,8 @@
 // Which bond each quote is of that an investor was shown.
-#ifndef GATEWAY_SHOWN_QUOTES_H
-#define GATEWAY_SHOWN_QUOTES_H
+#ifndef GATEWAY_VENUE_SHOWN_QUOTES_H
+#define GATEWAY_VENUE_SHOWN_QUOTES_H
 
-#include "frame.h"
+#include "common/frame.h"
 
 #include <map>
 #include <mutex>

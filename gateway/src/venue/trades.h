@@ -1,6 +1,6 @@
 // The trades of a venue's day, by their names.
-#ifndef GATEWAY_TRADES_H
-#define GATEWAY_TRADES_H
+#ifndef GATEWAY_VENUE_TRADES_H
+#define GATEWAY_VENUE_TRADES_H
 
 #include <mutex>
 #include <set>

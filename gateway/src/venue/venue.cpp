@@ -1,7 +1,7 @@
-#include "venue.h"
+#include "venue/venue.h"
 
-#include "confinement.h"
-#include "frame.h"
+#include "common/frame.h"
+#include "venue/confinement.h"
 
 #include <algorithm>
 #include <stdexcept>
@@ -33,9 +33,9 @@ std::string_view take_word(std::string_view &text) {
 
 } // namespace
 
-Venue::Venue(Settings settings, Database &database, Committed &committed, const Digest &first_hash,
+Venue::Venue(Settings settings, Database &database, EntryFeed &feed, const Digest &first_hash,
              VenueListener &listener, Metrics &metrics, std::shared_ptr<spdlog::logger> events)
-    : settings_(std::move(settings)), log_{database, committed, first_hash}, listener_(listener),
+    : settings_(std::move(settings)), log_{database, feed, first_hash}, listener_(listener),
       metrics_(metrics), events_(std::move(events)),
       // The configuration, `%%`, and the line `#` whose mark says that the configuration was read.
       lines_before_(static_cast<std::size_t>(std::count(settings_.configuration.begin(),
@@ -109,7 +109,7 @@ std::string Venue::run_once(std::stop_token stop) {
     {
         const std::lock_guard lock(mutex_);
         fed_.clear();
-        all_fed_ = {};
+        replay_summary_ = {};
         last_words_.clear();
     }
     answered_lines_ = 0;
@@ -172,14 +172,19 @@ std::exception_ptr Venue::read_all(Process &process) {
 void Venue::note_fed(const std::vector<LoggedEntry> &entries) {
     const std::lock_guard lock(mutex_);
     for (const LoggedEntry &logged : entries) {
-        fed_.push_back({logged.entry.place, logged.entry.number.value_or(0), logged.received});
-        all_fed_.add(logged.entry);
+        fed_.push_back({{logged.entry.place,
+                         logged.entry.number.value_or(0),
+                         moment_of(logged.entry.moment).value_or(Moment{}),
+                         {}},
+                        logged.entry.line,
+                        logged.received});
+        replay_summary_.add(logged.entry);
     }
 }
 
-FedEntries Venue::fed() {
+ReplaySummary Venue::replay_summary() {
     const std::lock_guard lock(mutex_);
-    return all_fed_;
+    return replay_summary_;
 }
 
 void Venue::read(Process &process) {
@@ -241,18 +246,20 @@ void Venue::give_last() {
     }
     Given given = std::move(*last_given_);
     last_given_.reset();
-    Fed entry;
+    AnsweredEntry entry;
     {
         const std::lock_guard lock(mutex_);
         if (answered_lines_ >= lines_before_ && !fed_.empty()) {
-            entry = fed_.front();
+            entry = fed_.front().entry;
+            // It is this thread that takes it out.
+            entry.line = fed_.front().line;
         }
     }
     if (entry.place == 0) {
         throw std::runtime_error(
             fmt::format("the venue gave {} a message for no entry: {}", given.firm, given.frame));
     }
-    listener_.venue_gave(entry.place, entry.number, std::move(given.firm), std::move(given.frame),
+    listener_.venue_gave(entry, std::move(given.firm), std::move(given.frame),
                          std::move(given.note));
 }
 
@@ -282,7 +289,7 @@ void Venue::take_mark(std::string_view line) {
             fmt::format("the venue gave the mark `{}`{}", line, entry ? "" : " for no entry"));
     }
     metrics_.answered(std::chrono::steady_clock::now() - entry->received);
-    listener_.venue_answered(entry->place, deadline);
+    listener_.venue_answered(entry->entry.place, deadline);
 }
 
 std::optional<Venue::Fed> Venue::take_fed() {

@@ -1,15 +1,15 @@
 // The venue's process: fed with the log, read, and started again where it ends.
-#ifndef GATEWAY_VENUE_H
-#define GATEWAY_VENUE_H
+#ifndef GATEWAY_VENUE_VENUE_H
+#define GATEWAY_VENUE_VENUE_H
 
-#include "committed.h"
-#include "database.h"
-#include "fed_entries.h"
-#include "feeder.h"
-#include "metrics.h"
-#include "moment.h"
-#include "process.h"
-#include "reasons.h"
+#include "base/process.h"
+#include "common/moment.h"
+#include "health/metrics.h"
+#include "log/database.h"
+#include "log/entry_feed.h"
+#include "log/reasons.h"
+#include "venue/feeder.h"
+#include "venue/replay_summary.h"
 
 #include <chrono>
 #include <condition_variable>
@@ -29,6 +29,14 @@
 
 namespace gateway {
 
+// The entry that a message of the venue answers.
+struct AnsweredEntry {
+    std::uint32_t place = 0;
+    std::uint32_t number = 0; // of the session, or 0
+    Moment moment;
+    std::string_view line; // as it was fed; as long as the listener is told
+};
+
 // What the venue says, told on the thread that reads it.
 class VenueListener {
   public:
@@ -37,10 +45,9 @@ class VenueListener {
     // The process was started; it is fed the log from its beginning. Returns when all that it said
     // before is in the log.
     virtual void venue_starts() = 0;
-    // A message for a firm, given for the entry of this place, and what is noted beside it. number
-    // is the entry's, that of the session, or 0. The frame has SOH.
-    virtual void venue_gave(std::uint32_t place, std::uint32_t number, std::string firm,
-                            std::string frame, std::optional<VenueNote> note) = 0;
+    // A message for a firm, and what is noted beside it. The frame has SOH.
+    virtual void venue_gave(const AnsweredEntry &entry, std::string firm, std::string frame,
+                            std::optional<VenueNote> note) = 0;
     // All messages for this entry were given. deadline is the earliest of a request, if there is
     // one. Place 0: the configuration was read.
     virtual void venue_answered(std::uint32_t place, std::optional<Moment> deadline) = 0;
@@ -60,7 +67,7 @@ class Venue {
         bool confined = false;     // without network, keys and database
     };
 
-    Venue(Settings settings, Database &database, Committed &committed, const Digest &first_hash,
+    Venue(Settings settings, Database &database, EntryFeed &feed, const Digest &first_hash,
           VenueListener &listener, Metrics &metrics, std::shared_ptr<spdlog::logger> events);
     // Ends the process.
     ~Venue();
@@ -74,7 +81,7 @@ class Venue {
     // Kills the process, and starts no other.
     void abandon();
     // What was fed to the process of now.
-    FedEntries fed();
+    ReplaySummary replay_summary();
 
   private:
     // The process that stop() may have to kill, for as long as it lives.
@@ -91,8 +98,8 @@ class Venue {
 
     // An entry that was fed and is not answered yet.
     struct Fed {
-        std::uint32_t place = 0;
-        std::uint32_t number = 0;
+        AnsweredEntry entry;
+        std::string line; // that it has
         std::chrono::steady_clock::time_point received;
     };
 
@@ -140,7 +147,7 @@ class Venue {
     std::optional<Given> last_given_;
 
     std::deque<std::chrono::steady_clock::time_point> starts_;
-    FedEntries all_fed_; // under the lock
+    ReplaySummary replay_summary_; // under the lock
     std::jthread thread_;
 };
 

@@ -1,6 +1,6 @@
-#include "venue_day.h"
+#include "venue/venue_day.h"
 
-#include "log_places.h"
+#include "config/log_location.h"
 
 #include <stdexcept>
 #include <utility>
@@ -30,8 +30,10 @@ VenueDay::VenueDay(const Config &given, Metrics &counted, Status &state,
                    std::optional<TradingDay> of)
     : config(given), hours(std::move(of)), metrics(counted), status(state),
       events(std::move(lines)), told(listener), clock(config.firms.date),
-      guard(sealer_of(config), config.checkpoints, events), database(open_database(config, clock)),
-      reserve(config.disk, config.reserve) {}
+      guard(sealer_of(config), config.checkpoints, events,
+            [this](std::string_view lines) { session_notes.put(lines); }),
+      database(open_database(config, clock)), reserve(config.disk, config.reserve),
+      spool(config.spool, config.firms.names), session_notes(config.spool) {}
 
 VenueDay::~VenueDay() {
     if (has_term) {
@@ -52,11 +54,13 @@ void VenueDay::tell_if_clock_was_set() {
     if (steps_.size() < most_steps) {
         steps_.push_back(*step);
     }
-    if (std::chrono::abs(*step) > longest_step) {
+    // Steps that no operator has accepted add up.
+    const std::chrono::microseconds set_by = *step + std::chrono::microseconds(clock_set_by);
+    if (std::chrono::abs(set_by) > longest_step) {
         clock_is_right = false;
         events->error("no request and no quote is taken{} until=\"an operator accepts the clock\" "
                       "cause=\"the clock was set by {:.3f} s\"",
-                      of_venue(), seconds);
+                      of_venue(), std::chrono::duration<double>(set_by).count());
     }
 }
 
@@ -64,7 +68,7 @@ void VenueDay::look_at_disk() {
     const bool is_reached = reserve.is_reached();
     const auto free = reserve.free_bytes();
     if (free) {
-        metrics.log_disk(config.venue, *free, is_reached);
+        metrics.log_disk(config.venue, *free, reserve.reserve(), is_reached);
     }
     if (is_reached == std::exchange(told_of_disk_, is_reached)) {
         return;
@@ -85,7 +89,7 @@ std::vector<std::chrono::microseconds> VenueDay::take_steps() {
 }
 
 void VenueDay::look_at_clock() {
-    status.pulse().put("the gateway" + of_venue());
+    status.liveness().put("the gateway" + of_venue());
     tell_if_clock_was_set();
     switch (clock.day()) {
     case DayClock::Day::goes_on:

@@ -1,23 +1,25 @@
 // A venue's day at the gateway: what whoever follows its log and whoever writes it share.
-#ifndef GATEWAY_VENUE_DAY_H
-#define GATEWAY_VENUE_DAY_H
+#ifndef GATEWAY_VENUE_VENUE_DAY_H
+#define GATEWAY_VENUE_VENUE_DAY_H
 
-#include "clock_watch.h"
-#include "config.h"
-#include "database.h"
-#include "day_end.h"
-#include "disk_reserve.h"
-#include "halts.h"
-#include "live_quotes.h"
-#include "log_guard.h"
-#include "metrics.h"
-#include "moment.h"
-#include "open_requests.h"
-#include "operator_events.h"
-#include "shown_quotes.h"
-#include "status.h"
-#include "trades.h"
-#include "trading_days.h"
+#include "common/moment.h"
+#include "config/config.h"
+#include "config/trading_days.h"
+#include "health/clock_watch.h"
+#include "health/disk_reserve.h"
+#include "health/metrics.h"
+#include "health/operator_events.h"
+#include "health/status.h"
+#include "log/database.h"
+#include "log/day_end.h"
+#include "log/log_guard.h"
+#include "log/note_queue.h"
+#include "log/spool.h"
+#include "venue/halts.h"
+#include "venue/live_quotes.h"
+#include "venue/open_requests.h"
+#include "venue/shown_quotes.h"
+#include "venue/trades.h"
 
 #include <atomic>
 #include <chrono>
@@ -30,7 +32,7 @@
 
 namespace gateway {
 
-// Outlives its Follower and its Speaker, and is outlived by what it is given.
+// Outlives its Follower and its Leader, and is outlived by what it is given.
 struct VenueDay {
     // Opens the log's database. hours is nothing where the day is one of UTC that stands alone.
     // Throws std::runtime_error where that can't be done, and where the day is another one than
@@ -73,10 +75,17 @@ struct VenueDay {
     const std::unique_ptr<Database> database;
     // Nobody else writes the log: this gateway speaks, or is about to.
     std::atomic<bool> has_term{false};
-    // False once the clock was set by more than two seconds: no request and no quote is taken until
-    // an operator says that it is right, also where the gateway is started again.
+    // False once the clock was set by more than two seconds, at once or in several steps: no
+    // request and no quote is taken until an operator says that it is right, also where the gateway
+    // is started again.
     std::atomic<bool> clock_is_right{true};
+    // By how much the clock was set since then, in microseconds, as the log has it.
+    std::atomic<std::chrono::microseconds::rep> clock_set_by{0};
     const DiskReserve reserve;
+    // What sessions may have to send again.
+    Spool spool;
+    // What the guard has verified, and no session was recovered by yet.
+    NoteQueue session_notes;
 
   private:
     void tell_if_clock_was_set();

@@ -1,8 +1,8 @@
-#include "answers.h"
+#include "venue/venue_progress.h"
 
 namespace gateway {
 
-void Answers::begin(std::uint32_t last_place) {
+void VenueProgress::begin(std::uint32_t last_place) {
     const std::lock_guard lock(mutex_);
     heeded_from_ = last_place;
     answered_.reset();
@@ -10,7 +10,7 @@ void Answers::begin(std::uint32_t last_place) {
     deadlines_.notify_all();
 }
 
-void Answers::put(std::uint32_t place, std::optional<Moment> deadline) {
+void VenueProgress::put(std::uint32_t place, std::optional<Moment> deadline) {
     const std::lock_guard lock(mutex_);
     const auto before = deadline_here();
     answered_ = place;
@@ -22,42 +22,43 @@ void Answers::put(std::uint32_t place, std::optional<Moment> deadline) {
     }
 }
 
-std::optional<std::uint32_t> Answers::last_place() {
+std::optional<std::uint32_t> VenueProgress::last_place() {
     const std::lock_guard lock(mutex_);
     return answered_;
 }
 
-bool Answers::wait(std::uint32_t place, const std::stop_token &stop) {
+bool VenueProgress::wait(std::uint32_t place, const std::stop_token &stop) {
     std::unique_lock lock(mutex_);
     return answers_.wait(lock, stop, [&] { return has_answered(place); });
 }
 
-bool Answers::wait(std::uint32_t place, std::chrono::milliseconds longest,
-                   const std::stop_token &stop) {
+bool VenueProgress::wait(std::uint32_t place, std::chrono::milliseconds longest,
+                         const std::stop_token &stop) {
     std::unique_lock lock(mutex_);
     return answers_.wait_for(lock, stop, longest, [&] { return has_answered(place); });
 }
 
-std::optional<Answers::Deadline> Answers::deadline_here() const {
+std::optional<VenueProgress::Deadline> VenueProgress::deadline_here() const {
     if (!deadline_ || !has_answered(heeded_from_)) {
         return std::nullopt;
     }
     return Deadline{*deadline_, *answered_};
 }
 
-std::optional<Answers::Deadline> Answers::deadline() {
+std::optional<VenueProgress::Deadline> VenueProgress::deadline() {
     const std::lock_guard lock(mutex_);
     return deadline_here();
 }
 
-std::optional<Answers::Deadline> Answers::wait_for_deadline(const std::stop_token &stop) {
+std::optional<VenueProgress::Deadline>
+VenueProgress::wait_for_deadline(const std::stop_token &stop) {
     std::unique_lock lock(mutex_);
     deadlines_.wait(lock, stop, [&] { return deadline_here().has_value(); });
     return stop.stop_requested() ? std::nullopt : deadline_here();
 }
 
-void Answers::wait_for_other(Moment known, std::chrono::milliseconds longest,
-                             const std::stop_token &stop) {
+void VenueProgress::wait_for_other(Moment known, std::chrono::milliseconds longest,
+                                   const std::stop_token &stop) {
     std::unique_lock lock(mutex_);
     deadlines_.wait_for(lock, stop, longest, [&] {
         const auto now = deadline_here();

@@ -1,8 +1,8 @@
 // How far the venue's process is.
-#ifndef GATEWAY_ANSWERS_H
-#define GATEWAY_ANSWERS_H
+#ifndef GATEWAY_VENUE_VENUE_PROGRESS_H
+#define GATEWAY_VENUE_VENUE_PROGRESS_H
 
-#include "moment.h"
+#include "common/moment.h"
 
 #include <chrono>
 #include <condition_variable>
@@ -15,7 +15,7 @@ namespace gateway {
 
 // The last place that the venue's process has answered, and the earliest deadline that it told with
 // it. Any thread may call.
-class Answers {
+class VenueProgress {
   public:
     struct Deadline {
         Moment moment;

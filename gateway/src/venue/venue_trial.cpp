@@ -1,9 +1,9 @@
-#include "venue_trial.h"
+#include "venue/venue_trial.h"
 
-#include "confinement.h"
-#include "printable.h"
-#include "process.h"
-#include "reasons.h"
+#include "base/printable.h"
+#include "base/process.h"
+#include "log/reasons.h"
+#include "venue/confinement.h"
 
 #include <chrono>
 #include <stdexcept>
@@ -29,10 +29,12 @@ struct Trial {
 constexpr std::string_view done = "ended with status 0";
 constexpr std::string_view wrong_arguments = "ended with status 2";
 
-std::string read_to_end(std::string (Process::*read)(), Process &process) {
+std::string read_to_end(std::string (Process::*read)(Process::Time), Process &process,
+                        Process::Time latest) {
     constexpr std::size_t longest = no_landlock.size() + longest_line;
     std::string text;
-    for (std::string bytes = (process.*read)(); !bytes.empty(); bytes = (process.*read)()) {
+    for (std::string bytes = (process.*read)(latest); !bytes.empty();
+         bytes = (process.*read)(latest)) {
         text += bytes.substr(0, longest - text.size());
     }
     return text;
@@ -48,12 +50,13 @@ std::string first_line_of(std::string_view told) {
 
 Trial run_with(const Config &config, bool notes) {
     Process process(words_of_start(with_notes(config.command, notes), config.confined));
-    const std::jthread limit([&process] { process.end_within(longest_trial); });
+    const std::jthread limit([&process] { process.end_all_within(longest_trial); });
+    const auto latest = std::chrono::steady_clock::now() + longest_trial;
     process.write(config.configuration + "%%\n");
     process.close_input();
-    read_to_end(&Process::read_output, process);
+    read_to_end(&Process::read_output, process, latest);
     Trial trial;
-    trial.told = first_line_of(read_to_end(&Process::read_errors, process));
+    trial.told = first_line_of(read_to_end(&Process::read_errors, process, latest));
     trial.end = process.wait();
     return trial;
 }

@@ -1,8 +1,8 @@
 // The venue's program is asked whether it takes a configuration, before a day begins with it.
-#ifndef GATEWAY_VENUE_TRIAL_H
-#define GATEWAY_VENUE_TRIAL_H
+#ifndef GATEWAY_VENUE_VENUE_TRIAL_H
+#define GATEWAY_VENUE_VENUE_TRIAL_H
 
-#include "config.h"
+#include "config/config.h"
 
 namespace gateway {
 

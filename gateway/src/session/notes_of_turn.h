@@ -1,0 +1,20 @@
+// The session notes of one turn.
+#ifndef GATEWAY_SESSION_NOTES_OF_TURN_H
+#define GATEWAY_SESSION_NOTES_OF_TURN_H
+
+#include "session/machine.h"
+#include "session/session_note.h"
+
+#include <cstdint>
+#include <vector>
+
+namespace gateway {
+
+// What the machine's last event, before it is adopted, has to have in the log: in the order of
+// docs/RECOVERY.md. Not of an event by which the venue gives something, nor of an operator's reset
+// or release: those have a note of their own.
+std::vector<SessionNote> notes_of_turn(const Machine &machine, std::uint32_t moment);
+
+} // namespace gateway
+
+#endif
