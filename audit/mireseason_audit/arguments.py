@@ -28,6 +28,9 @@ VENUE = (
 DICTIONARY = ROOT / "fix" / "MIRESEASON.xml"
 AT_ONCE = processors() + 1  # a process that waits for the disk leaves its processor
 ADDRESSES = ("postgres://", "postgresql://")
+DATE = re.compile(r"[0-9]{8}")
+VENUE_NAME = re.compile(r"-|[A-Za-z0-9_][A-Za-z0-9_-]{0,39}")
+DIGEST = re.compile(r"[0-9A-Fa-f]{64}")
 TIME = re.compile(r"[0-2][0-9]:[0-5][0-9]:[0-5][0-9](\.[0-9]{3})?")
 SEAL_HELP = "the seal (if it is not named LOG.seal; of a schema SCHEMA.seal in this folder)"
 LOG_HELP = "a file of SQLite; postgres:CONNECTION with --schema; or a day of `live` with --sent"
@@ -65,12 +68,45 @@ class Commands:
         parser.add_argument("--jobs", type=int, default=AT_ONCE, help=text)
         return parser
 
+    def add_alone(self, name: str, text: str) -> argparse.ArgumentParser:
+        """A command that is given no log."""
+        return self._parsers.add_parser(name, help=text, description=text)
 
-def with_seal(parser: argparse.ArgumentParser) -> None:
+
+def with_evidence(parser: argparse.ArgumentParser) -> None:
+    """What the log is held against beside the rules."""
     parser.add_argument("--key", type=Path, help="the public key of the seal, in PEM")
     parser.add_argument("--seal", type=Path, help=SEAL_HELP)
     text = "the public key of a gateway of the log, in PEM; once for each"
     parser.add_argument("--gateway-key", type=Path, action="append", default=[], help=text)
+    text = "a checkpoint that was kept outside of the log's database; once for each file"
+    parser.add_argument("--checkpoint", type=Path, action="append", default=[], help=text)
+    parser.add_argument("--date", type=date_of, help="the date that the log has to be of: YYYYMMDD")
+    text = "the name that its venue has to have; - for a gateway's only venue"
+    parser.add_argument("--venue-name", metavar="NAME", help=text)
+    text = "the SHA-256 that the day's program has to have"
+    parser.add_argument("--program-sha256", metavar="HEX", type=digits_of, help=text)
+
+
+def date_of(text: str) -> str:
+    """A date as the configuration has it."""
+    if not DATE.fullmatch(text):
+        raise argparse.ArgumentTypeError("%r is no date, such as 20261124" % text)
+    return text
+
+
+def venue_name_of(text: str) -> str:
+    """The name of a venue; - for a gateway's only one."""
+    if not VENUE_NAME.fullmatch(text):
+        raise argparse.ArgumentTypeError("%r is no name of a venue" % text)
+    return text
+
+
+def digits_of(text: str) -> str:
+    """A SHA-256 in hexadecimal digits."""
+    if not DIGEST.fullmatch(text):
+        raise argparse.ArgumentTypeError("%r is no SHA-256 of 64 hexadecimal digits" % text)
+    return text.lower()
 
 
 def with_moment(parser: argparse.ArgumentParser) -> None:

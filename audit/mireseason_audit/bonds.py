@@ -1,20 +1,23 @@
 """The bonds of a day, as its configuration has them.
 
-A row may have `currency` (three capital letters) and `quoted` ("32nds" or "decimals"), which the
-venue's program ignores. A bond without `quoted` is shown in decimals.
+A row may have `name`, `isin`, `currency` (three capital letters) and `quoted` ("32nds" or
+"decimals"), which the venue's program ignores. A bond without `quoted` is shown in decimals.
 """
 
 import re
 from collections.abc import Mapping
 from dataclasses import dataclass
 
+from bounded_toml import table_of
+
 from .faults import Wrong
+from .frame import printable
 from .records import Day
-from .toml_text import table_of
 
 BOND = re.compile(r"[A-Z0-9]{12}")
 CURRENCY = re.compile(r"[A-Z]{3}")
 WAYS = ("32nds", "decimals")
+LONGEST_NAME = 100
 
 
 @dataclass(frozen=True)
@@ -24,6 +27,13 @@ class Bond:
     id: str
     currency: str = ""  # empty where the row has none
     in_32nds: bool = False
+    name: str = ""
+    isin: str = ""
+
+    @property
+    def words(self) -> str:
+        """Its identifier, and its name where it has one."""
+        return "%s %s" % (self.id, self.name) if self.name else self.id
 
     @property
     def unit(self) -> str:
@@ -49,4 +59,8 @@ def bond_of(row: Mapping[str, object]) -> Bond:
     if quoted not in WAYS:
         text = 'entry 0: bond %s is quoted in %r: "32nds" or "decimals" is meant'
         raise Wrong(text % (name, quoted))
-    return Bond(name, currency, quoted == "32nds")
+    words, isin = row.get("name", ""), row.get("isin", "")
+    if not isinstance(words, str) or len(words) > LONGEST_NAME or not isinstance(isin, str):
+        text = "entry 0: bond %s has a name or an isin that is none"
+        raise Wrong(text % name)
+    return Bond(name, currency, quoted == "32nds", printable(words), isin)

@@ -1,15 +1,18 @@
 """Whether a firm's session carried what the venue gave for the firm, and nothing else of it."""
 
 import os
-from collections.abc import Iterator, Mapping
+from collections.abc import Iterable, Iterator, Mapping
+from dataclasses import replace
 from functools import partial
 from pathlib import Path
 from typing import IO
 
+from . import items
 from .findings import Finding
 from .kept import KeptReader
 from .log import Log
 from .records import Outgoing
+from .session_notes import misnoted_session, note_of
 from .wire import WireReader
 
 
@@ -33,7 +36,14 @@ def check_wire(
     if finding is not None:
         if notes is not None:
             notes.unlink()
-        yield finding
+        yield replace(finding, named_items=(items.SESSIONS,))
+
+
+def check_notes(log: Log, firm: str, lines: Iterable[bytes]) -> Iterator[Finding]:
+    """Holds a firm's session against its sealed notes, by their lines."""
+    notes = [note for line in lines if (note := note_of(line.rstrip(b"\n"))) is not None]
+    for finding in misnoted_session(firm, log.outgoing(firm), log.outgoing(firm), notes):
+        yield replace(finding, named_items=(items.SESSIONS,))
 
 
 def first_fault(reader: WireReader, rows: Iterator[Outgoing], file: IO[bytes]) -> Finding | None:

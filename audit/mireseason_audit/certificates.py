@@ -9,6 +9,7 @@ from collections.abc import Iterator
 from dataclasses import dataclass
 from pathlib import Path
 
+from . import items
 from .findings import Finding
 from .frame import barred, fields_of, text_of
 from .jobs import Files
@@ -86,7 +87,8 @@ class CertificateJob:
         self._write(sums, digest, messages_path, compared, before, after)
         if compared is None or (compared.row_equal and compared.holds):
             return []
-        return [Finding(name, "a second day beside this one: " + ", ".join(compared.lines))]
+        text = "a second day beside this one: " + ", ".join(compared.lines)
+        return [Finding(name, text, named_items=(items.ALONE,))]
 
     def _seen(self, lines: Iterator[bytes], request: Request) -> list[Seen]:
         """What is about one request of all that the venue gives the dealer on a day."""

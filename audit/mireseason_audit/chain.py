@@ -1,21 +1,26 @@
 """The order of the entries and their chain, and the day as a file that the venue reads."""
 
+import itertools
 import re
+from collections import Counter
 from collections.abc import Iterator
 from dataclasses import dataclass, field
 from hashlib import sha256
 from pathlib import Path
 
+from . import items
 from .door import DOOR, Door, DoorReader
 from .findings import Finding
 from .lines import firm_and_time
 from .log import Log
-from .notes import is_note
+from .identity import Speaker
+from .notes import is_note, speaker_of
 from .progress import Step
-from .records import Day, Entry
+from .records import Day, Entry, SealRow
 from .streams import FEED, Growing
 
 NO_HASH = bytes(32)
+SEALS = (items.SEALS,)  # what a finding belongs to
 MARK = 100  # entries from one hash of a seal to the next
 RESET = re.compile(rb"# act \S+ \S+ reset-session ([A-Z0-9]+)(?: |$)")  # the session of a firm
 NO_NUMBER = (0, 0)
@@ -51,6 +56,9 @@ class Chained:
     firms: set[str] = field(default_factory=set)  # that entries name
     numbers: Numbers = field(default_factory=dict)  # the greatest, and the last entry with one
     door: Door | None = None  # of a log that says who connected
+    terms: list[tuple[int, int]] = field(default_factory=list)  # the first entry of each, and it
+    speakers: list[Speaker] = field(default_factory=list)  # the gateways that their notes name
+    resets: Counter[str] = field(default_factory=Counter)  # of sessions, by operators
 
 
 class ChainReader:
@@ -76,6 +84,11 @@ class ChainReader:
         found.entries += 1
         self._before = entry
         found.last_place, found.last = entry.place, entry.hash
+        if not found.terms or found.terms[-1][1] != entry.term:
+            found.terms.append((entry.place, entry.term))
+        speaker = speaker_of(entry) if entry.firm is None else None
+        if speaker is not None:
+            found.speakers.append(speaker)
         if entry.firm is not None:
             found.firms.add(entry.firm)
         if entry.place % MARK == 0:
@@ -126,6 +139,7 @@ class ChainReader:
         found = RESET.match(entry.line)
         if found is not None:
             self.found.numbers.pop(found[1].decode(), None)
+            self.found.resets[found[1].decode()] += 1
 
     def _check_words(self, entry: Entry) -> None:
         """The firm and the time of a line against those of its row."""
@@ -164,8 +178,33 @@ def read_chain(log: Log, step: Step) -> Chained:
         found.firms |= found.door.firms
         found.findings += found.door.findings
     if log.has_seals:
+        found.findings += itertools.islice(misnumbered(log.seals(), log.has_notes), 1)
         found.findings += unsealed(found, *log.last_seal())
     return found
+
+
+def misnumbered(seals: Iterator[SealRow], has_notes: bool) -> Iterator[Finding]:
+    """Seals that are missing, of less than the one before, or of other session notes."""
+    before = SealRow(0, -1, 0, b"", NO_HASH)
+    for row in seals:
+        if row.number != before.number + 1:
+            text = "seal %d is missing: in its place comes %d"
+            words = text % (before.number + 1, row.number)
+            yield Finding("entries", words, row.place, named_items=SEALS)
+        elif row.place < before.place or row.event < before.event:
+            words = "seal %d is of less than the one before" % row.number
+            yield Finding("entries", words, row.place, named_items=SEALS)
+        elif has_notes and row.hash != notes_hash(before.hash, row.notes):
+            text = "the session notes of seal %d were changed: their hash is another than it says"
+            yield Finding("entries", text % row.number, row.place, named_items=SEALS)
+        before = row
+
+
+def notes_hash(before: bytes, notes: bytes) -> bytes:
+    """The running hash of session notes behind these (docs/RECOVERY.md)."""
+    for line in notes.split(FEED)[: notes.count(FEED)]:
+        before = sha256(b"%s %s\n" % (before.hex().encode(), line)).digest()
+    return before if notes.endswith(FEED) or not notes else b""
 
 
 def unsealed(found: Chained, place: int, event: int) -> Iterator[Finding]:
@@ -174,11 +213,11 @@ def unsealed(found: Chained, place: int, event: int) -> Iterator[Finding]:
     """
     if place != found.last_place:
         text = "it is not sealed: the last seal is of entry %d" % place
-        yield Finding("entries", text, found.last_place)
+        yield Finding("entries", text, found.last_place, named_items=SEALS)
     events = 0 if found.door is None else found.door.events
     if event != events:
         text = "row %d is not sealed: the last seal is of row %d" % (events, event)
-        yield Finding(DOOR, text)
+        yield Finding(DOOR, text, named_items=SEALS)
 
 
 def write_day(log: Log, day: Day, path: Path, step: Step) -> None:

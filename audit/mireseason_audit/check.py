@@ -4,68 +4,29 @@ All that can be done beside something else is a job, in a process of its own, an
 soon as what it needs is there.
 """
 
-from collections.abc import Iterable
-from dataclasses import dataclass, field
+from collections.abc import Iterable, Mapping
+from dataclasses import dataclass, replace
 from typing import Any
 
+from . import items
 from .came_on import with_connections
 from .chain import Chained, Numbers, read_chain, write_day
-from .door import DOOR
+from .checkpoints import check_numbers_of, today_in_utc
 from .faults import Unreadable
 from .findings import Finding
-from .frame import printable
+from .identity import Identity, speakers_of
 from .jobs import AloneJob, Audited, ChainJob, DayJob, DueJob, Files, GivenJob, LiveJob, SentJob
 from .log import Log, Source
 from .progress import Progress
-from .records import Day, Firm
+from .proved import proved_programs
+from .records import Day
 from .venue import Venue
+from .verdict import Verdict
 from .work import Plan, processors, run_jobs
 
 Result = Chained | list[Finding]  # of a job
-
-
-@dataclass
-class Verdict:
-    """What a check found."""
-
-    source: str
-    day: Day
-    has_chain: bool
-    last_place: int = -1  # of the entries, when the check began
-    last_numbers: dict[str, object] = field(default_factory=dict)  # of what firms were sent, then
-    program: str = ""  # what the venue's program says of itself
-    messages: dict[str, int] = field(default_factory=dict)  # of each firm, how many it was sent
-    addressed: set[str] = field(default_factory=set)  # firms to which any message went
-    targets: dict[str, int] = field(default_factory=dict)  # what the session of each expects next
-    chained: Chained = field(default_factory=Chained)
-    findings: list[Finding] = field(default_factory=list)
-    seal: str = ""  # what was found of the seal, where there is one
-    signed: str = ""  # and of the gateways' signatures, where a key of theirs is given
-
-    @property
-    def is_good(self) -> bool:
-        return not self.findings
-
-    def of(self, where: str) -> list[Finding]:
-        return [finding for finding in self.findings if finding.where == where]
-
-    @property
-    def first(self) -> Finding | None:
-        """The finding with the lowest place; of those without one, the first."""
-        placed = [finding for finding in self.findings if finding.place is not None]
-        listed = placed or self.findings
-        return min(listed, key=lambda finding: finding.place or 0) if listed else None
-
-    @property
-    def words(self) -> str:
-        """The verdict in one sentence."""
-        if self.is_good:
-            text = "each firm was sent what the rules give, byte for byte"
-            return text + (", and the record is whole" if self.has_chain else "")
-        first, count = self.first, len(self.findings)
-        where = first.place_words if first else ""
-        words = "%d thing%s not as it should be" % (count, " is" if count == 1 else "s are")
-        return words + (", the first at %s" % where if where else "")
+TABLES = "tables"  # where a finding is
+SESSIONS = (items.SESSIONS,)  # what a finding belongs to
 
 
 @dataclass(frozen=True)
@@ -128,15 +89,20 @@ class Checker:
         with self.source.open() as log:
             day = log.day()
             last, numbers = log.last_place(), last_numbers_of(log, day)
-            return Verdict(self.source.name, day, log.has_chain, last, numbers)
+            identity = Identity(day, proved_programs())
+            name, has_chain, has_seals = self.source.name, log.has_chain, log.has_seals
+            return Verdict(name, day, identity, has_chain, has_seals, last, numbers)
 
     def count(self, verdict: Verdict) -> None:
         """What is asked and counted beside the jobs."""
         with self.source.open() as log:
-            verdict.program = self.venue.version()
+            verdict.program, verdict.digest = self.venue.version(), self.venue.digest()
             verdict.messages = {firm.name: log.count_of(firm.name) for firm in verdict.day.firms}
             verdict.addressed = log.firms()
             verdict.targets = log.targets() if log.has_chain else {}
+            verdict.epochs = log.epochs() if log.has_chain else {}
+            verdict.beyond = tuple(log.beyond_form())
+            verdict.numbered = check_numbers_of(log, verdict.day.date, today_in_utc())
 
     def write_day(self, day: Day) -> None:
         """The file that the venue reads."""
@@ -173,19 +139,37 @@ def judged(verdict: Verdict, results: Iterable[Result]) -> Verdict:
             verdict.chained = result
         else:
             found += result
-    chained = verdict.chained
-    listed = chained.findings + stranger_findings(verdict)
+    chained, identity = verdict.chained, verdict.identity
+    identity.speakers = speakers_of(verdict.day, chained.terms, chained.speakers)
+    listed = chained.findings + stranger_findings(verdict) + beyond_findings(verdict)
+    if verdict.numbered is not None:
+        listed += verdict.numbered.findings
     if verdict.has_chain:
         listed += target_findings(verdict.targets, chained.numbers)
+        listed += epoch_findings(verdict.epochs, chained.resets)
     verdict.findings = once_each(listed + found)
     return verdict
 
 
 def stranger_findings(verdict: Verdict) -> list[Finding]:
     """Firms that rows name and the configuration does not."""
-    named = verdict.addressed | verdict.chained.firms
+    door = verdict.chained.door
+    named = {
+        items.ENTRIES: verdict.chained.firms,
+        items.DOOR: door.firms if door is not None else set(),
+        items.MESSAGES: verdict.addressed,
+        items.SESSIONS: verdict.targets.keys(),
+    }
     text = "the configuration has no such firm"
-    return [Finding(stranger, text) for stranger in sorted(named - set(verdict.messages))]
+    return [
+        Finding(stranger, text, named_items=tuple(at for at in named if stranger in named[at]))
+        for stranger in sorted(set().union(*named.values()) - set(verdict.messages))
+    ]
+
+
+def beyond_findings(verdict: Verdict) -> list[Finding]:
+    """What stands beside the tables of the log's form."""
+    return [Finding(TABLES, "no gateway makes this: %s" % each) for each in verdict.beyond]
 
 
 def target_findings(targets: dict[str, int], numbers: Numbers) -> list[Finding]:
@@ -194,71 +178,35 @@ def target_findings(targets: dict[str, int], numbers: Numbers) -> list[Finding]:
     for firm, (number, place) in sorted(numbers.items()):
         if targets.get(firm, 0) <= number:
             text = "its session expects number %s, and number %d came"
-            found.append(Finding(firm, text % (targets.get(firm, "none"), number), place))
+            words = text % (targets.get(firm, "none"), number)
+            found.append(Finding(firm, words, place, named_items=SESSIONS))
     return found
 
 
+def epoch_findings(epochs: dict[str, int], resets: Mapping[str, int]) -> list[Finding]:
+    """A session begins anew when an operator orders it: each act is an entry."""
+    text = "its session says %d reset%s, and the log has %d"
+    return [
+        Finding(
+            firm,
+            text % (epoch, "" if epoch == 1 else "s", resets.get(firm, 0)),
+            named_items=SESSIONS,
+        )
+        for firm, epoch in sorted(epochs.items())
+        if epoch > resets.get(firm, 0)
+    ]
+
+
 def once_each(findings: list[Finding]) -> list[Finding]:
-    """Of what several jobs found alike, the first; where another has the place, that."""
+    """Of what several jobs found alike, the first; where another has the place, that. It belongs
+    to whatever each of them belongs to.
+    """
     seen: dict[object, Finding] = {}
+    belongs: dict[object, dict[str, None]] = {}
     for finding in findings:
         about = (finding.number, finding.given, finding.found)
         key = finding if about == (None, None, None) else (finding.where, *about)
+        belongs.setdefault(key, {}).update(dict.fromkeys(finding.items))
         if key not in seen or (seen[key].place is None and finding.place is not None):
             seen[key] = finding
-    return list(seen.values())
-
-
-def report(verdict: Verdict) -> list[str]:
-    """The verdict as lines: the entries, the door, a line a firm, and one verdict."""
-    day = verdict.day
-    lines = [entries_line(verdict), *door_lines(verdict), venue_line(verdict)]
-    lines += [firm_line(verdict, firm) for firm in day.firms]
-    if verdict.signed:
-        lines.append("signed    %s" % verdict.signed)
-    if verdict.seal:
-        lines.append("seal      %s" % verdict.seal)
-    for finding in verdict.findings:
-        lines += finding.lines()
-    lines.append("verdict: " + verdict.words)
-    return lines
-
-
-def entries_line(verdict: Verdict) -> str:
-    count = verdict.chained.entries
-    if not verdict.has_chain:
-        return "entries   %d, without a chain" % count
-    if verdict.of("entries"):
-        return "entries   %d, NOT AS THEY SHOULD BE" % count
-    return "entries   %d, each follows on the one before: %s" % (count, verdict.chained.last.hex())
-
-
-def door_lines(verdict: Verdict) -> list[str]:
-    """Of a log that says who connected."""
-    door = verdict.chained.door
-    if door is None:
-        return []
-    text = "door      %d connections in %d rows, " % (door.connections, door.events)
-    if verdict.of(DOOR):
-        return [text + "NOT AS THEY SHOULD BE"]
-    return [text + "each follows on the one before: " + door.last.hex()]
-
-
-def venue_line(verdict: Verdict) -> str:
-    text, begun = verdict.program, verdict.day.version
-    if verdict.has_chain and begun != text:
-        text += "; entry 0 has %s" % begun
-    return "venue     " + printable(text)
-
-
-def firm_line(verdict: Verdict, firm: Firm) -> str:
-    count = verdict.messages.get(firm.name, 0)
-    text = "%-9s %-8s %6d messages: " % (firm.name, firm.kind, count)
-    if verdict.of(firm.name):
-        return text + "NOT AS THEY SHOULD BE"
-    words = "as replayed"
-    if firm.is_dealer:
-        words += ", as its list alone gives them"
-    if verdict.has_chain:
-        words += ", as its session carried them"
-    return text + words
+    return [replace(one, named_items=tuple(belongs[key])) for key, one in seen.items()]

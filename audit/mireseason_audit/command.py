@@ -4,15 +4,20 @@ import argparse
 from dataclasses import dataclass
 from pathlib import Path
 
-from .check import Checker, Verdict, report
+from .check import Checker
+from .evidence import Evidence
 from .faults import Unreadable
-from .findings import Finding
+from .identity import Asked
 from .jobs import Files
 from .log import Source
+from .outside import KeptCheckpoint, read_outside
 from .progress import Progress
-from .seal import KeptLog, Sealed, compared, read_seal, sealed
+from .report import report
+from .seal import Sealed, read_seal
 from .sqlite_log import SqliteSource
+from .tables import Form
 from .venue import Venue
+from .verdict import Verdict
 
 
 @dataclass(frozen=True)
@@ -31,9 +36,12 @@ class Work:
 
 
 def checked(work: Work) -> Verdict:
-    """The verdict, that of the seal too where a key is given."""
-    seal = seal_of(work)
-    return compared_with(work, seal, work.checker().check())
+    """The verdict, with all that the arguments name to hold the log against."""
+    evidence = evidence_of(work)
+    checker = work.checker()
+    verdict = evidence.judge(work.source, evidence.told_of(checker.check))
+    checker.check_end(verdict)  # the evidence, too, is of the log as it was when the check began
+    return verdict
 
 
 def is_good(verdict: Verdict) -> bool:
@@ -53,49 +61,45 @@ def seal_path(work: Work, named: Path | None) -> Path:
     return Path(source.name + ".seal")
 
 
-def seal_of(work: Work) -> Sealed | None:
-    """The seal that the arguments name; it is read first, since it may be none of the key."""
+def evidence_of(work: Work) -> Evidence:
+    """What the arguments name; it is read first, since it may be none."""
     words = work.words
-    is_part = getattr(words, "until", None) is not None or getattr(words, "at", None) is not None
-    if is_part and words.gateway_key:
-        text = "signatures are of the whole log: leave out --gateway-key, or --until and --at"
-        raise Unreadable(text)
+    check_whole(words)
+    asked = Asked(words.date, words.venue_name, words.program_sha256)
+    return Evidence(asked, tuple(words.gateway_key), kept_of(words), seal_of(work))
+
+
+def check_whole(words: argparse.Namespace) -> None:
+    """Unreadable where a part of a log is to be held against what is of the whole."""
+    if getattr(words, "until", None) is None and getattr(words, "at", None) is None:
+        return
+    whole = {
+        "--gateway-key": words.gateway_key,
+        "--checkpoint": words.checkpoint,
+        "--key": words.key,
+    }
+    for option, value in whole.items():
+        if value:
+            text = "signatures, checkpoints and seals are of the whole log: leave out %s, or"
+            raise Unreadable((text + " --until and --at") % option)
+
+
+def kept_of(words: argparse.Namespace) -> tuple[KeptCheckpoint, ...] | None:
+    """The checkpoints of the named files; None where none is named."""
+    if not words.checkpoint:
+        return None
+    return tuple(one for path in words.checkpoint for one in read_outside(path))
+
+
+def seal_of(work: Work) -> Sealed | None:
+    """The seal, where a key is named."""
+    words = work.words
     if words.key is None and words.seal is not None:
         raise Unreadable("a seal says nothing without --key, the public key that signed it")
-    if words.key is None:
-        return None
-    if is_part:
-        raise Unreadable("a seal is of the whole log: leave out --key, or --until and --at")
-    return read_seal(seal_path(work, words.seal), words.key)
+    return None if words.key is None else read_seal(seal_path(work, words.seal), words.key)
 
 
-def compared_with(work: Work, seal: Sealed | None, verdict: Verdict) -> Verdict:
-    """The verdict with what the gateways' signatures and the seal say."""
-    if work.words.gateway_key:
-        signed_with(work, verdict)
-    if seal is not None:
-        with work.source.open() as log:
-            now = sealed(log, verdict.day, verdict.chained)
-            found = list(compared(seal, now, KeptLog(log)))
-        verdict.findings += found
-        verdict.seal = seal_words(verdict, found)
-    return verdict
-
-
-def signed_with(work: Work, verdict: Verdict) -> None:
-    """Puts what the gateways have signed into the verdict."""
-    from .signatures import check_signatures, read_keys
-
-    keys = read_keys(work.words.gateway_key)
-    with work.source.open() as log:
-        signed = check_signatures(log, verdict.day, keys)
-    verdict.findings += signed.findings
-    verdict.signed = signed.words
-
-
-def seal_words(verdict: Verdict, found: list[Finding]) -> str:
-    if found:
-        return "signed by the key; the log is NOT AS IT WAS SEALED"
-    if verdict.of("entries"):
-        return "signed by the key; the last entry is that, and others are NOT AS THEY WERE"
-    return "signed by the key, and the log is as it was sealed"
+def form_of(work: Work) -> Form | None:
+    """CSV or JSON, where the arguments say so."""
+    words = work.words
+    return Form.CSV if words.csv else Form.JSON if words.json else None

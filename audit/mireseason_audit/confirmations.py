@@ -7,6 +7,7 @@ others are the firm's own.
 from collections.abc import Iterator
 from dataclasses import dataclass
 
+from . import items
 from .bonds import Bond
 from .facts import Facts, Side, TradeFact
 from .findings import Finding
@@ -65,7 +66,8 @@ def misnamed(facts: Facts) -> Iterator[Finding]:
         for side in (trade.investor, trade.dealer):
             if side.named and side.named != trade.name:
                 text = "it was told the trade %s under the name %s" % (trade.name, side.named)
-                yield Finding(side.firm, text, trade.entry, side.number)
+                about = (items.REASONS,)
+                yield Finding(side.firm, text, trade.entry, side.number, named_items=about)
 
 
 def confirmation_text(firm: Firm, rows: list[Confirmation]) -> str:

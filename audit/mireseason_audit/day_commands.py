@@ -8,21 +8,19 @@ from pathlib import Path
 
 from .best_execution import BEST_EXECUTION, best_execution
 from .bonds import bonds_of
-from .check import Verdict
-from .command import Work, checked, is_good
+from .command import Work, checked, form_of, is_good
 from .confirmations import CONFIRMATIONS, confirmation_text, confirmations, misnamed
 from .day_pass import DayPass
 from .export import export_day
 from .facts import Facts
 from .faults import Unreadable
 from .folders import make_folder
-from .notes import ACTS, CLOCK_NOTES, acts, clock_notes, clock_text
-from .parties import read_parties
+from .notes import ACTS, acts
 from .records import Day, Firm
-from .rts24 import FIELDS, MARK, SOURCES, order_events, record_table
 from .statistics import statistics_of
 from .statistics_text import statistics_json, statistics_text
 from .tables import Form, table_text, write_table
+from .verdict import Verdict
 
 
 def passed_over(work: Work, verdict: Verdict) -> DayPass:
@@ -32,12 +30,6 @@ def passed_over(work: Work, verdict: Verdict) -> DayPass:
         day_pass.run()
     work.checker().check_end(verdict)
     return day_pass
-
-
-def form_of(work: Work) -> Form | None:
-    """CSV or JSON, where the arguments say so."""
-    words = work.words
-    return Form.CSV if words.csv else Form.JSON if words.json else None
 
 
 def do_export(work: Work) -> int:
@@ -76,11 +68,14 @@ def export_all(work: Work, verdict: Verdict, form: Form, folder: Path) -> str:
 
 
 def export_one(work: Work, verdict: Verdict, form: Form, folder: Path, firm: Firm) -> str:
-    """An investor's own file."""
+    """An investor's own file, and a page of its awards."""
+    from .investor_page import write_investor_page
+
     facts = passed_over(work, verdict).facts
     verdict.findings += misnamed(facts)
-    rows = best_execution(facts, firm.name)
+    rows = list(best_execution(facts, firm.name))
     count = write_table(BEST_EXECUTION, rows, form, folder)
+    write_investor_page(verdict.day, firm, rows, folder)
     return "%d rows of %s" % (count, firm.name)
 
 
@@ -102,34 +97,6 @@ def do_stats(work: Work) -> int:
     statistics = statistics_of(verdict.day, day_pass.facts, day_pass.refused)
     print(statistics_json(statistics) if work.words.json else statistics_text(statistics))
     return 0
-
-
-def do_record(work: Work) -> int:
-    """`record --rts24`: the record of orders, and where each field comes from."""
-    words = work.words
-    if not words.rts24:
-        raise Unreadable("say which record: --rts24")
-    parties, form = read_parties(words.parties), form_of(work) or Form.CSV
-    make_folder(words.folder)
-    verdict = checked(work)
-    if not is_good(verdict):
-        return 1
-    facts = passed_over(work, verdict).facts
-    events = list(order_events(facts, verdict.day.date))
-    scratch = work.folder / "record"
-    scratch.mkdir()
-    write_table(record_table(parties), events, form, scratch)
-    write_table(SOURCES, FIELDS, form, scratch)
-    with work.source.open() as log:
-        clock = list(clock_notes(log))
-    write_table(CLOCK_NOTES, clock, form, scratch)
-    for path in sorted(scratch.iterdir()):
-        shutil.move(path, words.folder / path.name)
-    print("%s: %d events of orders, %s" % (words.folder, len(events), MARK))
-    print(clock_text(clock))
-    for name in parties.missing:
-        print("missing in %s: %s" % (words.parties, name))
-    return 1 if parties.missing else 0
 
 
 def do_acts(work: Work) -> int:

@@ -13,7 +13,14 @@ from .facts import Facts, RequestFact, ResponseFact
 from .frame import barred, text_of
 from .log import Log
 from .notes import voided
-from .not_taken import MOST_NOT_TAKEN, not_taken_of
+from .not_taken import (
+    CLOCK_SET,
+    MOST_NOT_TAKEN,
+    NOT_TAKEN,
+    REJECT,
+    is_of_an_order,
+    not_taken_of,
+)
 from .reading import moment_of
 from .records import Day
 from .refusals import Refusal, code_of, is_refusing, kind_of, refusal_of
@@ -84,12 +91,15 @@ class DayPass:
     def _count_own(self, session: SessionRow) -> None:
         """What the session itself, and the gateway, refused of the firm's."""
         for row in self.log.own_messages(session.firm.name):
-            if row.kind == "3":
-                session.rejected += 1
-            elif row.kind == "j":
-                session.not_taken += 1
-                if session.not_taken <= MOST_NOT_TAKEN:
-                    session.first_not_taken.append(not_taken_of(row))
+            session.rejected += row.kind == REJECT
+            session.not_taken += row.kind == NOT_TAKEN
+            if row.copy or row.kind not in (REJECT, NOT_TAKEN):
+                continue
+            one = not_taken_of(row)
+            session.without_entry += is_of_an_order(row)
+            session.told_of_clock += one.words.startswith(CLOCK_SET)
+            if len(session.first_not_taken) < MOST_NOT_TAKEN:
+                session.first_not_taken.append(one)
 
     def rows(self, exchange: Exchange, refusal: Refusal | None) -> Iterator[MessageRow]:
         """The messages of an exchange that was taken; what came stands first."""
@@ -108,11 +118,11 @@ class DayPass:
         session.last_entry = exchange.place
         if refusal is not None:
             session.refused += 1
-            bond = self._bond(exchange, self._request(exchange))
+            bond = self._bond(exchange, self.request_of(exchange))
             bond = bond if bond in self._bonds else ""
             self.refused[Refused(firm, bond, hour_of(exchange.moment), refusal)] += 1
 
-    def _request(self, exchange: Exchange) -> RequestFact | None:
+    def request_of(self, exchange: Exchange) -> RequestFact | None:
         """The request that a message that came is about."""
         request = self._collector.own(exchange.came)
         if request is None and exchange.answers():
@@ -126,7 +136,7 @@ class DayPass:
 
     def _came(self, exchange: Exchange, firm: str, refusal: Refusal | None) -> MessageRow:
         """The row of a message that came."""
-        entry, came, request = exchange.entry, exchange.came, self._request(exchange)
+        entry, came, request = exchange.entry, exchange.came, self.request_of(exchange)
         answer = "accepted"
         if refusal is not None:
             answer = "unanswered" if refusal.code == "none" else "refused"

@@ -49,6 +49,8 @@ class SessionRow:
     expected: int | None = None
     rejected: int = 0
     not_taken: int = 0
+    without_entry: int = 0  # of both, those that the record of orders counts
+    told_of_clock: int = 0  # how often the firm was told that the clock was set
     first_not_taken: list[NotTaken] = field(default_factory=list)
 
 

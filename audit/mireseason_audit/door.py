@@ -88,7 +88,7 @@ class DoorReader:
         self._tell("row " + kind, Finding(DOOR, "row %d: %s" % (event.place, text)))
 
     def _tell_entry(self, kind: str, entry: Entry, text: str) -> None:
-        self._tell(kind, Finding("entries", text, place=entry.place))
+        self._tell(kind, Finding("entries", text, place=entry.place, named_items=(DOOR,)))
 
     # ------------------------------------------------------------ entries
 

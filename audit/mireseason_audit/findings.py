@@ -3,6 +3,7 @@
 from collections.abc import Iterator
 from dataclasses import dataclass
 
+from . import items
 from .frame import barred, printable
 
 
@@ -19,6 +20,18 @@ class Finding:
     given_by: str = "the venue gives"
     found_in: str = "the log has"
     came_on: str = ""  # of the entry's message, in words: on which connection it came
+    named_items: tuple[str, ...] = ()  # of a report; empty: what `where` says
+    differing: str = ""  # which fields differ, in words
+
+    @property
+    def items(self) -> tuple[str, ...]:
+        """The items of a report that it belongs to: none of them states that all is well."""
+        return self.named_items or (items.ITEM_OF.get(self.where, items.MESSAGES),)
+
+    @property
+    def rank(self) -> int:
+        """Where it stands among others: a cause in front of what follows from it."""
+        return min(items.CAUSES_FIRST.index(item) for item in self.items)
 
     @property
     def place_words(self) -> str:
@@ -37,5 +50,7 @@ class Finding:
             yield "    %-16s %s" % (self.given_by, barred(self.given))
         if self.found is not None:
             yield "    %-16s %s" % (self.found_in, barred(self.found))
+        if self.differing:
+            yield printable("    %-16s %s" % ("they differ in", self.differing))
         if self.came_on:
             yield printable("    %-16s %s" % ("its message was", self.came_on))

@@ -8,6 +8,7 @@ from dataclasses import dataclass
 from pathlib import Path
 
 from .before import Before
+from .bonds import bonds_of
 from .book import Book
 from .came_on import CameOn
 from .dictionary import read_dictionary
@@ -15,15 +16,9 @@ from .frame import Fields, barred, fields_of, text_of
 from .lines import came_of
 from .log import Log, Source
 from .messages import MessageWriter, Shown
+from .page_names import ENTRIES_A_PAGE, page_name
 from .records import Day, Entry, Firm, Sent
 from .templates import Templates
-
-ENTRIES_A_PAGE = 1000
-
-
-def page_name(firm: str, place: int) -> str:
-    """The page of a firm that has what an entry is about."""
-    return "firms/%s-%d.html" % (firm, place // ENTRIES_A_PAGE + 1)
 
 
 @dataclass(frozen=True)
@@ -39,7 +34,7 @@ class FirmJob:
     before: Before | None = None
 
     def __call__(self) -> int:
-        writer = MessageWriter(read_dictionary(self.dictionary))
+        writer = MessageWriter(read_dictionary(self.dictionary), bonds_of(self.day))
         templates = Templates(self.day)
         with self.source.open() as log, closing(Book(self.book)) as book:
             came_on = CameOn(log.logons(self.firm.name)) if log.has_door else None

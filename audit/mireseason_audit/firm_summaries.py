@@ -4,14 +4,14 @@ from collections.abc import Sequence
 from dataclasses import dataclass, replace
 from pathlib import Path
 
-from .check import Verdict
+from .page_names import file_name
 from .records import Firm
-from .request_pages import file_name
 from .requests import Request
 from .statistics import Group
 from .statistics_page import Grid, amounts, figure_grids, refusals
 from .summary import Summary
 from .templates import Templates
+from .verdict import Verdict
 
 
 @dataclass(frozen=True)
@@ -39,6 +39,7 @@ class FirmSummary:
                 for asked in summary.asked.get(firm.name, [])
             ],
             requests=self._requests(summary.requests),
+            acts=[act for act in summary.seen.acts if act.concerns(firm.name)],
             file_name=file_name,
         )
         (folder / "firms" / (firm.name + ".html")).write_text(text, encoding="utf-8")

@@ -12,6 +12,7 @@ CHECKSUM_BYTES = 7  # 10=ccc and its SOH
 LONGEST = 4096  # bytes of a message that the venue reads
 TAG = re.compile(rb"[1-9][0-9]{0,8}")
 NUMBER = re.compile(r"[0-9]{1,9}")
+DIRECTION = re.compile("[\u061c\u200e\u200f\u202a-\u202e\u2066-\u2069]")
 
 
 class Fields(list[tuple[int, bytes]]):
@@ -85,6 +86,11 @@ def printable(text: str) -> str:
     if text.isprintable():
         return text
     return "".join(one if one.isprintable() else escaped(one) for one in text)
+
+
+def directed(text: str) -> str:
+    """A text whose letters stand in their order: a code for what would change their direction."""
+    return DIRECTION.sub(lambda found: escaped(found[0]), text)
 
 
 def escaped(letter: str) -> str:

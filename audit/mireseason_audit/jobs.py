@@ -8,12 +8,15 @@ from abc import ABC, abstractmethod
 from array import array
 from collections import defaultdict
 from collections.abc import Iterable, Iterator
-from dataclasses import dataclass
+from contextlib import ExitStack
+from dataclasses import dataclass, replace
 from pathlib import Path
 
+from . import items
 from .chain import Chained, lines_before, places_of, read_chain, write_day
-from .carrying import check_wire
+from .carrying import check_notes, check_wire
 from .closing import Closing
+from .differing import differing
 from .faults import Unreadable
 from .findings import Finding
 from .lines import decoded
@@ -80,6 +83,10 @@ class Files:
         """
         return self.folder / ("%s.notes" % firm)
 
+    def session_notes(self, firm: str) -> Path:
+        """The lines of its session notes."""
+        return self.folder / ("%s.session" % firm)
+
 
 @dataclass(frozen=True)
 class Audited:
@@ -133,10 +140,14 @@ class SentJob(FindingsJob):
 
     def _findings(self, log: Log) -> Iterator[Finding]:
         files, reasons = self.audited.files, self.audited.day.names_of_reasons
+        keep_notes(log, self.firms, files)
         for firm in self.firms:
             keep(log, firm, files)
             if log.has_chain:
                 yield from check_wire(log, firm, reasons, files.notes(firm))
+            if log.has_notes:
+                with files.session_notes(firm).open("rb") as lines:
+                    yield from check_notes(log, firm, lines)
 
 
 class LiveJob(FindingsJob):
@@ -313,7 +324,21 @@ class AloneJob(FindingsJob):
         except Unreadable as fault:
             raise Unreadable("of the list of %s %s" % (dealer, fault)) from None
         if not is_same(files.alone(dealer), files.sent(dealer)):
-            yield from held(dealer, log.sent(dealer), lines_of(files.alone(dealer)), ALONE)
+            found = held(dealer, log.sent(dealer), lines_of(files.alone(dealer)), ALONE)
+            yield from (replace(one, named_items=(items.ALONE,)) for one in found)
+
+
+def keep_notes(log: Log, firms: Iterable[str], files: Files) -> None:
+    """Leaves the lines of firms' session notes in files."""
+    with ExitStack() as opened:
+        of_firms = {
+            firm.encode(): opened.enter_context(files.session_notes(firm).open("wb"))
+            for firm in firms
+        }
+        for row in log.seals() if log.has_notes else ():
+            for line in row.notes.splitlines(keepends=True):
+                if (file := of_firms.get(line.partition(b" ")[0])) is not None:
+                    file.write(line)
 
 
 def keep(log: Log, firm: str, files: Files) -> None:
@@ -408,5 +433,6 @@ def held(
             yield Finding(firm, text, row.place, number, given=given)
             return
         if row.bytes != given:
-            yield Finding(firm, another, row.place, number, given=given, found=row.bytes)
+            finding = Finding(firm, another, row.place, number, given=given, found=row.bytes)
+            yield replace(finding, differing=differing(given, row.bytes))
             return

@@ -5,7 +5,7 @@ from typing import NamedTuple
 from .frame import Fields, barred, fields_of
 from .records import SOH
 
-NOTES = (b"act", b"clock")  # of lines that the venue ignores (notes.py)
+NOTES = (b"act", b"clock", b"gateway")  # of lines that the venue ignores (notes.py)
 
 
 class Came(NamedTuple):

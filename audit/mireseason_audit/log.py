@@ -15,6 +15,7 @@ from .records import (
     Entry,
     Messages,
     Outgoing,
+    SealRow,
     Sent,
     configured,
     day_of,
@@ -28,6 +29,10 @@ class Log(Closing):
     has_door: bool = False  # whether it says who connected, and what came on which connection
     has_seals: bool = False  # whether a gateway has sealed and signed what it wrote
     has_epochs: bool = False  # whether its sessions have what they keep, and not what they sent
+    # Whether gateways number what they sign without a gap, and say where a day has ended.
+    numbers_checkpoints: bool = False
+    has_notes: bool = False  # whether its seals have the session notes of their batches
+    is_part: bool = False  # whether it shows a log as it stood before its end
 
     @abstractmethod
     def entry_blocks(self) -> Iterator[Entries]:
@@ -49,13 +54,25 @@ class Log(Closing):
         """What a gateway has signed, in its order; of a log that has seals."""
         return iter(())
 
+    def seals(self) -> Iterator[SealRow]:
+        """The rows by which a log is sealed, by their numbers; of a log that has seals."""
+        return iter(())
+
     def last_seal(self) -> tuple[int, int]:
         """The entry, and the row of what happened to connections, up to which a log is sealed."""
         return -1, 0
 
+    def notes_hash_at(self, seal: int) -> bytes:
+        """The running hash of the session notes up to a seal; empty where there is none."""
+        return b""
+
     def last_event(self) -> int:
         """The last place of what happened to connections; 0 where nothing did."""
         return 0
+
+    def beyond_form(self) -> Iterator[str]:
+        """What stands beside the tables of its form, each in words."""
+        return iter(())
 
     @abstractmethod
     def came(self, firm: str) -> Iterator[Entry]:
@@ -100,6 +117,10 @@ class Log(Closing):
     @abstractmethod
     def targets(self) -> dict[str, int]:
         """Of each firm, the number that its session expects next."""
+
+    def epochs(self) -> dict[str, int]:
+        """Of each firm, how often its session was reset, as far as the log says it."""
+        return {}
 
     @abstractmethod
     def firms(self) -> set[str]:

@@ -1,12 +1,14 @@
 """A message as HTML: its text, and its fields by their names."""
 
+from collections.abc import Mapping
 from html import escape
 from typing import NamedTuple
 
+from .bonds import Bond
 from .dictionary import Dictionary
 from .frame import Fields, barred, text_of
 
-
+BOND = 48
 MOST_KEPT, LONGEST_KEPT = 10_000, 64  # fields that are kept as they are written, and their bytes
 
 
@@ -27,8 +29,9 @@ class Shown(NamedTuple):
 class MessageWriter:
     """Writes messages. Fields that often stand are written once and kept."""
 
-    def __init__(self, dictionary: Dictionary) -> None:
+    def __init__(self, dictionary: Dictionary, bonds: Mapping[str, Bond] | None = None) -> None:
         self._dictionary = dictionary
+        self._names = {bond.id: bond.name for bond in (bonds or {}).values()}
         self._kept: dict[tuple[int, bytes], str] = {}
 
     def html(self, shown: Shown) -> str:
@@ -71,6 +74,8 @@ class MessageWriter:
         value = barred(data)
         name = self._dictionary.names.get(tag, "")
         meaning = self._dictionary.meaning(tag, value)
+        if tag == BOND:
+            meaning = self._names.get(value, "")
         return "<li><i>%s</i> %s <b>%s</b>%s</li>" % (
             tag or "?",
             escape(name or "(not in the dictionary)"),

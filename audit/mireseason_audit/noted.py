@@ -3,7 +3,9 @@
 import itertools
 import re
 from collections.abc import Iterable, Iterator
+from dataclasses import replace
 
+from . import items
 from .faults import Unreadable
 from .findings import Finding
 from .lines import decoded
@@ -30,7 +32,8 @@ def misnoted(
             number = min(number_of(one) for one in (line, given) if one is not None)
             at = place if given is not None and number == number_of(given) else None
             words = "the venue notes", "it tells"
-            yield Finding(firm, ANOTHER_NOTE, at, number, given, line, *words)
+            finding = Finding(firm, ANOTHER_NOTE, at, number, given, line, *words)
+            yield replace(finding, named_items=(items.REASONS,))
             return
 
 

@@ -1,20 +1,26 @@
-"""What operators did, and how the gateway's clock was: lines of the log that the venue ignores.
+"""What operators did, how the gateway's clock was, and which gateway speaks: lines of the log that
+the venue ignores.
 
     # act TIME NAME(UID) WORDS because="REASON"
     # clock TIME synchronised|unsynchronised|set MICROSECONDS
+    # gateway TIME NAME VERSION
 """
 
 import re
 from collections.abc import Iterator
 from typing import NamedTuple
 
+from .identity import Speaker
 from .log import Log
+from .records import NO_NAME, Entry
 from .tables import Column, Table
 
 LONGEST = 200  # bytes of a note
-NOTE = re.compile(rb"# (act|clock) ([0-9:.]{12}) [ -~]+")
+NOTE = re.compile(rb"# (act|clock|gateway) ([0-9:.]{12}) [ -~]+")
+SPEAKER = re.compile(rb"# gateway \S+ (\S+) ([ -~]+)")
 ACT = re.compile(r'# act (\S+) (\S+) (.*?)(?: because="([^"]*)")?')
 BUST = "bust "
+OF_ONE_FIRM = ("admit", "suspend", "resume", "cancel", "reset-session", "release", "limit")
 CLOCK = re.compile(r"# clock (\S+) (synchronised|unsynchronised|set) (-?[0-9]{1,18})")
 
 
@@ -26,6 +32,24 @@ class Act(NamedTuple):
     who: str  # NAME(UID)
     what: str
     because: str  # as it stands in the log: a byte that is not printable is \\xHH
+
+    @property
+    def is_bust(self) -> bool:
+        """Whether it voids a trade."""
+        return self.what.startswith(BUST)
+
+    @property
+    def firms(self) -> tuple[str, ...]:
+        """Those that it names; none where it is of the whole venue or of a bond."""
+        word, _, rest = self.what.partition(" ")
+        name = rest.partition(" ")[0]
+        if self.is_bust:
+            return tuple(name.split("-")[1:3])
+        return (name,) if word in OF_ONE_FIRM and name and not name.startswith("--") else ()
+
+    def concerns(self, firm: str) -> bool:
+        """Whether it names this firm, or none."""
+        return not self.firms or firm in self.firms
 
 
 class ClockNote(NamedTuple):
@@ -53,6 +77,15 @@ def clock_note_of(place: int, line: bytes) -> ClockNote | None:
     return None if found is None else ClockNote(place, found[1], found[2], int(found[3]))
 
 
+def speaker_of(entry: Entry) -> Speaker | None:
+    """The gateway that begins to write, where a note says it."""
+    found = SPEAKER.fullmatch(entry.line)
+    if found is None:
+        return None
+    name, version = found[1].decode(), found[2].decode()
+    return Speaker(entry.place, entry.term, "" if name == NO_NAME else name, version)
+
+
 def acts(log: Log) -> Iterator[Act]:
     """All acts of a day, in their order."""
     for entry in log.entries():
@@ -61,10 +94,14 @@ def acts(log: Log) -> Iterator[Act]:
             yield act
 
 
+def voiding_acts(log: Log) -> dict[str, Act]:
+    """The acts by which operators voided trades (`bust TRADE`), by the trades' names."""
+    return {act.what.removeprefix(BUST): act for act in acts(log) if act.is_bust}
+
+
 def voided(log: Log) -> dict[str, str]:
-    """The trades that operators voided (`bust TRADE`), and why."""
-    found = (act for act in acts(log) if act.what.startswith(BUST))
-    return {act.what.removeprefix(BUST): act.because for act in found}
+    """The trades that operators voided, and why."""
+    return {name: act.because for name, act in voiding_acts(log).items()}
 
 
 def clock_notes(log: Log) -> Iterator[ClockNote]:

@@ -1,6 +1,7 @@
 """All pages of a day, into one folder."""
 
 import shutil
+from collections.abc import Callable
 from contextlib import closing
 from dataclasses import dataclass
 from pathlib import Path
@@ -8,23 +9,25 @@ from pathlib import Path
 from .before import Before
 from .book import Book, Fault
 from .certificates import CertificateJob, second_for, seconds_for
-from .check import Checker, Result, Verdict
+from .check import Checker, Result
 from .dictionary import read_dictionary
 from .door_pages import DoorJob
 from .faults import Unreadable
 from .findings import Finding
-from .firm_pages import ENTRIES_A_PAGE, FirmJob, page_name
+from .firm_pages import FirmJob
 from .firm_summaries import FirmSummary
 from .folders import make_folder
+from .page_names import ENTRIES_A_PAGE, ROWS_A_PAGE, file_name, page_name
 from .reading import Reader
 from .records import Day
-from .request_lists import ROWS_A_PAGE, lists_of, write_list
-from .request_pages import RequestJob, file_name
-from .seal import SumsJob, write_sums
+from .request_lists import lists_of, write_list
+from .request_pages import RequestJob
 from .statistics import Group
 from .statistics_page import sections
 from .summary import Summary, SummaryJob
+from .sums import SumsJob, write_sums
 from .templates import HERE, Templates
+from .verdict import Verdict
 from .work import Job, Plan, plan_of, run_jobs
 
 PAGES_A_JOB, FILES_A_JOB = 50, 250
@@ -32,6 +35,8 @@ FAULTS_ON_THE_DAY = 30
 MOST_PLACES_AN_ENTRY = 10  # a log that lacks more has places that nobody gave
 FOLDERS = ("requests", "firms", "certificates", "by")
 FILES = ("style.css", "filter.js")
+
+Publish = Callable[[Day, Summary, Path], object]
 
 
 @dataclass(frozen=True)
@@ -44,6 +49,7 @@ class Pager:
     scratch: Path
     request: int | None  # the request of the certificates, by its key
     before: Before | None = None  # the pages as they were earlier
+    publish: Publish | None = None  # writes the reports of trades beside them
 
     @property
     def _book(self) -> Path:
@@ -77,6 +83,8 @@ class Pager:
         with closing(Book(self._book)) as book:
             self._write_day(verdict, summary, book)
         self._write_others(verdict, summary)
+        if self.publish is not None:
+            self.publish(verdict.day, summary, self.folder)
         shutil.copyfile(checker.files.day, self.folder / "day.live")
         for name in FILES:
             shutil.copyfile(HERE / name, self.folder / name)

@@ -10,10 +10,51 @@ from psycopg2 import sql
 
 from .faults import Unreadable
 from .log import Log, Source
-from .sql_log import DOOR_FORM, EPOCH_FORM, SEAL_FORM, Rows, SqlLog, form_of
+from .log_form import FUNCTIONS, TRIGGER, TRIGGERED, short, strange_tables
+from .sql_log import Rows, SqlLog, form_of
 
 OLD_FORM = 2  # of the tables: without connections
 ROWS_AT_A_TIME = 1024  # each time the server is asked
+PLACE = "(SELECT oid FROM pg_namespace WHERE nspname = ?)"
+COLUMNS = (
+    """SELECT relname, attname FROM pg_class JOIN pg_attribute ON attrelid = pg_class.oid
+    WHERE relnamespace = %s AND relkind = 'r' AND attnum > 0 AND NOT attisdropped
+    ORDER BY relname, attnum"""
+    % PLACE
+)
+# What is no plain table of the schema, or changes what is written to one or read of one.
+OTHERS = """WITH tables AS (SELECT oid, relname FROM pg_class WHERE relnamespace = PLACE AND relkind = 'r')
+    SELECT CASE relkind WHEN 'v' THEN 'view' WHEN 'm' THEN 'materialized view' WHEN 'f' THEN 'foreign table'
+        WHEN 'p' THEN 'partitioned table' WHEN 'S' THEN 'sequence' ELSE 'relation' END, relname, ''
+        FROM pg_class WHERE relnamespace = PLACE AND relkind NOT IN ('r', 'i', 't')
+    UNION ALL SELECT 'index', pg_class.relname, tables.relname FROM pg_index JOIN tables ON indrelid = tables.oid
+        JOIN pg_class ON pg_class.oid = indexrelid WHERE NOT indisprimary
+    UNION ALL SELECT 'trigger', tgname, relname FROM pg_trigger JOIN tables ON tgrelid = tables.oid
+        JOIN pg_proc ON pg_proc.oid = tgfoid WHERE NOT tgisinternal AND NOT (tgname = '{trigger}'
+        AND relname IN {triggered} AND proname = 'refuse_other_terms' AND pronamespace = PLACE
+        AND tgenabled = 'O' AND tgtype = 4 AND tgqual IS NULL)
+    UNION ALL SELECT 'rule', rulename, relname FROM pg_rewrite JOIN tables ON ev_class = tables.oid
+    UNION ALL SELECT 'policy', polname, relname FROM pg_policy JOIN tables ON polrelid = tables.oid
+    UNION ALL SELECT 'row security', '', relname FROM pg_class WHERE relnamespace = PLACE AND relrowsecurity
+    UNION ALL SELECT 'child', pg_class.relname, tables.relname FROM pg_inherits JOIN tables ON inhparent = tables.oid
+        JOIN pg_class ON pg_class.oid = inhrelid
+    UNION ALL SELECT 'parent', pg_class.relname, tables.relname FROM pg_inherits JOIN tables ON inhrelid = tables.oid
+        JOIN pg_class ON pg_class.oid = inhparent
+    UNION ALL SELECT 'function', proname, '' FROM pg_proc WHERE pronamespace = PLACE AND (prosecdef OR
+        (proname, encode(sha256(convert_to(prosrc, 'UTF8')), 'hex')) NOT IN {functions})
+    UNION ALL SELECT 'constraint', conname, relname FROM pg_constraint JOIN tables ON conrelid = tables.oid
+        WHERE contype IN ('c', 'f') AND relname <> 'speaker'
+    UNION ALL SELECT 'default', attname, relname FROM pg_attrdef JOIN tables ON adrelid = tables.oid
+        JOIN pg_attribute ON attrelid = adrelid AND attnum = adnum
+    UNION ALL SELECT 'unlogged table', relname, '' FROM pg_class WHERE relnamespace = PLACE AND relkind = 'r'
+        AND relpersistence <> 'p'
+    UNION ALL SELECT 'type', typname, '' FROM pg_type WHERE typnamespace = PLACE AND typtype NOT IN ('c', 'b')
+    UNION ALL SELECT 'operator', oprname, '' FROM pg_operator WHERE oprnamespace = PLACE
+    ORDER BY 1, 2, 3""".format(
+    trigger=TRIGGER, triggered=TRIGGERED, functions=tuple(FUNCTIONS.items())
+).replace(
+    "PLACE", PLACE
+)
 
 
 @dataclass(frozen=True)
@@ -47,9 +88,7 @@ class PostgresLog(SqlLog):
                 forms = cursor.fetchall()
         except psycopg2.Error as fault:
             raise Unreadable("%s: no log can be read: %s" % (self._name, one_line(fault))) from None
-        form = form_of(self._name, forms, OLD_FORM)
-        self.has_door, self.has_seals = form >= DOOR_FORM, form >= SEAL_FORM
-        self.has_epochs = form >= EPOCH_FORM
+        self._take_form(form_of(self._name, forms, OLD_FORM))
 
     def blocks(self, query: str, *values: object) -> Iterator[Rows]:
         try:
@@ -63,6 +102,15 @@ class PostgresLog(SqlLog):
     @staticmethod
     def bytes_of(value: Any) -> bytes:
         return bytes(value)
+
+    def beyond_form(self) -> Iterator[str]:
+        tables: dict[str, list[str]] = {}
+        for table, column in self.rows(COLUMNS, self._name):
+            tables.setdefault(table, []).append(column)
+        yield from strange_tables(self.form, tables, has_terms=True)
+        for kind, name, table in self.rows(OTHERS, *[self._name] * OTHERS.count("?")):
+            words = " ".join(filter(None, (kind, short(name))))
+            yield words + (" of %s" % short(table) if table else "")
 
     def close(self, failed: bool = False) -> None:
         self._connection.close()

@@ -6,8 +6,9 @@ from collections.abc import Iterable, Sequence
 from dataclasses import dataclass, replace
 from typing import Any, NamedTuple
 
+from bounded_toml import table_of
+
 from .faults import Wrong
-from .toml_text import table_of
 
 SOH = b"\x01"
 DIVIDER = b"%%\n"
@@ -94,6 +95,16 @@ class ConnectionEvent(NamedTuple):
         return self.address + (", certificate %s" % self.certificate if self.certificate else "")
 
 
+class SealRow(NamedTuple):
+    """Up to where a gateway has sealed a log."""
+
+    number: int
+    place: int  # of the last entry then
+    event: int  # of the last row of what happened to connections
+    notes: bytes = b""  # since form 6: the session notes of its batch, a line feed behind each
+    hash: bytes = b""  # and the running hash of all session notes up to these
+
+
 class Checkpoint(NamedTuple):
     """Where a gateway has signed that the log stood, with the hashes that stand there now."""
 
@@ -104,6 +115,9 @@ class Checkpoint(NamedTuple):
     event: int  # of the last row of what happened to connections, 0 without one
     event_hash: bytes
     signature: bytes
+    is_end: bool = False  # since form 6: whether the log ended here,
+    seal: int = 0  # the number of the last seal then,
+    notes_hash: bytes = b""  # and the hash that it has now
 
 
 class Messages(NamedTuple):

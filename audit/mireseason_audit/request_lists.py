@@ -5,12 +5,11 @@ from dataclasses import dataclass
 from pathlib import Path
 
 from .bonds import bonds_of
+from .page_names import ROWS_A_PAGE, file_name
 from .records import Day
-from .request_pages import file_name
 from .requests import Request
 from .templates import Templates
 
-ROWS_A_PAGE = 500
 ENDS = ("awarded", "passed", "expired", "open")
 
 
@@ -49,8 +48,8 @@ def lists_of(day: Day, requests: Iterable[Request]) -> list[RequestList]:
         for firm in day.firms
     ]
     found += [
-        listed("bond", bond, "Requests of " + bond, [one for one in all_of if one.bond == bond])
-        for bond in bonds_of(day)
+        listed("bond", id_, "Requests of " + bond.words, [one for one in all_of if one.bond == id_])
+        for id_, bond in bonds_of(day).items()
     ]
     found += [
         listed(

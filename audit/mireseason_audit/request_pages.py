@@ -7,8 +7,8 @@ from pathlib import Path
 from .before import Before
 from .bonds import bonds_of
 from .book import Book
-from .firm_pages import page_name
 from .narrow_timeline import narrow_timeline
+from .page_names import file_name, page_name
 from .records import Day
 from .requests import Act, Note, Request
 from .story import Story, story_of
@@ -63,10 +63,6 @@ class RequestJob:
         count = len(list((self.before.folder / "requests").iterdir()))
         last = {count - 1} if count < self.count else set()
         return {request.key for request in self.requests} - changed - last
-
-
-def file_name(key: int) -> str:
-    return "%04d.html" % (key + 1)
 
 
 def request_page(

@@ -1,256 +1,148 @@
 """The record of orders that a trading venue keeps: requests and quotes, event by event, with the
-fields of the annex of Commission Delegated Regulation (EU) 2017/580.
-
-It is written WITHOUT THE ANNEX AT HAND: numbers, names and codes are to be compared with it before
-the record is handed to anybody. A field whose value neither the log nor the parties have is left
-empty, and its source says that it is missing.
+fields of the annex of Commission Delegated Regulation (EU) 2017/580, as `rts24.toml` has them.
 """
 
-from collections.abc import Callable, Iterator
+from collections.abc import Callable, Mapping
 from dataclasses import dataclass
-from decimal import Decimal
 
-from .facts import Facts, QuoteFact, RequestFact, TradeFact
+from .order_events import Order, OrderEvent
 from .parties import Parties
+from .regulation import Field, Regulation, read_regulation
 from .tables import Column, Table, Value
 
-MARK = "written without the annex at hand"
-MISSING = "missing"
-
 
 @dataclass(frozen=True)
-class OrderEvent:
-    """Something that happened to a request or a quote."""
+class Recorder:
+    """Says what stands in each field of an event."""
 
+    regulation: Regulation
+    parties: Parties
     date: str
-    entry: int | None  # None of the end of a validity, which no entry tells
-    moment: str
-    request: RequestFact
-    quote: QuoteFact | None  # None of the request itself
-    code: str
-    trade: TradeFact | None = None
 
-    @property
-    def firm(self) -> str:
-        return self.request.investor if self.quote is None else self.quote.dealer
+    def value(self, field: Field, event: OrderEvent) -> Value:
+        """By the name by which the data file asks for it."""
+        if field.value in SAID:
+            return self._said(field.value, event.order)
+        return VALUES[field.value](self, event)
 
-    @property
-    def trader(self) -> str:
-        return self.request.trader if self.quote is None else self.quote.trader
+    def _said(self, key: str, order: Order) -> Value:
+        """What the parties say of an order, of its trader or of its firm."""
+        found = self.parties.said(key, order.firm, order.trader, order.name)
+        return self.flag(found) if isinstance(found, bool) else found
 
-    @property
-    def buys(self) -> bool:
-        """The side of the order: a quote is on the other side of its request."""
-        return self.request.buys == (self.quote is None)
+    def code(self, kind: str, name: str) -> str:
+        return self.regulation.code(kind, name)
 
-    @property
-    def name(self) -> str:
-        """The name of the order: the firm's own, which it uses once a day."""
-        own = self.request.name if self.quote is None else self.quote.name
-        return "-".join((self.date, self.firm, own))
+    def flag(self, is_so: bool) -> str:
+        return self.code("flag", "yes" if is_so else "no")
 
-    @property
-    def valid_until(self) -> str:
-        """126, or a quote's 62 where it has one."""
-        until = self.quote.until if self.quote is not None else ""
-        return until or self.request.deadline
+    def timed(self, moment: str) -> str:
+        """A date and a time, in UTC, as one text."""
+        return "%sT%sZ" % (dated(self.date), moment) if moment else ""
 
-    @property
-    def is_open(self) -> bool:
-        return self.code in ("NEWO", "REME")
+    def status(self, event: OrderEvent) -> str:
+        return self.code("status", event.order.kind if event.is_open else "over")
+
+    def side(self, order: Order) -> str:
+        return "" if order.buys is None else self.code("side", "buy" if order.buys else "sell")
 
 
-@dataclass(frozen=True)
-class Field:
-    """A field of the annex: its number, its name, where its value comes from, and the value."""
+SAID = ("dea", "client", "decision", "broker", "capacity", "liquidity")
+VALUES: Mapping[str, Callable[[Recorder, OrderEvent], Value]] = {
+    "lei": lambda r, event: r.parties.lei(event.order.firm),
+    "trader": lambda r, event: trader_of(r.parties, event.order),
+    "date": lambda r, event: dated(r.date),
+    "moment": lambda r, event: r.timed(event.moment),
+    "until": lambda r, event: r.timed(event.order.until),
+    "validity": lambda r, event: r.code("validity", "until_a_time") if event.order.until else "",
+    "priority": lambda r, event: r.timed(event.order.moment),
+    "sequence": lambda r, event: event.sequence,
+    "mic": lambda r, event: r.parties.mic(),
+    "isin": lambda r, event: r.parties.isin(event.order.bond) if event.order.bond else "",
+    "currency": lambda r, event: r.parties.currency(event.order.bond) if event.order.bond else "",
+    "name": lambda r, event: "-".join((r.date, event.order.firm, event.order.name)),
+    "event": lambda r, event: r.code("event", event.what),
+    "kind": lambda r, event: event.order.kind,
+    "class": lambda r, event: r.code("class", "limit") if event.order.kind == "quote" else "",
+    "price": lambda r, event: event.order.price,
+    "traded_price": lambda r, event: event.trade.quote.price if event.trade else None,
+    "price_notation": lambda r, event: r.code("notation", "percent"),
+    "quantity_notation": lambda r, event: r.code("notation", "nominal"),
+    "side": lambda r, event: r.side(event.order),
+    "status": lambda r, event: r.status(event),
+    "quantity": lambda r, event: event.order.quantity,
+    "remaining": lambda r, event: event.order.quantity if event.is_open else 0,
+    "traded_quantity": lambda r, event: event.order.quantity if event.trade else None,
+    "no": lambda r, event: r.flag(False),
+    "aggressor": lambda r, event: r.code("aggressor", event.order.kind) if event.trade else "",
+    "trade": lambda r, event: event.trade.name if event.trade else "",
+}
 
-    number: int
-    name: str
-    source: str
-    value: Callable[[OrderEvent, Parties], Value] | None = None  # None: it is missing
 
-    @property
-    def column(self) -> str:
-        return "%02d_%s" % (self.number, self.name)
+def trader_of(parties: Parties, order: Order) -> str:
+    """Who executes: nobody is named where a message has no 50."""
+    return parties.trader(order.firm, order.trader) if order.trader else ""
 
 
 def dated(date: str) -> str:
     return "-".join((date[:4], date[4:6], date[6:]))
 
 
-def timed(event: OrderEvent, moment: str) -> str:
-    """A date and a time, in UTC, as one text."""
-    return "%sT%sZ" % (dated(event.date), moment) if moment else ""
+def rts24() -> Regulation:
+    """The annex, as the data file has it."""
+    return read_regulation("rts24.toml")
 
 
-def price_of(event: OrderEvent) -> Decimal | None:
-    return None if event.quote is None else event.quote.price
-
-
-def traded(event: OrderEvent) -> TradeFact | None:
-    return event.trade if event.code == "FILL" else None
-
-
-FIELDS = (
-    Field(1, "submitting_entity", "parties: firm.NAME.lei", lambda e, p: p.lei(e.firm)),
-    Field(2, "direct_electronic_access", MISSING),
-    Field(3, "client", MISSING),
-    Field(4, "investment_decision", MISSING),
-    Field(
-        5,
-        "execution_within_firm",
-        "parties: firm.NAME.traders, of 50",
-        lambda e, p: p.trader(e.firm, e.trader),
-    ),
-    Field(6, "non_executing_broker", MISSING),
-    Field(7, "trading_capacity", MISSING),
-    Field(8, "liquidity_provision", MISSING),
-    Field(
-        9,
-        "date_and_time",
-        "the entry's moment; of a validity's end 62",
-        lambda e, p: timed(e, e.moment),
-    ),
-    Field(10, "validity_period", "good till a time: 126 or 62", lambda e, p: "GTTV"),
-    Field(11, "order_restriction", MISSING),
-    Field(
-        12,
-        "validity_date_and_time",
-        "126; of a quote its 62 where it has one",
-        lambda e, p: timed(e, e.valid_until),
-    ),
-    Field(
-        13,
-        "priority_time_stamp",
-        "the moment of the order's entry",
-        lambda e, p: timed(e, (e.quote or e.request).moment),
-    ),
-    Field(14, "priority_size", MISSING),
-    Field(15, "sequence_number", "the entry's place in the log", lambda e, p: e.entry),
-    Field(16, "segment_mic", "parties: venue.mic", lambda e, p: p.mic()),
-    Field(17, "order_book_code", MISSING),
-    Field(18, "instrument", "parties: bond.ID.isin", lambda e, p: p.isin(e.request.bond)),
-    Field(19, "date_of_receipt", "the day", lambda e, p: dated(e.date)),
-    Field(20, "order_identification", "the day, the firm, and 131 or 117", lambda e, p: e.name),
-    # NEWO: accepted; REME: accepted in place of another quote of the dealer; CAME: withdrawn or
-    # passed; CAMO: a quote that ended with its request; EXPI: the deadline, or a quote's 62; FILL.
-    Field(21, "event", "what the venue told for the entry", lambda e, p: e.code),
-    Field(22, "order_type", MISSING),
-    Field(23, "order_type_classification", MISSING),
-    Field(24, "limit_price", "of a quote 132 or 133", lambda e, p: price_of(e)),
-    Field(25, "additional_limit_price", MISSING),
-    Field(26, "stop_price", MISSING),
-    Field(27, "pegged_limit_price", MISSING),
-    Field(
-        28,
-        "transaction_price",
-        "of a trade the price of the notice (694=1)",
-        lambda e, p: e.trade.quote.price if e.trade and traded(e) else None,
-    ),
-    Field(
-        29, "price_currency", "parties: bond.ID.currency", lambda e, p: p.currency(e.request.bond)
-    ),
-    Field(30, "currency_of_leg_2", MISSING),
-    Field(31, "price_notation", "prices are points: percent of face value", lambda e, p: "PERC"),
-    Field(
-        32, "buy_sell", "54; of a quote the other side", lambda e, p: "BUYI" if e.buys else "SELL"
-    ),
-    Field(33, "order_status", MISSING),
-    Field(34, "quantity_notation", "38 is face value", lambda e, p: "NOML"),
-    Field(
-        35,
-        "quantity_currency",
-        "parties: bond.ID.currency",
-        lambda e, p: p.currency(e.request.bond),
-    ),
-    Field(36, "initial_quantity", "38", lambda e, p: e.request.quantity),
-    Field(
-        37,
-        "remaining_quantity",
-        "38 while the order stands, then 0",
-        lambda e, p: e.request.quantity if e.is_open else 0,
-    ),
-    Field(38, "displayed_quantity", MISSING),
-    Field(
-        39,
-        "traded_quantity",
-        "of a trade 38, which is never divided",
-        lambda e, p: e.request.quantity if traded(e) else None,
-    ),
-    Field(40, "minimum_acceptable_quantity", MISSING),
-    Field(41, "minimum_executable_size", MISSING),
-    Field(42, "minimum_size_first_execution_only", MISSING),
-    Field(43, "passive_only", MISSING),
-    Field(44, "passive_or_aggressive", MISSING),
-    Field(45, "self_execution_prevention", MISSING),
-    Field(46, "strategy_linked_order", MISSING),
-    Field(47, "routing_strategy", MISSING),
-    Field(
-        48,
-        "venue_transaction",
-        "the trade's name, as both firms were told",
-        lambda e, p: e.trade.name if e.trade and traded(e) else "",
-    ),
-    Field(49, "trading_phases", MISSING),
-    Field(50, "indicative_auction_price", MISSING),
-    Field(51, "indicative_auction_volume", MISSING),
-)
-
-
-def record_table(parties: Parties) -> Table[OrderEvent]:
+def record_table(recorder: Recorder) -> Table[OrderEvent]:
     """The record as a table."""
 
-    def column(one: Field) -> Column[OrderEvent]:
+    def column(field: Field) -> Column[OrderEvent]:
         def value(event: OrderEvent) -> Value:
-            return None if one.value is None else one.value(event, parties)
+            return recorder.value(field, event) if field.value else None
 
-        return Column(one.column, one.source, value)
+        return Column(field.column, field.source_words, value)
 
-    return Table("rts24", "an event of an order", tuple(column(one) for one in FIELDS))
+    columns = tuple(column(field) for field in recorder.regulation.fields)
+    return Table("rts24", "an event of an order", columns)
 
 
-SOURCES: Table[Field] = Table(
-    "rts24-sources",
-    "a field of the record, and where its value comes from",
+def sources_table(regulation: Regulation) -> Table[Field]:
+    """Where each field comes from, or why this market has none."""
+    return Table(
+        "rts24-sources",
+        "a field of the record, and where its value comes from",
+        (
+            Column("field", "its number in the annex", lambda row: row.number),
+            Column("column", "of rts24", lambda row: row.column),
+            Column("source", "or why there is none", lambda row: row.source_words),
+            Column("note", "", lambda row: regulation.mark),
+        ),
+    )
+
+
+def what_of(event: OrderEvent) -> Value:
+    return event.refusal.what if event.refusal else ""
+
+
+def code_of(event: OrderEvent) -> Value:
+    return event.refusal.code if event.refusal else ""
+
+
+def reason_of(event: OrderEvent) -> Value:
+    return event.refusal.name if event.refusal else ""
+
+
+REFUSALS: Table[OrderEvent] = Table(
+    "rts24-refusals",
+    "a message that was refused",
     (
-        Column("field", "its number in the annex", lambda row: row.number),
-        Column("column", "of rts24", lambda row: row.column),
-        Column("source", "or `missing`", lambda row: row.source),
-        Column("note", "", lambda row: MARK),
+        Column("sequence_number", "of rts24", lambda row: row.sequence),
+        Column("entry", "empty where the gateway put none into the log", lambda row: row.entry),
+        Column("moment", "", lambda row: row.moment),
+        Column("firm", "", lambda row: row.order.firm),
+        Column("number", "34 of the message", lambda row: row.message),
+        Column("what", "request, quote, cancel, decline, hit, pass or message", what_of),
+        Column("code", "the tag that says why, and its value", code_of),
+        Column("reason", "what the firm was told (58)", reason_of),
     ),
 )
-
-
-def order_events(facts: Facts, date: str) -> Iterator[OrderEvent]:
-    """All events, by the entries; of one entry the request's first. The end of a validity stands
-    before the first entry after it.
-    """
-    events = [*request_events(facts, date), *quote_events(facts, date)]
-    yield from sorted(events, key=lambda one: (one.moment, one.entry or -1, one.quote is not None))
-
-
-def request_events(facts: Facts, date: str) -> Iterator[OrderEvent]:
-    trades = {trade.request.number: trade for trade in facts.trades}
-    codes = {"awarded": "FILL", "passed": "CAME", "expired": "EXPI"}
-    for one in facts.requests:
-        yield OrderEvent(date, one.entry, one.moment, one, None, "NEWO")
-        if one.end in codes:
-            trade = trades.get(one.number)
-            yield OrderEvent(date, one.end_entry, one.end_moment, one, None, codes[one.end], trade)
-
-
-def quote_events(facts: Facts, date: str) -> Iterator[OrderEvent]:
-    trades = {trade.quote.entry: trade for trade in facts.trades}
-    replaced = {(one.dealer, one.end_entry) for one in facts.quotes if one.end == "replaced"}
-    for one in facts.quotes:
-        code = "REME" if (one.dealer, one.entry) in replaced else "NEWO"
-        yield OrderEvent(date, one.entry, one.moment, one.request, one, code)
-        if one.lapsed:
-            yield OrderEvent(date, None, one.until, one.request, one, "EXPI")
-        elif one.end == "won":
-            trade = trades.get(one.entry)
-            yield OrderEvent(date, one.end_entry, one.end_moment, one.request, one, "FILL", trade)
-        elif one.end == "withdrawn":
-            yield OrderEvent(date, one.end_entry, one.end_moment, one.request, one, "CAME")
-        elif one.end not in ("replaced", "standing"):
-            yield OrderEvent(date, one.end_entry, one.end_moment, one.request, one, "CAMO")

@@ -1,4 +1,4 @@
-"""The seal of a log: what stands in it, signed with an Ed25519 key by openssl.
+"""The seal of a log: what stands in it, signed with an Ed25519 key.
 
 A seal is text. It has the hash of the last entry, from which all others follow, and that of
 each hundredth, so that a log whose chain was made anew is told by its place; how many rows say
@@ -11,13 +11,12 @@ import binascii
 import hashlib
 import itertools
 import os
-import subprocess
-import tempfile
 from collections.abc import Iterable, Iterator
-from dataclasses import dataclass
+from dataclasses import dataclass, replace
 from pathlib import Path
 from typing import Protocol
 
+from . import items
 from .chain import Chained
 from .door import DOOR
 from .faults import Unreadable, Wrong
@@ -25,7 +24,6 @@ from .findings import Finding
 from .frame import number_in
 from .log import Log
 from .records import Carried, Day, Messages
-from .streams import digest_of
 
 TITLE = "mireseason-seal 1"
 SIGNATURE = "signature "
@@ -87,7 +85,9 @@ def more_of(block: Carried) -> Iterable[bytes]:
 
 def write_seal(what: Sealed, key: Path, path: Path) -> None:
     """Signs and writes a seal. One that stands there is evidence, and stays."""
-    signature = base64.b64encode(sign(what.text, key))
+    from .signing import private_key
+
+    signature = base64.b64encode(private_key(key).sign(what.text))
     data = what.text + SIGNATURE.encode() + signature + b"\n"
     try:
         write_new(path, data)
@@ -114,6 +114,9 @@ def write_new(path: Path, data: bytes) -> None:
 
 def read_seal(path: Path, key: Path) -> Sealed:
     """Reads a seal and its signature; Wrong where that is not the key's."""
+    from .signing import is_signed, public_key
+
+    public = public_key(key)
     try:
         text = path.read_bytes()
     except OSError as fault:
@@ -125,7 +128,7 @@ def read_seal(path: Path, key: Path) -> Sealed:
         signature = base64.b64decode(last.strip(), validate=True)
     except binascii.Error:
         raise Wrong("%s: its signature is no base64" % path.name) from None
-    if not verify(body, signature, key):
+    if not is_signed(body, signature, [public]):
         raise Wrong("%s: the signature is not that of the key" % path.name)
     return Sealed(tuple(body.decode("utf-8", "replace").removesuffix("\n").split("\n")))
 
@@ -175,7 +178,8 @@ def compared(seal: Sealed, now: Sealed, kept: Kept) -> Iterator[Finding]:
     if seal != now:
         found = [*compared_entries(seal, now, kept), *compared_door(seal, now, kept)]
         found += compared_messages(seal, now, kept)
-        yield from found or [Finding("entries", "the log is not the one that was sealed")]
+        found = found or [Finding("entries", "the log is not the one that was sealed")]
+        yield from (replace(one, named_items=(items.SUPERVISOR,)) for one in found)
 
 
 def compared_door(seal: Sealed, now: Sealed, kept: Kept) -> Iterator[Finding]:
@@ -240,59 +244,3 @@ def at_the_end(whole: int, last: int, there: int) -> str:
 
 def between(first: int, last: int) -> str:
     return "from entry %d to %d they are not those that were sealed" % (first, last)
-
-
-@dataclass(frozen=True)
-class SumsJob:
-    """The SHA-256 of some files of a folder, as sha256sum reads them, in a process of its own."""
-
-    folder: Path
-    paths: tuple[Path, ...]
-
-    def __call__(self) -> str:
-        lines = ["%s  %s\n" % (digest_of(one), one.relative_to(self.folder)) for one in self.paths]
-        return "".join(lines)
-
-
-def write_sums(folder: Path, text: bytes, key: Path | None) -> None:
-    """The sums of all files, and a signature of them."""
-    (folder / "SHA256SUMS").write_bytes(text)
-    if key is not None:
-        (folder / "SHA256SUMS.sig").write_bytes(sign(text, key))
-
-
-def sign(text: bytes, key: Path) -> bytes:
-    """The signature of a private key in PEM."""
-    with tempfile.NamedTemporaryFile() as file:
-        file.write(text)
-        file.flush()
-        return openssl(["pkeyutl", "-sign", "-rawin", "-inkey", str(key), "-in", file.name])
-
-
-def check_key(key: Path) -> None:
-    """Whether there is a private key, before what it signs is read for minutes."""
-    openssl(["pkey", "-in", str(key), "-noout"])
-
-
-def verify(text: bytes, signature: bytes, key: Path) -> bool:
-    """Whether a signature is that of a public key in PEM."""
-    openssl(["pkey", "-pubin", "-in", str(key), "-noout"])
-    with tempfile.NamedTemporaryFile() as file, tempfile.NamedTemporaryFile() as mark:
-        for target, data in ((file, text), (mark, signature)):
-            target.write(data)
-            target.flush()
-        words = ["pkeyutl", "-verify", "-rawin", "-pubin", "-inkey", str(key)]
-        words += ["-in", file.name, "-sigfile", mark.name]
-        done = subprocess.run(["openssl", *words], capture_output=True, check=False)
-        return done.returncode == 0
-
-
-def openssl(words: list[str]) -> bytes:
-    try:
-        done = subprocess.run(["openssl", *words], capture_output=True, check=False)
-    except OSError as fault:
-        raise Unreadable("openssl: %s" % fault) from None
-    if done.returncode != 0:
-        text = done.stderr.decode("utf-8", "replace").strip().splitlines()
-        raise Unreadable("openssl %s: %s" % (words[0], text[0] if text else "it fails"))
-    return done.stdout

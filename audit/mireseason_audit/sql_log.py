@@ -17,11 +17,14 @@ from .records import (
     Kept,
     Messages,
     Outgoing,
+    SealRow,
 )
 
 DOOR_FORM = 3  # of the tables: since it, a log says who connected
 SEAL_FORM = 4  # since it, it is sealed and signed
 EPOCH_FORM = 5  # since it, its sessions have what they keep, and not all that they sent
+# Since it, checkpoints are numbered without a gap, one says where a day ended, and seals have notes.
+END_FORM = 6
 ENTRY = "SELECT place, term, moment, firm, number, line, before, hash, %s FROM entry"
 DOOR_COLUMNS, NO_DOOR_COLUMNS = "received, connection", "NULL, NULL"
 EVENT = (
@@ -31,9 +34,13 @@ EVENT = (
 EVENTS = EVENT + " ORDER BY place"
 LOGONS = EVENT + " WHERE event = 'logon' AND firm = ? ORDER BY place"
 CHECKPOINTS = """SELECT checkpoint.number, checkpoint.term, checkpoint.place, entry.hash,
-    checkpoint.event, connection.hash, signature FROM checkpoint
+    checkpoint.event, connection.hash, signature, %s FROM checkpoint
     LEFT JOIN entry ON entry.place = checkpoint.place
-    LEFT JOIN connection ON connection.place = checkpoint.event ORDER BY checkpoint.number"""
+    LEFT JOIN connection ON connection.place = checkpoint.event %s ORDER BY checkpoint.number"""
+END_COLUMNS, NO_END_COLUMNS = "is_end, checkpoint.seal, seal.hash", "0, 0, NULL"
+END_JOIN = "LEFT JOIN seal ON seal.number = checkpoint.seal"
+SEALS = "SELECT number, place, event%s FROM seal ORDER BY number"
+NOTE_COLUMNS = ", notes, hash"
 LAST_SEAL = "SELECT place, event FROM seal ORDER BY number DESC LIMIT 1"
 LINES = "SELECT line FROM entry WHERE place > 0 ORDER BY place"
 SENT = "SELECT number, place, bytes FROM sent WHERE firm = ? ORDER BY number"
@@ -42,6 +49,9 @@ KEPT_ROWS = "SELECT number, sent, bytes, epoch, copy, dropped, type, moment FROM
 KEPT = KEPT_ROWS + " WHERE firm = ? ORDER BY epoch, number"
 KEPT_OWN = KEPT_ROWS + " WHERE firm = ? AND sent IS NULL ORDER BY epoch, number"
 TARGETS, EXPECTED = "SELECT firm, target FROM session", "SELECT firm, expected FROM session"
+# The highest of each firm: of the session itself, or of what it keeps.
+EPOCHS = """SELECT firm, max(epoch) FROM (SELECT firm, epoch FROM session
+    UNION ALL SELECT firm, epoch FROM outgoing) AS kept GROUP BY firm"""
 EXTENT = "SELECT count(*), min(place), max(place) FROM entry"
 NUMBERS = "SELECT place, number FROM entry WHERE number IS NOT NULL AND place IN (%s)"
 # From each firm to the next one by the index, since there are few and they have many rows.
@@ -73,6 +83,13 @@ class SqlLog(Log):
     @abstractmethod
     def bytes_of(value: Any) -> bytes:
         """The bytes of a column."""
+
+    def _take_form(self, form: int) -> None:
+        """Sets what a log of this form has."""
+        self.form = form
+        self.has_door, self.has_seals = form >= DOOR_FORM, form >= SEAL_FORM
+        self.has_epochs, self.numbers_checkpoints = form >= EPOCH_FORM, form >= END_FORM
+        self.has_notes = form >= END_FORM
 
     def rows(self, query: str, *values: object) -> Iterator[tuple[Any, ...]]:
         """The rows of a query, one by one."""
@@ -140,24 +157,37 @@ class SqlLog(Log):
         )
 
     def checkpoints(self) -> Iterator[Checkpoint]:
-        rows = self.rows(CHECKPOINTS) if self.has_seals else ()
+        has_ends = self.numbers_checkpoints
+        query = CHECKPOINTS % ((END_COLUMNS, END_JOIN) if has_ends else (NO_END_COLUMNS, ""))
+        rows = self.rows(query) if self.has_seals else ()
         return (self._checkpoint(*row) for row in rows)
 
     def _checkpoint(
         self, number: int, term: int, place: int, hash_: Any, event: int, *data: Any
     ) -> Checkpoint:
         """A checkpoint with each column as it should be."""
-        check_numbers("checkpoint", number, number, term, place, event)
-        event_hash, signature = data
-        hashes = hash_, event_hash
-        entry, door = (NO_HASH if one is None else self.bytes_of(one) for one in hashes)
-        return Checkpoint(number, term, place, entry, event, door, self.bytes_of(signature))
+        event_hash, signature, is_end, seal, notes_hash = data
+        check_numbers("checkpoint", number, number, term, place, event, is_end, seal)
+        hashes = hash_, event_hash, notes_hash
+        entry, door, notes = (NO_HASH if one is None else self.bytes_of(one) for one in hashes)
+        mark = self.bytes_of(signature)
+        return Checkpoint(number, term, place, entry, event, door, mark, is_end != 0, seal, notes)
+
+    def seals(self) -> Iterator[SealRow]:
+        query = SEALS % (NOTE_COLUMNS if self.has_notes else "")
+        for number, place, event, *notes in self.rows(query) if self.has_seals else ():
+            check_numbers("seal", number, number, place, event)
+            yield SealRow(number, place, event, *map(self.bytes_of, notes))
 
     def last_seal(self) -> tuple[int, int]:
         for place, event in self.rows(LAST_SEAL) if self.has_seals else ():
             check_numbers("seal", "of the end", place, event)
             return place, event
         return -1, 0
+
+    def notes_hash_at(self, seal: int) -> bytes:
+        rows = self.rows("SELECT hash FROM seal WHERE number = ?", seal) if self.has_notes else ()
+        return next((self.bytes_of(hash_) for hash_, in rows), b"")
 
     def last_event(self) -> int:
         ((place,),) = self.rows("SELECT max(place) FROM connection") if self.has_door else ((0,),)
@@ -246,6 +276,13 @@ class SqlLog(Log):
             found[as_text(firm)] = target
         return found
 
+    def epochs(self) -> dict[str, int]:
+        found = {}
+        for firm, epoch in self.rows(EPOCHS) if self.has_epochs else ():
+            check_numbers("session", as_text(firm), epoch)
+            found[as_text(firm)] = epoch
+        return found
+
     def firms(self) -> set[str]:
         tables = "sent", "outgoing"
         queries = [FIRMS.replace("TABLE_", table) for table in tables]
@@ -267,11 +304,11 @@ def are_of(columns: Any, types: Types) -> bool:
 
 def form_of(name: str, rows: Rows, old: int) -> int:
     """The one row of the table `form`: the form of old logs in this database, or a later one."""
-    forms = (old, DOOR_FORM, SEAL_FORM, EPOCH_FORM)
+    forms = (old, DOOR_FORM, SEAL_FORM, EPOCH_FORM, END_FORM)
     for form in forms:
-        if [tuple(row) for row in rows] == [(form,)]:
+        if [tuple(row) for row in rows] == [(form,)] and type(rows[0][0]) is int:
             return form
-    text = "%s: the form of its tables is none of %d, %d, %d and %d"
+    text = "%s: the form of its tables is none of %d, %d, %d, %d and %d"
     raise Unreadable(text % (name, *forms))
 
 

@@ -8,16 +8,26 @@ from typing import Any
 
 from .faults import Unreadable
 from .log import Log, Source
-from .sql_log import DOOR_FORM, EPOCH_FORM, SEAL_FORM, Rows, SqlLog, form_of
+from .log_form import FORMS, is_plain, short, strange_tables
+from .sql_log import Rows, SqlLog, form_of
 
 OLD_FORM = 1  # of the tables: without connections
 # So few rows, and pages of the file, that a processor's cache holds them and what is made of them.
 ROWS_AT_A_TIME = 128
 PAGES = "PRAGMA cache_size = -256"  # kilobytes
 MOST_BYTES = 17 << 20  # of a value: the greatest is entry 0, whose configuration has up to 16 MiB
-# What makes rows or values while it is read: a view, a virtual table, a computed column.
-MADE = """SELECT objects.name FROM pragma_table_list AS objects, pragma_table_xinfo(objects.name)
-    AS columns WHERE objects.schema = 'main' AND (objects.type IN ('view', 'virtual') OR columns.hidden > 0)"""
+# A table of a log that makes rows or values while it is read: a view, a virtual table, a computed
+# column. One of a name that no log has is never read.
+KINDS = "SELECT type FROM pragma_table_list WHERE schema = 'main' AND name = ? COLLATE NOCASE"
+HIDDEN = "SELECT name FROM pragma_table_xinfo(?) WHERE hidden > 0"
+OBJECTS = """SELECT type, name, tbl_name FROM sqlite_schema WHERE type <> 'table'
+    AND NOT (type = 'index' AND name LIKE 'sqlite_autoindex_%') ORDER BY type, name"""
+COLUMNS = """SELECT objects.name, columns.name FROM pragma_table_list AS objects LEFT JOIN
+    pragma_table_info(objects.name) AS columns ON objects.type = 'table'
+    WHERE objects.schema = 'main' AND objects.type NOT IN ('view', 'shadow')
+    AND objects.name NOT IN ('sqlite_schema', 'sqlite_master')"""
+DEFINITIONS = "SELECT name, sql FROM sqlite_schema WHERE type = 'table' ORDER BY name"
+MARKS = ("user_version", "application_id")  # of the file, 0 in one that a gateway made
 
 
 @dataclass(frozen=True)
@@ -50,9 +60,8 @@ class SqliteLog(SqlLog):
             forms = self._connection.execute("SELECT number FROM form LIMIT 2").fetchall()
         except sqlite3.Error as fault:
             raise Unreadable("%s is no log of the gateway: %s" % (source.path, fault)) from None
-        form = form_of(str(source.path), forms, OLD_FORM)
-        self.has_door, self.has_seals = form >= DOOR_FORM, form >= SEAL_FORM
-        self.has_epochs = form >= EPOCH_FORM
+        self._path = source.path
+        self._take_form(form_of(str(source.path), forms, OLD_FORM))
 
     def blocks(self, query: str, *values: object) -> Iterator[Rows]:
         try:
@@ -83,18 +92,46 @@ class SqliteLog(SqlLog):
             return value
         return b"" if value is None else str(value).encode()
 
+    def beyond_form(self) -> Iterator[str]:
+        tables: dict[str, list[str]] = {}
+        for table, column in self.rows(COLUMNS):
+            tables.setdefault(table, []).append(column or "")
+        yield from strange_tables(self.form, tables, has_terms=False)
+        own = FORMS[self.form]
+        for table, sql in self.rows(DEFINITIONS):
+            if table in own and not is_plain(str(sql)):
+                yield "another definition of table %s" % table
+        for kind, name, table in self.rows(OBJECTS):
+            words = "%s %s" % (kind, short(name))
+            yield words + (" of %s" % short(table) if table != name else "")
+        for mark in MARKS:
+            ((value,),) = self.rows("PRAGMA " + mark)
+            if value:
+                yield "%s %d" % (mark, value)
+        yield from self._bytes_behind()
+
+    def _bytes_behind(self) -> Iterator[str]:
+        """Bytes behind the last page of a file that is whole."""
+        ((pages,),), ((size,),) = self.rows("PRAGMA page_count"), self.rows("PRAGMA page_size")
+        more = self._path.stat().st_size - pages * size
+        if more > 0 and not has_more(self._path):
+            yield "%d bytes behind the last page" % more
+
     def close(self, failed: bool = False) -> None:
         self._connection.close()
 
 
 def check_tables(connection: sqlite3.Connection, path: Path) -> None:
-    """Unreadable where the file has more than tables: what is made while it is read may have no
-    end.
+    """Unreadable where a table of the log is none, or computes: what is made while it is read may
+    have no end.
     """
-    made = connection.execute(MADE).fetchone()
-    if made is not None:
-        text = "%s is no log of the gateway: %s is no table, or has a computed column"
-        raise Unreadable(text % (path, made[0]))
+    for name in sorted({name for tables in FORMS.values() for name in tables}):
+        kinds = [kind for kind, in connection.execute(KINDS, (name,))]
+        if kinds not in ([], ["table"]) or (
+            kinds and connection.execute(HIDDEN, (name,)).fetchone()
+        ):
+            text = "%s is no log of the gateway: %s is no table, or has a computed column"
+            raise Unreadable(text % (path, name))
 
 
 def fetched(cursor: sqlite3.Cursor) -> Iterator[Rows]:

@@ -15,14 +15,16 @@ from .day_pass import DayPass
 from .day_tables import SessionRow
 from .dictionary import Dictionary
 from .exchanges import Exchange, Told, exchanges
-from .facts import AskedFact
+from .facts import AskedFact, TradeFact
 from .findings import Finding
 from .log import Source
+from .notes import BUST, Act
 from .reading import Reader
 from .records import Day
 from .refusals import Refusal
 from .requests import Request, Requests, no_reason
 from .statistics import Statistics, statistics_of
+from .unusual import Kind, Seen, unusual
 
 NO_ANSWER = "no answer"
 
@@ -46,6 +48,9 @@ class Summary:
     statistics: Statistics = field(default_factory=Statistics)
     asked: dict[str, list[AskedFact]] = field(default_factory=dict)  # by the dealer
     sessions: dict[str, SessionRow] = field(default_factory=dict)
+    seen: Seen = field(default_factory=Seen)  # of what is unusual
+    trades: list[TradeFact] = field(default_factory=list)
+    voiding: dict[str, Act] = field(default_factory=dict)  # the acts that voided trades
     misnamed: list[Finding] = field(default_factory=list)  # trades told under other names
     entries: int = 0
     sweeps: int = 0
@@ -63,6 +68,15 @@ class Summary:
     @property
     def ends(self) -> Counter[str]:
         return Counter(request.end for request in self.requests)
+
+    @property
+    def unusual(self) -> list[Kind]:
+        return unusual(self.seen, self.requests, self.sessions.values())
+
+    @property
+    def without_entry(self) -> int:
+        """What was refused of orders and has no entry, which the record of orders counts, too."""
+        return sum(session.without_entry for session in self.sessions.values())
 
     @property
     def quotes(self) -> int:
@@ -117,11 +131,14 @@ class Summarizer:
         detail = refused.detail if refused else "it was no message of the venue, and was dropped"
         if refusal is not None and refusal.name and refusal.name not in why:
             detail = "%s %s" % (refusal.name, detail)
-        self.summary.faults[why] += 1
+        summary = self.summary
+        summary.faults[why] += 1
         said = self._reader.said(came.fields)
         text = " ".join([said.text, str(said.price or "")]).strip()
         fault = Fault(exchange.place, exchange.moment, came.firm, text, why, detail, about)
         self._book.put_fault(fault)
+        if refusal is not None and refusal.what == "hit":
+            summary.seen.take_hit(fault)
 
 
 @dataclass(frozen=True)
@@ -141,6 +158,7 @@ class SummaryJob:
             summarizer = Summarizer(self.day, reader, book, came_on, day_pass.reason_of)
             for exchange in exchanges(log, self.day):
                 summarizer.take(exchange, day_pass.take(exchange).refusal)
+            summarizer.summary.seen.read(log)
             book.finish()
             day_pass.end()
         return with_facts(summarizer.summary, day_pass)
@@ -156,6 +174,8 @@ def with_facts(summary: Summary, day_pass: DayPass) -> Summary:
         request.void = trade.void
     for asked in facts.asked:
         summary.asked[asked.dealer].append(asked)
-    summary.sessions = day_pass.sessions
+    summary.sessions, summary.trades = day_pass.sessions, facts.trades
+    acts = summary.seen.acts
+    summary.voiding = {act.what.removeprefix(BUST): act for act in acts if act.is_bust}
     summary.misnamed = list(misnamed(facts))
     return summary

@@ -3,6 +3,7 @@
 import csv
 import io
 import json
+import re
 from collections.abc import Callable, Iterable
 from dataclasses import dataclass
 from decimal import Decimal
@@ -10,12 +11,17 @@ from enum import Enum
 from pathlib import Path
 from typing import Generic, TextIO, TypeVar
 
+from .frame import directed
+
 Row = TypeVar("Row")
 Value = str | int | Decimal | None
 # A spreadsheet takes a text that begins so for a formula, in some languages by a letter of full
-# width, and a firm may have chosen the text.
-FORMULA = (*"=+-@\t\r\n", *"\uff1d\uff0b\uff0d\uff20", "'")
-ROWS_AT_ONCE = 1000
+# width, and a firm may have chosen the text. What stands behind a separator is a cell of its own
+# for a spreadsheet of a country that separates by another one.
+SIGNS = "=+\\-@\uff1d\uff0b\uff0d\uff20'"
+BEGINS = re.compile(r"[ \u00a0]*[\t\r\n%s]" % SIGNS)
+BEHIND = re.compile(r"([;,|\t\r\n][ \u00a0\t\r\n]*)(?=[%s])" % SIGNS)
+GUARDED = re.compile(r"([;,|\t\r\n][ \u00a0\t\r\n]*)'")
 
 
 class Form(Enum):
@@ -67,7 +73,7 @@ class TableWriter(Generic[Row]):
         else:
             self._file.write(",\n" if self._lines else "[\n")
             objects = dict(zip(self._table.names, map(json_of, values)))
-            self._file.write(json.dumps(objects, ensure_ascii=False))
+            self._file.write(directed(json.dumps(objects, ensure_ascii=False)))
         self._lines += 1
 
     def end(self) -> None:
@@ -76,19 +82,20 @@ class TableWriter(Generic[Row]):
 
 
 def cell_of(value: Value) -> str:
-    """A value as a cell. A text that a spreadsheet would take for a formula, or that begins with
-    an apostrophe itself, has an apostrophe in front.
+    """A value as a cell. A text that a spreadsheet would take for a formula, as a whole or behind a
+    separator, has an apostrophe there, as has one that begins with an apostrophe itself.
     """
     if value is None:
         return ""
     if isinstance(value, str):
-        return "'" + value if value.startswith(FORMULA) else value
+        text = BEHIND.sub(r"\1'", directed(value))
+        return "'" + text if BEGINS.match(value) else text
     return decimal_text(value) if isinstance(value, Decimal) else "%d" % value
 
 
 def text_in(cell: str) -> str:
-    """The text that a cell has: what `cell_of` made is taken back."""
-    return cell.removeprefix("'") if cell.startswith("'") else cell
+    """The text that a cell has: the apostrophes that `cell_of` put there are taken away."""
+    return GUARDED.sub(r"\1", cell[1:] if cell.startswith("'") else cell)
 
 
 def json_of(value: Value) -> "str | int | None":

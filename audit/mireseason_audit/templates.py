@@ -7,6 +7,7 @@ import jinja2
 from markupsafe import Markup
 
 from .bonds import Bond, bonds_of
+from .frame import directed
 from .prices import Price, quantity_of
 from .records import Day
 
@@ -20,6 +21,11 @@ def quantity_text(text: str) -> str:
     """A whole number with a space between thousands; what is none stays as it is."""
     value = quantity_of(text)
     return text if value is None else format(value, ",").replace(",", "\u202f")
+
+
+def shown(value: object) -> object:
+    """What stands in a page: of a text its letters in their order."""
+    return directed(value) if type(value) is str else value
 
 
 def date_text(text: str) -> str:
@@ -38,6 +44,19 @@ class Prices:
     def html(self, price: Price | str | None, bond: str) -> Markup:
         text = price.text if isinstance(price, Price) else price
         return price_of_text(text, bond in self._in_32nds) if text else Markup("")
+
+
+class BondNames:
+    """Writes bonds: the identifier, and beside it the name where the configuration has one."""
+
+    def __init__(self, bonds: dict[str, Bond]) -> None:
+        self._names = {bond.id: bond.name for bond in bonds.values() if bond.name}
+
+    def html(self, bond: str) -> Markup:
+        name = self._names.get(bond)
+        return (
+            Markup("%s") % bond if name is None else Markup("%s <small>%s</small>") % (bond, name)
+        )
 
 
 @lru_cache(maxsize=4096)
@@ -63,9 +82,11 @@ class Templates:
             trim_blocks=True,
             lstrip_blocks=True,
             undefined=jinja2.StrictUndefined,
+            finalize=shown,
         )
         self._environment.filters["quantity"] = quantity_text
         self._environment.filters["price"] = Prices(bonds_of(day)).html
+        self._environment.filters["bond"] = BondNames(bonds_of(day)).html
         self._environment.filters["capitalize_first"] = capitalize_first
         self._environment.filters["date"] = date_text
 

@@ -6,7 +6,7 @@ from dataclasses import dataclass
 
 from .faults import Unreadable
 from .log import Log, Source
-from .records import Carried, Checkpoint, ConnectionEvent, Entries, Entry, Messages
+from .records import Carried, Checkpoint, ConnectionEvent, Entries, Entry, Messages, SealRow
 
 
 def up_to(block: Entries, last: int) -> Entries | None:
@@ -22,10 +22,13 @@ def up_to(block: Entries, last: int) -> Entries | None:
 class UntilLog(Log):
     """Shows of another log the entries up to a place, and what was sent for them."""
 
+    is_part = True
+
     def __init__(self, log: Log, last: int) -> None:
         self._log, self._last = log, last
         self.has_chain, self.has_door = log.has_chain, log.has_door
         self.has_seals, self.has_epochs = log.has_seals, log.has_epochs
+        self.numbers_checkpoints = log.numbers_checkpoints
 
     def entry_blocks(self) -> Iterator[Entries]:
         for block in self._log.entry_blocks():
@@ -39,13 +42,22 @@ class UntilLog(Log):
         events = self._log.connection_events()
         return itertools.takewhile(lambda event: event.entry <= self._last, events)
 
+    def seals(self) -> Iterator[SealRow]:
+        return itertools.takewhile(lambda row: row.place <= self._last, self._log.seals())
+
     def last_seal(self) -> tuple[int, int]:
         """As far as it is sealed now: what comes later is sealed later."""
         place, event = self._log.last_seal()
         return min(place, self._last), min(event, self.last_event())
 
+    def notes_hash_at(self, seal: int) -> bytes:
+        return self._log.notes_hash_at(seal)
+
     def last_event(self) -> int:
         return max((event.place for event in self.connection_events()), default=0)
+
+    def beyond_form(self) -> Iterator[str]:
+        return self._log.beyond_form()
 
     def checkpoints(self) -> Iterator[Checkpoint]:
         return (one for one in self._log.checkpoints() if one.place <= self._last)

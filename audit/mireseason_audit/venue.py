@@ -15,6 +15,7 @@ from typing import IO, Self
 from .closing import Closing
 from .faults import Unreadable
 from .parents import bound_to
+from .proved import sum_of
 from .records import SOH
 from .streams import BLOCK, FEED, Growing
 
@@ -70,6 +71,15 @@ class Venue:
             raise self.absent(fault) from None
         lines = done.stdout.decode("utf-8", "replace").splitlines()
         return lines[0] if done.returncode == 0 and lines else "unknown"
+
+    def digest(self) -> str:
+        """The SHA-256 of the program's file; empty where it is no file alone."""
+        if len(self.words) != 1 or not Path(self.words[0]).is_file():
+            return ""
+        try:
+            return sum_of(Path(self.words[0]))
+        except OSError as fault:
+            raise self.absent(fault) from None
 
 
 class Feeder(threading.Thread):

@@ -12,12 +12,15 @@ import re
 from collections.abc import Callable, Iterator, Mapping
 from typing import NamedTuple
 
+from .differing import FRAME as FRAME_TAGS
+from .differing import differing
 from .findings import Finding
 from .frame import CHECKSUM_BYTES, fault_of, fields_of
 from .records import SOH, Outgoing, Sent
 
 IN_FRONT_OF = {b"S": b"\x01537=", b"AI": b"\x01297=", b"R": b"\x01453="}  # where 60 stands
 REJECT = b"3"
+HEADER_TAGS = FRAME_TAGS | {34, 43, 49, 52, 56, 97, 122}  # the session's own
 OWN = re.compile(rb"8=FIXT\.1\.1\x019=\d+\x0135=[0-5A]\x01")  # what a session sends of itself
 REFERS = b"\x0145="
 CARRIED = b"\x011181="
@@ -164,8 +167,24 @@ class WireReader:
             return None
         text = "message %d of its session carries another text" % row.number
         return Finding(
-            row.firm, text, *where, expected.bytes, row.bytes, "`sent` has", "the session has"
+            row.firm,
+            text,
+            *where,
+            expected.bytes,
+            row.bytes,
+            "`sent` has",
+            "the session has",
+            differing=self._differing(row.bytes, expected),
         )
+
+    def _differing(self, data: bytes, expected: Sent) -> str:
+        """In which fields of its body a message is another than what it should carry."""
+        parts = parts_of(expected.bytes)
+        if parts is None:
+            return ""
+        number = self._session_number(expected.place) if parts.kind == REJECT else None
+        should = b"35=" + parts.kind + carried(parts, number)
+        return differing(should, data, HEADER_TAGS, "%s in `sent`, %s left")
 
     def _carries(self, data: bytes, expected: Sent) -> bool:
         parts = parts_of(expected.bytes)

@@ -13,6 +13,9 @@ import tempfile
 from dataclasses import dataclass
 from pathlib import Path
 
+from mireseason_audit.faults import Unreadable
+from mireseason_audit.signing import private_key, public_pem
+
 from .database import Log
 from .day_file import digest_of_file, first_line, on_disk, write_day
 from .faults import Fault, one_line
@@ -55,14 +58,15 @@ class Copies:
         head, configuration = parts_of(first_line(part / given.log))
         check_day(head, configuration, venue, day)
 
-    def finish(self, schema: str, folder: Path) -> DayCopy:
+    def finish(self, schema: str, venue: str, day: str, folder: Path) -> DayCopy:
         """Has a copy that was begun checked and sealed, and gives it its name."""
         part = part_of(folder)
         file = file_of(part, schema)
+        self.put_checkpoints(part, venue, day)
         head, configuration = parts_of(first_line(file))
         (part / "venue.toml").write_bytes(configuration)
         program = self.put_program(part, head)
-        status, verdict = self.check(part, file, program)
+        status, verdict = self.check(part, file, [*self.venue(program), *of_day(venue, day)])
         if status == 0:
             self.seal(file)
         # Whoever reads a log that a gateway wrote leaves these beside it, with nothing in them.
@@ -70,6 +74,11 @@ class Copies:
             file.with_name(file.name + end).unlink(missing_ok=True)
         self.close(part, folder)
         return DayCopy(program is not None, verdict)
+
+    def put_checkpoints(self, part: Path, venue: str, day: str) -> None:
+        """Puts what gateways have signed beside the log, where it came by another way than that."""
+        for path in self.settings.checkpoints_of(venue, day):
+            shutil.copyfile(path, part / ("received-" + path.name))
 
     def put_program(self, part: Path, head: dict[str, str]) -> Path | None:
         """Puts the venue's program beside the log; None where it is another by now."""
@@ -81,9 +90,9 @@ class Copies:
         copy.chmod(0o550)
         return copy if sum_of(copy) == head["program"] else None
 
-    def check(self, part: Path, file: Path, program: Path | None) -> tuple[int, str]:
+    def check(self, part: Path, file: Path, words: list[str]) -> tuple[int, str]:
         """The audit's status and its verdict; what it says stands in the folder."""
-        done = self.audited("check", file, *self.venue(program), *self.gateway_keys())
+        done = self.audited("check", file, *words, *self.signed(part))
         lines = (done.stdout + done.stderr).splitlines()
         (part / REPORT).write_text("".join(line + "\n" for line in lines))
         return done.returncode, lines[-1] if lines else "it says nothing"
@@ -111,39 +120,41 @@ class Copies:
         part.rename(folder)
         on_disk(folder.parent)
 
-    def check_anew(self, digest: str, schema: str, folder: Path) -> None:
+    def check_anew(self, digest: str, schema: str, folder: Path, words: list[str]) -> None:
         """Fault where a copy is not whole, not sealed, not as it should be, or has not the rows of this digest. All of it is
         read anew: one that was lost or changed meanwhile takes no log with it.
         """
         check_sums(folder)
         file = file_of(folder, schema)
+        program = folder / self.settings.program.name
+        words = [*words, *self.venue(program if program.is_file() else None)]
         with tempfile.TemporaryDirectory(prefix="mireseason-") as name:
             public = Path(name) / "seal.pub"
-            words = [
-                "openssl",
-                "pkey",
-                "-in",
-                str(self.settings.key),
-                "-pubout",
-                "-out",
-                str(public),
-            ]
-            subprocess.run(words, check=True, capture_output=True, timeout=60)
-            program = folder / self.settings.program.name
-            venue = self.venue(program if program.is_file() else None)
-            done = self.audited("check", file, *venue, *self.gateway_keys(), "--key", str(public))
+            public.write_bytes(self.public_half())
+            words += ["--key", str(public)]
+            done = self.audited("check", file, *words, *self.signed(folder))
         if done.returncode != 0:
             text = (done.stdout + done.stderr).strip().splitlines() or ["it says nothing"]
             raise Fault("the audit of its copy: %s" % text[-1])
         if digest_of_file(file) != digest:
             raise Fault("its copy is another")
 
+    def public_half(self) -> bytes:
+        """The public half of the key that seals."""
+        try:
+            return public_pem(private_key(self.settings.key))
+        except Unreadable as fault:
+            raise Fault(str(fault)) from None
+
     def venue(self, program: Path | None) -> list[str]:
         """The program by which the audit goes: the copy's own, or that of this host."""
         return ["--venue", str(program or self.settings.program)]
 
-    def gateway_keys(self) -> list[str]:
-        return [word for key in self.settings.gateways for word in ("--gateway-key", str(key))]
+    def signed(self, folder: Path) -> list[str]:
+        """By what the audit sees what gateways have signed: their keys, and what of it stands beside the log."""
+        kept = sorted([*folder.glob("*.checkpoint"), *folder.glob("*.checkpoints")])
+        words = [word for key in self.settings.gateways for word in ("--gateway-key", str(key))]
+        return words + [word for path in kept for word in ("--checkpoint", str(path))]
 
     def audited(self, command: str, file: Path, *words: str) -> "subprocess.CompletedProcess[str]":
         call = [*self.settings.audit, command, str(file), *words]
@@ -159,6 +170,11 @@ class Copies:
             )
         except (OSError, subprocess.TimeoutExpired) as fault:
             raise Fault("mireseason-audit: %s" % one_line(fault)) from None
+
+
+def of_day(venue: str, day: str) -> list[str]:
+    """The day and the venue that a copy has to be of, for the audit."""
+    return ["--date", day, "--venue-name", venue or "-"]
 
 
 def new_part(folder: Path) -> Path:

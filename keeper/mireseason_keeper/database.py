@@ -1,6 +1,6 @@
 """The logs in PostgreSQL, each a schema of its own, as the role `keeper` sees them.
 
-It reads all of them. By two functions of deploy/config/database.sql, which run with the owner's role, it makes the tables of
+It reads all of them. By two functions of install/hosts/config/database.sql, which run with the owner's role, it makes the tables of
 a day and removes those of an old one; else it changes nothing.
 """
 
@@ -9,6 +9,7 @@ import re
 from collections.abc import Iterator, Sequence
 from contextlib import closing, contextmanager
 from dataclasses import dataclass
+from datetime import timedelta
 from typing import Any
 
 import psycopg2
@@ -32,6 +33,10 @@ END = """SELECT (SELECT seen < clock_timestamp() - interval '{silent}' FROM spea
     (SELECT max(place) FROM checkpoint), (SELECT max(event) FROM checkpoint)""".format(
     silent=SILENT
 )
+# What the defaults of the role would have ended: a role may set its own otherwise.
+LONG = """SELECT pid FROM pg_stat_activity WHERE usename = %s AND backend_type = 'client backend'
+    AND (state = 'active' AND clock_timestamp() - query_start > %s
+        OR state LIKE 'idle in transaction%%' AND clock_timestamp() - state_change > %s)"""
 
 
 @dataclass(frozen=True)
@@ -143,6 +148,12 @@ class Database:
     def remove(self, schema: str) -> None:
         """Removes a day, whose tables nobody may have locked."""
         self._asked("SELECT mireseason.remove_log(%s)", schema)
+
+    def end_long(self, role: str, longest: timedelta) -> int:
+        """Ends the sessions of a role whose statement, or whose pause within a transaction, is longer; how many."""
+        query = "SELECT count(*) FILTER (WHERE pg_terminate_backend(pid)) FROM (%s) AS long" % LONG
+        ((count,),) = self._asked(query, role, longest, longest)
+        return int(count)
 
     @contextmanager
     def reading(self, schema: str) -> Iterator[Log]:

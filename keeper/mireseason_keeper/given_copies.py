@@ -16,7 +16,7 @@ from dataclasses import dataclass
 from pathlib import Path
 from typing import BinaryIO
 
-from mireseason_audit.toml_text import table_of
+from bounded_toml import table_of
 
 from .day_file import hasty_reader_of, on_disk
 from .faults import Fault, one_line

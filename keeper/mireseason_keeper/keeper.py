@@ -5,13 +5,15 @@ from collections.abc import Callable
 from dataclasses import dataclass, field
 from datetime import datetime, timedelta, timezone
 
-from .copies import REPORT, Copies
+from .copies import REPORT, Copies, of_day
 from .database import Database
 from .day_file import digest_of_log
 from .faults import Fault
 from .settings import Settings
 
 AHEAD = 2  # days whose tables are there before they open: that of now and the next one
+READER = "reader"  # the role of supervisors
+LONGEST_READING = timedelta(minutes=10)  # of a statement of theirs
 PATIENCE = timedelta(minutes=10)  # in which a gateway closes the log of a day that has ended
 
 
@@ -37,6 +39,7 @@ class Keeper:
 
     def run(self) -> Counts:
         """Each venue by itself: a fault of one keeps no other from being done."""
+        self.end_long_readers()
         logs = self.database.logs()
         for venue in self.settings.venues:
             self.make_next(venue, logs)
@@ -52,6 +55,16 @@ class Keeper:
                 if day in old:
                     self.remove(venue, day)
         return self.counts
+
+    def end_long_readers(self) -> None:
+        """On the primary too, where an older installation let them in."""
+        for connection in filter(None, (self.settings.postgres, self.settings.readers)):
+            try:
+                count = Database(connection).end_long(READER, LONGEST_READING)
+                if count:
+                    say("readers ended count=%d: a statement took longer than ten minutes" % count)
+            except Fault as fault:
+                self.fail('readers are not looked at cause="%s"' % fault)
 
     def make_next(self, venue: str, logs: list[str]) -> None:
         """The tables of the day that goes on or opens next, and of the one behind it."""
@@ -91,7 +104,7 @@ class Keeper:
                 if not end.is_closed and self.now() < self.settings.days.end_of(day) + PATIENCE:
                     return say("day is not closed yet log=%s" % schema)
                 self.copies.begin(log, schema, folder)
-            made = self.copies.finish(schema, folder)
+            made = self.copies.finish(schema, venue, day, folder)
         except (Fault, OSError) as fault:
             return self.fail('day is not copied log=%s cause="%s"' % (schema, fault))
         self.counts.without_copy -= 1
@@ -119,7 +132,7 @@ class Keeper:
         try:
             with self.database.reading(schema) as log:
                 digest = digest_of_log(log)
-            self.copies.check_anew(digest, schema, folder)
+            self.copies.check_anew(digest, schema, folder, of_day(venue, day))
             self.database.remove(schema)
             say("log removed log=%s copy=%s" % (schema, folder))
         except (Fault, OSError) as fault:

@@ -71,7 +71,7 @@ class SealingKeeper:
         """Makes a copy of its own, which no gateway can reach, and has it checked and sealed."""
         copies = Copies(self.settings)
         copies.take(given, venue, day, folder)
-        made = copies.finish(given.log.removesuffix(".db"), folder)
+        made = copies.finish(given.log.removesuffix(".db"), venue, day, folder)
         say('day copied log=%s to=%s audit="%s"' % (given.log, folder, made.verdict))
         if not made.has_program:
             say("day is copied without its program log=%s" % given.log)

@@ -3,7 +3,6 @@
 import os
 import re
 import stat
-import tomllib
 from collections.abc import Callable, Mapping
 from dataclasses import dataclass
 from datetime import date, timedelta
@@ -11,22 +10,23 @@ from pathlib import Path
 from typing import Any, TypeVar
 from zoneinfo import ZoneInfo, ZoneInfoNotFoundError
 
+from bounded_toml import LONGEST, table_of
+
 from .faults import Fault
 from .trading_days import A_DAY, WEEKDAYS, TradingDays
 
 ALONE = ""  # the name of a venue that is the only one
 KEYS = {
-    "log": {"postgres", "schema", "copies", "file"},
+    "log": {"postgres", "schema", "readers", "copies", "file"},
     "venue": {"names", "program"},
     "day": {"zone", "opens", "ends", "weekdays", "holidays"},
     "copies": {"folder", "keep", "sealed"},
-    "seal": {"key", "gateways"},
+    "seal": {"key", "gateways", "checkpoints"},
     "audit": {"command"},
     "metrics": {"file"},
 }
 TIME = re.compile(r"([0-9]{2}):([0-9]{2})")
 VENUE = re.compile(r"[a-z][a-z0-9_]{0,30}")
-LONGEST_FILE = 1 << 20  # bytes of a file that somebody wrote by hand
 Value = TypeVar("Value")
 
 
@@ -35,6 +35,7 @@ class Settings:
     """All that keeper.toml says."""
 
     postgres: str  # a connection string of libpq; empty where the logs are files of SQLite
+    readers: str  # the same of the server that readers read from; empty where there is none
     given: Path | None  # where the gateways put the copies of those; None where they are in PostgreSQL
     schema: str  # the name of a day's log, with {date}, and with {venue} where there are several
     venues: tuple[str, ...]
@@ -45,6 +46,7 @@ class Settings:
     sealed: Path | None  # where a gateway reads which days are sealed
     key: Path  # a private Ed25519 key, which no gateway's host has
     gateways: tuple[Path, ...]  # the gateways' public keys
+    checkpoints: Path | None  # where what gateways sign comes, by another way than their logs
     audit: tuple[str, ...]  # the words of mireseason-audit
     metrics: Path | None
 
@@ -55,6 +57,14 @@ class Settings:
     def copy_of(self, venue: str, day: str) -> Path:
         """The folder of its copy."""
         return self.folder / (day if venue == ALONE else "%s-%s" % (day, venue))
+
+    def checkpoints_of(self, venue: str, day: str) -> list[Path]:
+        """The files with a day's checkpoints that have come: named as a gateway names its own."""
+        if self.checkpoints is None:
+            return []
+        name = "%s-%s.checkpoint" % (venue or "day", day)
+        files = [self.checkpoints / (name + end) for end in ("", "s")]
+        return [path for path in files if path.is_file()]
 
     def day_of(self, venue: str, log: str) -> str | None:
         """The date of a log of this venue; None where it is none."""
@@ -75,7 +85,7 @@ def is_date(text: str) -> bool:
 def read_settings(path: Path) -> Settings:
     """Reads keeper.toml; Fault with the file, the key and what is wrong with it."""
     try:
-        table = tomllib.loads(text_of(path))
+        table = table_of(text_of(path).encode())
     except ValueError as fault:
         raise Fault("%s: %s" % (path, fault)) from None
     check_keys(path, table)
@@ -85,6 +95,7 @@ def read_settings(path: Path) -> Settings:
     venues = tuple(part.texts("venue", "names", [ALONE]))
     return Settings(
         postgres="" if is_given else part.text("log", "postgres"),
+        readers="" if is_given else part.text("log", "readers", ""),
         given=part.file("log", "copies") if is_given else None,
         schema=name_of_logs(part, venues),
         venues=venues,
@@ -95,6 +106,9 @@ def read_settings(path: Path) -> Settings:
         sealed=part.file("copies", "sealed") if "sealed" in table["copies"] else None,
         key=part.file("seal", "key"),
         gateways=tuple(path.parent / name for name in part.texts("seal", "gateways")),
+        checkpoints=(
+            part.file("seal", "checkpoints") if "checkpoints" in table.get("seal", {}) else None
+        ),
         audit=tuple(part.texts("audit", "command", ["/usr/bin/mireseason-audit"])),
         metrics=part.file("metrics", "file") if "metrics" in table else None,
     )
@@ -107,11 +121,11 @@ def text_of(path: Path) -> str:
         with open(number, encoding="utf-8") as file:
             if not stat.S_ISREG(os.fstat(number).st_mode):
                 raise Fault("%s: is no plain file" % path)
-            text = file.read(LONGEST_FILE + 1)
+            text = file.read(LONGEST + 1)
     except (OSError, ValueError) as fault:
         raise Fault("%s: %s" % (path, fault)) from None
-    if len(text) > LONGEST_FILE:
-        raise Fault("%s: is longer than %d bytes" % (path, LONGEST_FILE))
+    if len(text) > LONGEST:
+        raise Fault("%s: is longer than %d bytes" % (path, LONGEST))
     return text
 
 
@@ -128,7 +142,7 @@ def check_logs(path: Path, table: Mapping[str, Any]) -> None:
     log, copies = table.get("log", {}), table.get("copies", {})
     if ("postgres" in log) == ("copies" in log):
         raise Fault("%s: [log] has postgres, or copies" % path)
-    other = {"schema"} if "copies" in log else {"file"}
+    other = {"schema", "readers"} if "copies" in log else {"file"}
     for key in other & log.keys():
         raise Fault("%s: [log] %s is of the other kind of logs" % (path, key))
     for key in ({"keep"} if "copies" in log else {"sealed"}) & copies.keys():
