@@ -1,6 +1,11 @@
 // Quantities, spans of time and times of the day, as traders write them.
 
-export const amount = quantity => quantity.toLocaleString('en-US');
+const whole = new Intl.NumberFormat('en-US'); // once: what a tick of fifty cards would take longest for
+export const amount = quantity => whole.format(quantity);
+
+// Of a currency, with two places.
+const twoPlaces = new Intl.NumberFormat('en-US', {minimumFractionDigits: 2, maximumFractionDigits: 2});
+export const money = value => twoPlaces.format(value);
 
 // With a sign, of what was bought less what was sold.
 export const signed = quantity => (quantity > 0 ? '+' : quantity < 0 ? '\u2212' : '') + amount(Math.abs(quantity));
@@ -16,8 +21,13 @@ export function parseAmount(entry) {
 
 // Why a quantity is none, in words.
 export function whyNoAmount(entry) {
-  return entry.includes(',') ? `${entry.trim()} has a comma that parts no thousands: write 0.5m or 500,000.`
-    : 'A quantity is more than 0: 2,000,000, 2m or 500k.';
+  const typed = entry.trim();
+  if (typed.includes(',')) return `${typed} has a comma that parts no thousands: write 0.5m or 500,000.`;
+  if (/^-|^[0.]+\s*[a-z]*$/i.test(typed)) return 'A quantity is more than 0: 2,000,000, 2m or 500k.';
+  if (/^\d{0,6}\.\d{1,6}$/.test(typed)) {
+    return `${typed} is no whole number: write ${typed}m or ${amount(Math.round(Number(typed) * 1e6))}.`;
+  }
+  return `${typed} is no quantity: write 2,000,000, 2m or 500k.`;
 }
 
 // In seconds, of 90, 2:00, 1:30:00, 2m or 1h. Null where it is none.

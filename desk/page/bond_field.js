@@ -81,6 +81,8 @@ export class BondField {
     }
     event.preventDefault();
   }
+  // Whether what is typed is in no bond's name or identifier.
+  isUnknown() { return !this.bond && this.input.value.trim() !== '' && !matches(this.bonds, this.input.value).length; }
   clear() {
     this.bond = null;
     this.input.value = '';

@@ -1,17 +1,19 @@
 // Rows as a file for a spreadsheet.
 
+// Where a cell begins: at the text's own begin, and behind what parts cells in spreadsheets of other countries.
+const formula = /(^|[;|\t]\s*)(?=[=+\-@\t\r\n\uff1d\uff0b\uff0d\uff20])/g;
+
 // A text that a spreadsheet would take for a formula, in some languages by a letter of full width, gets an apostrophe.
 function cell(value) {
-  const text = String(value ?? '');
-  const safe = typeof value === 'string' && /^[=+\-@\t\r\n\uff1d\uff0b\uff0d\uff20]/.test(text) ? `'${text}` : text;
-  return /[",\r\n]/.test(safe) ? `"${safe.replaceAll('"', '""')}"` : safe;
+  const text = String(value ?? ''), safe = typeof value === 'string' ? text.replace(formula, "$1'") : text;
+  return /[",;\t\r\n]/.test(safe) ? `"${safe.replaceAll('"', '""')}"` : safe;
 }
 
 export const csv = rows => rows.map(row => row.map(cell).join(',')).join('\r\n') + '\r\n';
 
-export function save(name, text) {
+export function save(name, text, type = 'text/csv') {
   const link = document.createElement('a');
-  link.href = URL.createObjectURL(new Blob([text], {type: 'text/csv'}));
+  link.href = URL.createObjectURL(new Blob([text], {type}));
   link.download = name;
   link.click();
   setTimeout(() => URL.revokeObjectURL(link.href), 60_000);

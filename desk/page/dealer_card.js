@@ -1,16 +1,17 @@
 // A request that a dealer is shown: a price to send or to replace, and how it ended.
-import {h, set, show} from './dom.js';
-import {decimal, other, parse, text, thirtySeconds} from './price.js';
-import {amount, clock, span} from './amounts.js';
+import {h, keepFocus, looksDead, set, show} from './dom.js';
+import {decimal, inMode, other, parse, text, thirtySeconds} from './price.js';
+import {amount, clock, money, span} from './amounts.js';
 import {Card} from './card.js';
 import {isOver, liveQuote} from './model.js';
-import {twoPresses} from './presses.js';
+import {label, twoPresses} from './presses.js';
+import {questionOf, whyTooMuch} from './price_guard.js';
+import {Claim} from './claim.js';
+import {TypedWord} from './typed_word.js';
+import {WorkedOut, parseYield, percent} from './worked_out.js';
 
-const far = 256;          // a price a point away from the last one asks again
-const veryFar = 3 * 256;  // and without a last one, three points from par and from all that was seen
-const par = 100 * 256;
 const confirmAfter = 600; // milliseconds: a press before that was no answer to the question
-const points = difference => `${text(Math.abs(difference))} ${Math.abs(difference) === 256 ? 'point' : 'points'}`;
+const again = question => `${question.why}: Enter again if it is meant.`;
 const validities = [['0', 'to deadline'], ['10', '10 s'], ['30', '30 s'], ['60', '1 min'], ['300', '5 min']];
 
 export class DealerCard extends Card {
@@ -28,12 +29,17 @@ export class DealerCard extends Card {
     // Not guarded: a withdrawal is never refused.
     this.withdraw = h('button', {type: 'button', className: 'withdraw', onclick: () => this.act({do: 'withdraw'})}, 'Withdraw');
     this.decline = twoPresses('Decline', 'decline', () => this.act({do: 'decline'}));
+    this.decline.addEventListener('click', () => this.claim.isOthers() && this.say(`${this.claim.whose()}.`));
+    this.claim = new Claim(desk, command => this.act(command));
+    this.word = new TypedWord(() => this.deliver(this.sure.price), () => this.entry.focus());
+    this.worked = new WorkedOut(desk.link, this.bond, () => this.read());
     this.live = h('span', {className: 'live'});
     this.whom = h('b');
     this.form = h('div', {className: 'form'}, this.entry, this.seconds, this.button);
-    this.foot = h('div', {className: 'foot'}, this.echo, this.withdraw, this.decline);
-    this.node.append(this.head, h('p', {className: 'about'}, this.whom, ' ', this.isin, ' ', this.live), this.today,
-      this.form, this.foot, h('div', {className: 'foot said'}, this.text, this.close)); // words below: no button moves by them
+    this.foot = h('div', {className: 'foot'}, this.echo, this.claim.take, this.withdraw, this.decline);
+    this.node.append(this.head, h('p', {className: 'about'}, this.whom, ' ', this.isin, ' ', this.live), h('p', {className: 'quiet today'}, this.today),
+      this.help, this.form, this.foot, this.word.node, this.claim.node, // what comes and goes stands below: no button moves by it
+      h('div', {className: 'foot said'}, this.text, this.paper, this.close));
   }
   // Whether a person should look at it.
   wants() { return this.is() && !this.request.declined && !liveQuote(this.request) && !this.request.pending.length; }
@@ -72,38 +78,71 @@ export class DealerCard extends Card {
     this.anew();
   }
   read() {
-    const typed = this.entry.value.trim(), last = this.last(), isFault = this.isMissing || typed !== '';
-    const {price, why} = parse(typed, this.bond.grid);
-    set(this.echo, !isFault ? `steps of 1/${this.bond.grid}${last ? `, your last ${text(last)}` : ''}`
-      : why ?? `= ${/[-']/.test(typed) ? decimal(price) : thirtySeconds(price)}`);
-    this.echo.classList.toggle('why', isFault && price === undefined);
+    const typed = this.entry.value.trim(), isFault = this.isMissing || typed !== '', rate = parseYield(typed);
+    const {price, why} = rate === null ? parse(typed, this.bond.grid) : this.readYield(rate);
+    set(this.echo, !isFault ? `steps of 1/${this.bond.grid}${this.lastWords()}`
+      : why ?? `= ${/[-']/.test(typed) ? decimal(price) : thirtySeconds(price)}${this.worthOf(price)}`);
+    this.echo.classList.toggle('why', isFault && price === undefined && rate === null);
+  }
+  // A yield is no price yet: the nearest one on the grid is shown, and Enter puts it into the field.
+  readYield(rate) {
+    if (!this.bond.priced) return {why: 'This desk has no data of the bond: type a price.'};
+    const answer = this.worked.of({yield: rate}, this.request.quantity);
+    if (!answer) return {why: `The price of ${rate} % \u2026`};
+    if (answer.why) return {why: answer.why};
+    const nearest = answer.price, price = `${text(nearest)} (${other(nearest)})`;
+    return {nearest, why: `${rate} %: the nearest price is ${price}, which yields ${percent(answer.yield)}. Enter takes it, and sends nothing.`};
+  }
+  worthOf(price) {
+    const answer = this.bond.priced && this.is() ? this.worked.of({price}, this.request.quantity) : null;
+    return answer && !answer.why ? `, yields ${percent(answer.yield)}, the buyer pays ${money(answer.amounts.total)} ${answer.currency}` : '';
+  }
+  // The trader's own last price, and the firm's where that is another.
+  lastWords() {
+    const {model} = this.desk, {bond, side} = this.request, name = model.hello.trader.name;
+    const own = model.lastQuote(bond, side, name), firms = model.lastQuote(bond, side);
+    const other = firms && firms !== own ? `, your firm\u2019s ${text(firms.price)} (${firms.trader})` : '';
+    return `${own ? `, your last ${text(own.price)}` : ''}${other}`;
   }
   last() { return this.desk.model.lastPrice(this.request.bond, this.request.side); }
   // Remembers the price that has to be confirmed, or none.
   ask(price, why = '') {
     this.sure = price === null ? null : {price, at: performance.now()};
     this.entry.dataset.asks = price === null ? '' : why;
+    if (price === null) this.word.hide();
   }
-  // Why a price has to be confirmed; an empty text where it need not be. The first one on a bond and side always has
-  // to: it may have been typed for another request.
+  // What is asked before a price is sent: whose the request is, and whether the price is meant. Null where nothing is.
   question(price) {
-    const last = this.last();
-    if (last !== undefined) return Math.abs(price - last) >= far ? `${points(price - last)} from your last, ${text(last)}` : '';
-    const seen = [par, ...this.desk.model.pricesOf(this.request.bond)];
-    if (seen.every(one => Math.abs(price - one) > veryFar)) return `Your first price on this bond is ${points(price - par)} from 100`;
-    const {side, quantity} = this.request;
-    return `Your first price: ${side === 'buy' ? 'OFFER' : 'BID'} ${amount(quantity)} ${this.bond.name} at ${text(price)}`;
+    const {model, link} = this.desk, asked = questionOf(model, this.request, price, link.now());
+    const whose = this.claim.isOthers() ? this.claim.whose() : '';
+    if (!asked && !whose) return null;
+    return {word: asked?.word ?? '', why: [whose, asked?.why].filter(Boolean).join('. ')};
   }
   send() {
+    const rate = parseYield(this.entry.value);
+    if (rate !== null) return this.takeYield(rate);
     const {price} = parse(this.entry.value, this.bond.grid);
     this.isMissing = price === undefined;
     if (this.isMissing) return this.say(''); // the line below the price says why
-    const question = this.question(price);
-    if (question && this.sure?.price !== price) {
-      this.ask(price, question);
-      return this.say(`${question}: Enter again if it is meant.`);
-    }
-    if (question && performance.now() - this.sure.at < confirmAfter) return;
+    const tooMuch = whyTooMuch(this.desk.model, this.request), question = this.question(price);
+    if (tooMuch) return this.say(tooMuch);
+    if (question && this.sure?.price !== price) return this.confirm(price, question);
+    if (question?.word) return this.word.focus();
+    if (question && performance.now() - this.sure.at < confirmAfter) return this.say(`That was too soon to be an answer. ${again(question)}`);
+    this.deliver(price);
+  }
+  confirm(price, question) {
+    this.ask(price, question.why);
+    this.say(question.word ? '' : again(question));
+    if (question.word) this.word.ask(question.word, question.why, this.name(question.word));
+  }
+  takeYield(rate) {
+    const {nearest} = this.readYield(rate);
+    if (nearest === undefined) return this.read();
+    this.entry.value = text(nearest);
+    this.anew();
+  }
+  deliver(price) {
     this.ask(null);
     const replaces = liveQuote(this.request)?.id ?? '';
     const command = {do: 'quote', request: this.request.id, price, seconds: Number(this.seconds.value), replaces};
@@ -117,6 +156,9 @@ export class DealerCard extends Card {
   }
   update(request) {
     this.request = request;
+    keepFocus(this.node, () => this.draw(request));
+  }
+  draw(request) {
     const buys = request.side === 'buy', is = this.is(), live = liveQuote(request);
     if (!is) {
       this.own = ''; // what counts now is how it ended
@@ -128,18 +170,22 @@ export class DealerCard extends Card {
     set(this.whom, `${request.investor} ${buys ? 'buys' : 'sells'}`);
     this.entry.setAttribute('aria-label', `${buys ? 'Offer' : 'Bid'} for ${amount(request.quantity)} ${this.bond.name}`);
     set(this.button, live ? 'Replace' : 'Send');
+    const of = `${this.name(buys ? 'OFFER' : 'BID')} for ${request.investor}`;
+    for (const button of [this.button, this.withdraw, this.decline]) label(button, of);
+    this.seconds.setAttribute('aria-label', `Valid for: ${of}`);
     const isAnswerable = is && !request.declined && this.desk.model.mayAct();
     show(this.form, isAnswerable);
     show(this.foot, isAnswerable);
     show(this.withdraw, Boolean(live));
     show(this.decline, !live);
+    this.claim.draw(request, of, isAnswerable);
     this.read();
     this.drawTold();
     this.tick(this.desk.link.now());
   }
   drawTold() {
     const request = this.request, is = this.is();
-    const news = request.told?.refusal ? request.told.text : request.declined ? `Declined, ${clock(request.told?.at)} UTC` : '';
+    const news = request.told?.refusal ? inMode(request.told.text) : request.declined ? `Declined, ${clock(request.told?.at)} UTC` : '';
     set(this.text, this.own || (is ? this.waits() || news : this.result()));
     this.text.classList.toggle('why', Boolean(this.own || (is && request.told?.refusal && !request.pending.length)));
   }
@@ -152,7 +198,7 @@ export class DealerCard extends Card {
     }
     const own = request.result !== null ? ` Your ${buys ? 'offer' : 'bid'} was ${text(request.result)}${this.staleWords()}.`
       : request.declined ? ' You declined.' : request.quotes.length ? ' No quote of yours was live.' : ' You did not quote.';
-    return `${request.told?.text ?? ''}, ${clock(request.ended)} UTC.${own}${more}`;
+    return `${inMode(request.told?.text ?? '')}, ${clock(request.ended)} UTC.${own}${more}`;
   }
   // Of a quote whose validity was over when the request ended.
   staleWords() {
@@ -165,12 +211,14 @@ export class DealerCard extends Card {
     this.button.disabled = isOff || isWaiting || left <= 0;
     this.decline.disabled = isOff || isWaiting;
     this.withdraw.disabled = this.request.pending.some(one => one.act === 'withdrawal');
+    looksDead(this.withdraw, !this.desk.model.isLinked);
     set(this.live, this.is() ? this.liveWords(live, moment) : '');
     this.live.classList.toggle('on', Boolean(this.is() && live && !isOver(live, moment)));
   }
   liveWords(live, moment) {
     if (!live) return this.request.declined ? '' : 'No live quote';
-    const price = `${text(live.price)} (${other(live.price)})`;
+    const by = live.program ? `, by the program ${live.program}` : live.trader !== this.desk.model.hello.trader.name ? `, by ${live.trader}` : '';
+    const price = `${text(live.price)} (${other(live.price)})${live.yield === null || live.yield === undefined ? '' : `, ${percent(live.yield)}`}${by}`;
     if (isOver(live, moment)) return `Stale ${price}: since ${clock(live.valid)} UTC nobody can hit it. It counts as exposure until you replace or withdraw it`;
     const valid = live.valid === null ? 'to the deadline' : `valid ${span(live.valid - moment)}`;
     return `Live ${price}, ${valid}${this.isOff() ? ': it may still stand, and be hit' : ''}`;

@@ -2,9 +2,13 @@
 
 const key = 'token'; // of this origin, port included, unlike the cookie that goes with it
 const pause = 1000;
+const stepBack = 2000;     // milliseconds: a clock that is so much behind was set, and no message was that late
+const aliveEvery = 20_000; // milliseconds between two words that a person is at the page
+export const unsent = 'No connection to the desk: nothing was sent.';
+const reason = 'why';      // of the storage of this window: why the login is asked for
 
 export class Link {
-  // hear(message) is called for each message, and with {t: 'down'} and {t: 'login'}.
+  // hear(message) is called for each message, and with {t: 'down'}, {t: 'closed', why} and {t: 'login'}.
   constructor(hear) {
     this.hear = hear;
     this.isUp = false;
@@ -12,6 +16,7 @@ export class Link {
     this.count = 0;
     this.refusals = 0; // of the handshake, one after the other, by a desk that serves
     this.waiting = new Map();
+    this.questions = new Map(); // by number: who hears the answer, which may come in parts
   }
   now() { return Date.now() + this.skew; }
 
@@ -29,10 +34,24 @@ export class Link {
   take(message) {
     this.isUp = true;
     this.refusals = 0;
-    if (message.now) this.skew = message.now - Date.now();
-    if (message.t !== 'said') return this.hear(message);
-    this.waiting.get(message.number)?.(message.why);
-    this.waiting.delete(message.number);
+    if (message.now) this.setClock(message);
+    if (message.t === 'closed') this.whyClosed = message.why;
+    const {number} = message;
+    if (this.questions.has(number)) {
+      this.questions.get(number)(message);
+      if (message.last !== false) this.questions.delete(number);
+    } else if (message.t === 'said') {
+      this.waiting.get(number)?.(message.why);
+      this.waiting.delete(number);
+    } else {
+      this.hear(message);
+    }
+  }
+
+  // What came fastest says best what time it is at the desk, until its clock is set back.
+  setClock({t, now}) {
+    const skew = now - Date.now();
+    if (t === 'hello' || skew > this.skew || this.skew - skew > stepBack) this.skew = skew;
   }
 
   // A refusal of the handshake can't be told from a desk that is down: the desk is asked. One that came
@@ -43,21 +62,48 @@ export class Link {
       tell('The desk did not answer. Look at the state when it is back: nothing is sent twice.');
     }
     this.waiting.clear();
+    for (const hear of this.questions.values()) hear({t: 'said', why: 'The desk did not answer.'});
+    this.questions.clear();
+    if (this.whyClosed) return; // it comes back when a person asks for it
     this.refusals = !opened && await isServed() ? this.refusals + 1 : 0;
-    if (isOver || this.refusals > 1) return this.forget();
+    if (isOver || this.refusals > 1) return this.forget(isOver && this.isLeft() ? this.leftWords() : '');
     this.hear({t: 'down'});
     setTimeout(() => this.connect(), pause);
   }
 
-  forget() {
+  forget(why = '') {
     localStorage.removeItem(key);
+    sessionStorage.setItem(reason, why);
     this.hear({t: 'login'});
+  }
+
+  // A person is at the page: where the firm sets a time, an idle one is locked by the desk.
+  alive() {
+    const moment = performance.now();
+    if (!this.isUp || !this.locksAfter || moment - (this.aliveAt ?? -aliveEvery) < aliveEvery) return;
+    this.aliveAt = moment;
+    this.socket.send(JSON.stringify({here: true}));
+  }
+  isLeft() { return Boolean(this.locksAfter) && performance.now() - (this.aliveAt ?? 0) >= this.locksAfter * 60_000 - aliveEvery; }
+  leftWords() { return `Locked: nobody was at this page for ${this.locksAfter} ${this.locksAfter === 1 ? 'minute' : 'minutes'}.`; }
+  // Why the login is asked for, once.
+  takeReason() {
+    const why = sessionStorage.getItem(reason) ?? '';
+    sessionStorage.removeItem(reason);
+    return why;
   }
 
   // Tells why it was not done, or an empty text. Nothing is kept for later: it would be stale.
   act(command, tell = () => {}) {
-    if (!this.isUp) return tell('No connection to the desk: nothing was sent.');
+    if (!this.isUp) return tell(unsent);
     this.waiting.set(++this.count, tell);
+    this.socket.send(JSON.stringify({...command, number: this.count}));
+  }
+
+  // Something that binds nobody: hear(message) has each part of the answer, or `said` with the reason why there is none.
+  ask(command, hear) {
+    if (!this.isUp) return hear({t: 'said', why: 'No connection to the desk.'});
+    this.questions.set(++this.count, hear);
     this.socket.send(JSON.stringify({...command, number: this.count}));
   }
 

@@ -13,9 +13,9 @@ export class Positions {
     this.node = h('details', {className: 'positions', open: true}, this.title, h('table', {},
       h('thead', {}, h('tr', {}, head('Bond', ''), head('Bought'), head('Sold'), head('Net'), head('Last trade'), head('UTC'))), this.list));
   }
-  draw() {
+  draw(is) {
     const rows = [...todayOf(this.model)].filter(([, day]) => day.trade);
-    show(this.node, rows.length > 0);
+    show(this.node, is && rows.length > 0);
     set(this.title, `Position of today, in ${rows.length} ${rows.length === 1 ? 'bond' : 'bonds'}`);
     this.list.replaceChildren(...rows.map(([id, day]) => this.row(this.model.bond(id), day)));
   }

@@ -1,6 +1,6 @@
 // Presses that bind the firm. One that comes so soon after its button came to this place, or began to
 // mean something else, was meant for what stood there before: it does nothing.
-import {h, set} from './dom.js';
+import {h, placeOf} from './dom.js';
 
 export const settled = 700;      // milliseconds that a button has to have stood where it is
 const look = 100;                // between two looks at where buttons stand
@@ -10,14 +10,8 @@ export const doubleClick = 300;  // is one press
 
 const places = new WeakMap();
 
-// In the document, so that scrolling moves nothing.
-function placeOf(button) {
-  const rect = button.getBoundingClientRect();
-  return {x: rect.left + scrollX, y: rect.top + scrollY, is: rect.width > 0, since: performance.now()};
-}
-
 function sees(button) {
-  const now = placeOf(button), before = places.get(button);
+  const now = {...placeOf(button), since: performance.now()}, before = places.get(button);
   const stands = before?.is && now.is && Math.abs(now.x - before.x) <= moved && Math.abs(now.y - before.y) <= moved;
   if (!stands) places.set(button, now);
   return stands ? now.since - before.since : 0;
@@ -45,25 +39,38 @@ export function guardPresses(root, tell) {
   }, true);
 }
 
-// A button that acts on its second press; the first asks.
-export function twoPresses(name, kind, act) {
+// What a button that asks has behind its word. It takes its room before it asks, too: a button that grew would move,
+// and the second press would be taken for one on something else.
+export const query = () => h('span', {className: 'query'}, '?');
+
+// Names a button for a screen reader: what it does, and to what, so that the buttons of two cards are told apart.
+export function label(button, of) {
+  const name = `${button.dataset.does ?? button.textContent} ${of}`;
+  button.dataset.of = of;
+  button.setAttribute('aria-label', button.classList.contains('armed') ? `Confirm: ${name}` : name);
+}
+
+// A button that acts on its second press; the first asks. `does` is what a screen reader has for its name.
+export function twoPresses(name, kind, act, does = name) {
   let armed = null;
+  const arms = is => {
+    button.classList.toggle('armed', is);
+    label(button, button.dataset.of ?? '');
+  };
   const disarm = () => {
     clearTimeout(armed?.timer);
     armed = null;
-    set(button, name);
-    button.classList.remove('armed');
+    arms(false);
   };
   const button = h('button', {type: 'button', className: kind, 'data-binds': kind, onclick: () => {
     const moment = performance.now();
     if (!armed) {
       armed = {at: moment, timer: setTimeout(disarm, armedFor)};
-      set(button, `${name}?`);
-      return button.classList.add('armed');
+      return arms(true);
     }
     if (moment - armed.at < doubleClick) return;
     disarm();
     act();
-  }, onkeydown: event => { if (event.key === 'Escape') disarm(); }, onblur: () => armed && disarm()}, name);
+  }, onkeydown: event => { if (event.key === 'Escape') disarm(); }, onblur: () => armed && disarm(), 'data-does': does}, name, query());
   return button;
 }

@@ -42,6 +42,11 @@ export function apart(difference, grid) {
   return whole + point + '\u2007'.repeat(places - part.length);
 }
 
+// A line of the desk, which writes prices as decimals, with its prices as the page shows them.
+const told = /(?<=(?:^|\s)(?:Quote|Live:|Withdrawn:|quotes|withdraws|replaces|by|at)\s)\d{1,6}(?:\.\d{1,8})?(?=[\s.,:;]|$)/g;
+export const inMode = line => !mode.thirtySeconds ? line
+  : line.replace(told, number => Number.isInteger(Number(number) * 256) ? thirtySeconds(Number(number) * 256) : number);
+
 function in256ths(typed) {
   const parts = /^(\d{1,9})[-'](\d{1,2})([+1-7])?$/.exec(typed);
   if (parts) {

@@ -1,39 +1,44 @@
 // The head of the page: who it is, whether the venue is there, what is used of the limits.
-import {h, set, show} from './dom.js';
+import {h, looksDead, set, show} from './dom.js';
 import {amount, clock} from './amounts.js';
-import {mode, text} from './price.js';
-import {liveQuote} from './model.js';
+import {mode} from './price.js';
 
 const apart = 1500; // milliseconds: clocks that differ by more are told
 
 export class Top {
-  constructor(acts) { // {toggle, cancelAll, logOut}
+  // acts are {toggle, cancelAll, logOut}; `more` are the buttons of other parts.
+  constructor(acts, more) {
     this.firm = h('b');
     this.role = h('span', {className: 'quiet'});
     this.light = h('span', {className: 'light', role: 'status'});
+    this.cause = h('span', {className: 'cause'}); // why the venue is not there
     this.used = h('span', {className: 'counts'});
     this.clock = h('span', {className: 'number clock'});
     this.said = h('span', {className: 'said', role: 'status'});
     this.cancel = h('button', {type: 'button', className: 'panic', id: 'cancelall', onclick: acts.cancelAll}, 'Cancel all', h('kbd', {}, 'F9'));
-    this.format = h('button', {type: 'button', id: 'format', onclick: acts.toggle});
+    this.form = h('span');
+    this.format = h('button', {type: 'button', id: 'format', onclick: acts.toggle}, h('span', {className: 'quiet'}, 'Prices: '), this.form);
     this.out = h('button', {type: 'button', id: 'logout', onclick: acts.logOut}, 'Log out');
-    this.nodes = [h('span', {className: 'who'}, this.firm, ' ', this.role), this.light, this.used, this.cancel, this.format, this.out, this.clock, this.said];
-    for (const button of [this.cancel, this.format, this.out]) show(button, false);
+    this.nodes = [h('div', {className: 'state'}, h('div', {className: 'first'}, h('span', {className: 'who'}, this.firm, ' ', this.role), this.light, this.clock),
+      h('div', {}, this.cause, this.used)), this.cancel, ...more.slice(0, -1), this.format, more.at(-1), this.out];
+    this.others = [...more, this.format, this.out];
+    for (const button of [this.cancel, ...this.others]) show(button, false);
   }
-  draw(model, isKnown) {
+  draw(model, isKnown, isClosed) {
     const {session, hello} = model, isOn = model.isOn();
-    set(this.light, !isKnown ? '\u25cb Log in' : !model.isLinked ? '\u25cb No connection to the desk: trying'
+    set(this.light, !isKnown ? 'Not logged in' : !model.isLinked ? (isClosed ? '\u25cb This page is closed' : '\u25cb No connection to the desk: trying')
       : isOn ? '\u25cf Venue connected'
-      : `\u25cb Venue not connected since ${clock(session.since)} UTC${session.cause ? `: ${session.cause}` : ''}. Trying`);
+      : `\u25cb Venue not connected since ${clock(session.since)} UTC`);
+    set(this.cause, isKnown && model.isLinked && !isOn ? `${session.cause ? `${session.cause[0].toUpperCase()}${session.cause.slice(1)}. ` : ''}Trying. ` : '');
     this.light.classList.toggle('bad', isKnown && !isOn);
-    set(this.format, mode.thirtySeconds ? 'Prices: 32nds' : 'Prices: decimal');
-    show(this.out, Boolean(hello) && isKnown);
-    show(this.format, Boolean(hello) && isKnown);
+    set(this.form, mode.thirtySeconds ? '32nds' : 'decimal');
+    for (const button of this.others) show(button, Boolean(hello) && isKnown);
     show(this.cancel, Boolean(hello) && isKnown && model.isDealer() && model.mayAct());
+    looksDead(this.cancel, !model.isLinked);
     if (!hello || !isKnown) return;
     set(this.firm, hello.firm);
-    set(this.role, `${hello.trader.login} (trader ${hello.trader.name}), ${hello.market.role}${hello.trader.mayAct ? '' : ', may look'}`);
-    set(this.used, usage(model));
+    set(this.role, `${hello.trader.login} (${hello.trader.name}), ${hello.market.role}${hello.trader.mayAct ? '' : ', may look'}`);
+    set(this.used, isOn ? usage(model) : used(model));
     this.used.title = model.isDealer() ? 'Exposure: the nominal of all live quotes of the firm, on both sides. Quotes: those that the venue accepted today.'
       : 'Of the firm: requests that are open, and those that the venue accepted today.';
   }
@@ -46,26 +51,15 @@ export class Top {
   }
 }
 
-function usage(model) {
-  const {session, hello: {market: {limits}}} = model;
-  const skew = Math.abs(session.clock) > apart ? ` \u00b7 the venue\u2019s clock is ${(session.clock / 1000).toFixed(1)} s apart` : '';
-  if (!model.isDealer()) return `Requests open ${session.open} of ${limits.open} \u00b7 today ${session.accepted} of ${amount(limits.requests)}${skew}`;
-  const part = Math.round(100 * session.exposure / limits.exposure);
-  return `Exposure ${amount(session.exposure)} of ${amount(limits.exposure)} (${part} %) \u00b7 quotes today ${session.accepted} of ${amount(limits.quotes)}${skew}`;
+// Of what the venue lets the firm have at one time.
+function used({session, hello: {market: {role, limits}}}) {
+  return role === 'dealer' ? `Exposure ${amount(session.exposure)} of ${amount(limits.exposure)} (${Math.round(100 * session.exposure / limits.exposure)} %)`
+    : `Requests open ${session.open} of ${limits.open}`;
 }
 
-// What a person has to know and do at once, as lines; most often none.
-export function alarms(model, moment) {
-  if (!model.hello) return [];
-  const lines = model.session.alarm ? [model.session.alarm] : [];
-  if (model.isOn() || !model.isDealer()) return lines;
-  const live = [...model.requests.values()].filter(one => {
-    const quote = liveQuote(one);
-    return quote && one.deadline > moment && (quote.valid === null || quote.valid > moment);
-  });
-  if (!live.length) return lines;
-  const list = live.map(one => `${one.side === 'buy' ? 'offer' : 'bid'} ${amount(one.quantity)} ${model.bond(one.bond).name} at ` +
-    `${text(liveQuote(one).price)} until ${clock(liveQuote(one).valid ?? one.deadline)} UTC`);
-  return [...lines, `These quotes may still stand at the venue and be hit: ${list.join('; ')}. Withdraw or Cancel all is delivered ` +
-    'as soon as the venue is back; to cancel them now, call its operator.'];
+function usage(model) {
+  const {session, hello: {market: {limits}}} = model;
+  const today = model.isDealer() ? `quotes today ${session.accepted} of ${amount(limits.quotes)}` : `today ${session.accepted} of ${amount(limits.requests)}`;
+  const skew = Math.abs(session.clock) > apart ? ` \u00b7 the venue\u2019s clock is ${(session.clock / 1000).toFixed(1)} s apart` : '';
+  return `${used(model)} \u00b7 ${today}${skew}`;
 }

@@ -5,6 +5,12 @@ namespace sample {
 namespace tag = desk::tag;
 using namespace std::chrono_literals;
 
+namespace {
+
+constexpr int always_quoted = 2; // of the first requests
+
+} // namespace
+
 void SampleDealer::take(const desk::Message &message) {
     const std::string request = message.get(tag::quote_req_id);
     if (message.type() == "R") {
@@ -15,10 +21,11 @@ void SampleDealer::take(const desk::Message &message) {
     }
 }
 
-// Of twelve requests one hears nothing, one a decline, and ten a quote; of these two have a
-// validity, three are replaced, and one is withdrawn.
+// The first ones are quoted, so that whoever tries the venue sees an answer. Of twenty others one
+// hears nothing, two a decline, and the rest a quote; of these two have a validity, four are
+// replaced, and one is withdrawn.
 void SampleDealer::consider(const std::string &request) {
-    const int what = roll(20);
+    const int what = considered_++ < always_quoted ? 6 + roll(10) : roll(20);
     const auto delay = 800ms + std::chrono::milliseconds(roll(1700));
     if (what == 0) {
         return;

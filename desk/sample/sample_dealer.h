@@ -26,6 +26,7 @@ class SampleDealer final : public SampleFirm {
     void withdraw(const std::string &request);
 
     std::map<std::string, Shown> open_; // by 131
+    int considered_ = 0;                // requests
 };
 
 } // namespace sample

@@ -2,11 +2,11 @@
 #ifndef DESK_BUILT_IN_PAGES_H
 #define DESK_BUILT_IN_PAGES_H
 
-#include "web/files.h"
+#include "common/web/static_files.h"
 
 namespace desk {
 
-web::Files built_in_pages();
+web::StaticFiles built_in_pages();
 
 } // namespace desk
 

@@ -1,6 +1,7 @@
 #include "checks.h"
 
 #include <algorithm>
+#include <cstdlib>
 #include <set>
 
 namespace desk {
@@ -8,6 +9,7 @@ namespace desk {
 namespace {
 
 constexpr std::size_t most_dealers = 8;           // of one request
+constexpr std::size_t most_lists_of_day = 256;    // which the journal and each page have
 constexpr std::chrono::seconds least_deadline{5}; // in which a dealer can answer
 constexpr std::chrono::seconds most_deadline{24 * 3600};
 
@@ -60,6 +62,10 @@ std::string why_not_deadline(std::chrono::seconds within, Moment now) {
                : "The deadline is past midnight in UTC, where the venue's day ends.";
 }
 
+bool has(const std::vector<std::string> &names, const std::string &name) {
+    return std::find(names.begin(), names.end(), name) != names.end();
+}
+
 std::string why_not_exposure(const DealerRequest &request, const Trader &trader,
                              const Market &market, const DealerDay &day) {
     const OwnQuote *live = request.live();
@@ -69,8 +75,9 @@ std::string why_not_exposure(const DealerRequest &request, const Trader &trader,
         return "The exposure would be " + grouped(exposure) + " of " +
                grouped(market.limits.exposure) + ": withdraw another quote first.";
     }
-    const Quantity own_replaced = live != nullptr && live->trader == trader.name ? replaced : 0;
-    const Quantity own = day.exposure_of(trader.name) - own_replaced + request.quantity;
+    const bool is_own =
+        live != nullptr && (live->trader == trader.name || has(trader.names, live->trader));
+    const Quantity own = exposure_of(trader, day) - (is_own ? replaced : 0) + request.quantity;
     if (trader.exposure && own > *trader.exposure) {
         return "Your own exposure would be " + grouped(own) + " of the " +
                grouped(*trader.exposure) + " that your desk allows you.";
@@ -78,10 +85,97 @@ std::string why_not_exposure(const DealerRequest &request, const Trader &trader,
     return {};
 }
 
+bool is_far(Price one, Price other, Price distance) {
+    return std::abs(one.in_256ths - other.in_256ths) > distance.in_256ths;
+}
+
+bool is_price_of_firm(const OwnQuote &quote) {
+    return quote.state != OwnQuote::State::refused && quote.state != OwnQuote::State::undelivered;
+}
+
+// What was withdrawn may have been a slip.
+bool is_kept(const OwnQuote &quote) {
+    return is_price_of_firm(quote) && quote.state != OwnQuote::State::withdrawn;
+}
+
+// The firm's last price on the bond and side of a request that it counts; null where there is none.
+const OwnQuote *last_like(const DealerRequest &like, const DealerDay &day,
+                          bool (*counts)(const OwnQuote &)) {
+    const OwnQuote *last = nullptr;
+    for (const std::string &id : day.requests()) {
+        const DealerRequest &one = *day.request(id);
+        if (one.bond != like.bond || one.side != like.side) {
+            continue;
+        }
+        const auto own = std::find_if(one.quotes.rbegin(), one.quotes.rend(), counts);
+        if (own != one.quotes.rend() && (last == nullptr || last->at <= own->at)) {
+            last = &*own;
+        }
+    }
+    return last;
+}
+
+// A program that has withdrawn all its prices is held against the last of them.
+const OwnQuote *last_like(const DealerRequest &like, const DealerDay &day) {
+    const OwnQuote *kept = last_like(like, day, is_kept);
+    return kept != nullptr ? kept : last_like(like, day, is_price_of_firm);
+}
+
+// The firm's live quotes on the bond of a request, but its own.
+std::vector<Price> live_beside(const DealerRequest &request, const DealerDay &day) {
+    std::vector<Price> prices;
+    for (const std::string &id : day.requests()) {
+        const DealerRequest &one = *day.request(id);
+        if (one.bond == request.bond && id != request.id && one.live() != nullptr) {
+            prices.push_back(one.live()->price);
+        }
+    }
+    return prices;
+}
+
 } // namespace
 
-std::string why_not(const command::Ask &ask, const Trader &trader, const Market &market,
-                    const InvestorDay &day, Moment now) {
+Quantity exposure_of(const Trader &trader, const DealerDay &day) {
+    if (trader.names.empty()) {
+        return day.exposure_of(trader.name);
+    }
+    Quantity sum = 0;
+    for (const std::string &name : trader.names) {
+        sum += day.exposure_of(name);
+    }
+    return sum;
+}
+
+std::string why_ask(const command::Quote &quote, const References &references,
+                    const DealerDay &day) {
+    const DealerRequest &request = *day.request(quote.request);
+    const Reference *reference = references.of(request.bond);
+    const OwnQuote *last = last_like(request, day);
+    const std::vector<Price> live = live_beside(request, day);
+    if (reference == nullptr && last == nullptr && live.empty()) {
+        return "There is nothing to hold the price against: the firm sets a reference first.";
+    }
+    const Price distance = references.distance();
+    const std::string far = "The price is more than " + text_of(distance) + " from ";
+    if (reference != nullptr && is_far(quote.price, reference->price, distance)) {
+        return far + "the reference " + text_of(reference->price) + ".";
+    }
+    if (last != nullptr && is_far(quote.price, last->price, distance)) {
+        return far + "the firm's last one, " + text_of(last->price) + ".";
+    }
+    for (const Price own : live) {
+        if (is_far(quote.price, own, distance)) {
+            return far + "the firm's live quote " + text_of(own) + ".";
+        }
+    }
+    return {};
+}
+
+namespace {
+
+// But for what the firm has used of its limits.
+std::string why_not_terms(const command::Ask &ask, const Trader &trader, const Market &market,
+                          Moment now) {
     if (market.bond(ask.bond) == nullptr) {
         return "Choose a bond.";
     }
@@ -94,11 +188,42 @@ std::string why_not(const command::Ask &ask, const Trader &trader, const Market 
             return why;
         }
     }
+    return {};
+}
+
+} // namespace
+
+std::string why_not(const command::Ask &ask, const Trader &trader, const Market &market,
+                    const InvestorDay &day, Moment now) {
+    if (std::string why = why_not_terms(ask, trader, market, now); !why.empty()) {
+        return why;
+    }
     if (day.usage().open >= market.limits.open) {
         return "As many requests are open as your firm may have: pass one first.";
     }
     return day.usage().accepted >= market.limits.requests
                ? "Your firm's requests of the day are used up."
+               : "";
+}
+
+std::string why_not(const command::AskList &list, const Trader &trader, const Market &market,
+                    const InvestorDay &day, Moment now) {
+    if (day.lists().all().size() >= most_lists_of_day) {
+        return "The desk takes " + std::to_string(most_lists_of_day) + " lists a day.";
+    }
+    std::size_t count = 0;
+    for (const ListLine &line : list.lines) {
+        ++count;
+        const std::string why = why_not_terms(
+            command::Ask{line.bond, line.side, line.quantity, list.within, list.dealers}, trader,
+            market, now);
+        if (!why.empty()) {
+            return "Line " + std::to_string(count) + ": " + why;
+        }
+    }
+    const auto left = std::max(0, market.limits.requests - day.usage().accepted);
+    return count > static_cast<std::size_t>(left)
+               ? "Your firm may ask " + std::to_string(left) + " requests more today."
                : "";
 }
 
@@ -192,6 +317,45 @@ std::string why_not(const command::Decline &decline, const DealerDay &day) {
         return "Withdraw the live quote first.";
     }
     return request->is_declined ? "It is declined already." : "";
+}
+
+std::string why_not(const command::ClaimRequest &claim, const Trader &trader,
+                    const DealerDay &day) {
+    const DealerRequest *request = day.request(claim.request);
+    if (request == nullptr || !request->is_open()) {
+        return has_ended;
+    }
+    if (!request->claim) {
+        return {};
+    }
+    return request->claim->login == trader.login ? "You have claimed it already."
+                                                 : request->claim->trader + " has claimed it.";
+}
+
+std::string why_not(const command::ReleaseRequest &release, const DealerDay &day) {
+    const DealerRequest *request = day.request(release.request);
+    if (request == nullptr || !request->is_open()) {
+        return has_ended;
+    }
+    return request->claim ? "" : "Nobody has claimed it.";
+}
+
+std::string why_not(const command::HandOver &hand_over, const Trader &trader,
+                    const std::vector<Trader> &traders, const DealerDay &day) {
+    const DealerRequest *request = day.request(hand_over.request);
+    if (request == nullptr || !request->is_open()) {
+        return has_ended;
+    }
+    if (request->claim && request->claim->login != trader.login) {
+        return request->claim->trader + " has claimed it.";
+    }
+    const bool may_act = std::any_of(traders.begin(), traders.end(), [&](const Trader &one) {
+        return one.login == hand_over.to && one.may_act;
+    });
+    if (!may_act) {
+        return "The desk has no trader '" + hand_over.to + "' who may quote.";
+    }
+    return hand_over.to == trader.login ? "Claim it, rather than hand it to yourself." : "";
 }
 
 } // namespace desk

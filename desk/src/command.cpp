@@ -1,5 +1,9 @@
 #include "command.h"
 
+#include "fields.h"
+
+#include <map>
+
 #include <nlohmann/json.hpp>
 
 namespace desk {
@@ -8,92 +12,123 @@ using nlohmann::json;
 
 namespace {
 
-constexpr std::size_t most_bytes = 64;       // of a name
 constexpr std::size_t most_group_bytes = 96; // of the name of a group: 24 characters in UTF-8
-constexpr std::size_t most_dealers = 64;
-constexpr std::int64_t most_number = 1'000'000'000'000'000;
 
-// Throws json::exception where it is no text of a name's length.
-std::string name_in(const json &text, const char *key, std::size_t most = most_bytes) {
-    std::string name = text.at(key).get<std::string>();
-    if (name.size() > most) {
-        throw json::other_error::create(600, "too long", &text);
-    }
-    return name;
-}
-
-std::int64_t number_in(const json &text, const char *key) {
-    const json &value = text.at(key);
-    if (!value.is_number_integer() || value.get<std::int64_t>() < 0 ||
-        value.get<std::int64_t>() > most_number) {
-        throw json::other_error::create(601, "no number", &text);
-    }
-    return value.get<std::int64_t>();
-}
-
-Price price_in(const json &text) {
-    return Price{static_cast<int>(std::min<std::int64_t>(number_in(text, "price"), 1'000'000))};
-}
-
-std::vector<std::string> dealers_in(const json &text) {
-    auto dealers = text.at("dealers").get<std::vector<std::string>>();
-    if (dealers.size() > most_dealers) {
-        throw json::other_error::create(602, "too many", &text);
-    }
-    return dealers;
-}
-
-command::Ask ask_in(const json &text) {
+Side side_in(const json &text) {
     const std::string side = name_in(text, "side");
     if (side != "buy" && side != "sell") {
-        throw json::other_error::create(603, "no side", &text);
+        fail_field(text, "no side");
     }
-    return {name_in(text, "bond"), side == "buy" ? Side::buy : Side::sell,
-            number_in(text, "quantity"), std::chrono::seconds(number_in(text, "seconds")),
-            dealers_in(text)};
+    return side == "buy" ? Side::buy : Side::sell;
 }
 
-command::Quote quote_in(const json &text) {
+Command ask_in(const json &text) {
+    return command::Ask{name_in(text, "bond"), side_in(text), number_in(text, "quantity"),
+                        std::chrono::seconds(number_in(text, "seconds")), dealers_in(text)};
+}
+
+Command ask_list_in(const json &text) {
+    command::AskList list{name_in(text, "name"),
+                          std::chrono::seconds(number_in(text, "seconds")),
+                          dealers_in(text),
+                          {}};
+    const json &lines = text.at("lines");
+    if (!lines.is_array() || lines.empty() || lines.size() > most_lines) {
+        fail_field(text, "too many lines, or none");
+    }
+    for (const json &one : lines) {
+        ListLine line;
+        line.bond = name_in(one, "bond");
+        line.side = side_in(one);
+        line.quantity = number_in(one, "quantity");
+        list.lines.push_back(std::move(line));
+    }
+    return list;
+}
+
+Command hit_in(const json &text) {
+    return command::Hit{name_in(text, "request"), name_in(text, "quote"), price_in(text)};
+}
+
+Command quote_in(const json &text) {
     const std::int64_t seconds = number_in(text, "seconds");
-    return {name_in(text, "request"), price_in(text),
-            seconds == 0 ? std::nullopt : std::optional(std::chrono::seconds(seconds)),
-            name_in(text, "replaces")};
+    return command::Quote{name_in(text, "request"), price_in(text),
+                          seconds == 0 ? std::nullopt
+                                       : std::optional(std::chrono::seconds(seconds)),
+                          name_in(text, "replaces")};
 }
 
-std::optional<Command> command_in(const json &text) {
-    const std::string what = name_in(text, "do");
-    if (what == "ask") {
-        return ask_in(text);
-    }
-    if (what == "hit") {
-        return command::Hit{name_in(text, "request"), name_in(text, "quote"), price_in(text)};
-    }
-    if (what == "pass") {
-        return command::Pass{name_in(text, "request")};
-    }
-    if (what == "quote") {
-        return quote_in(text);
-    }
-    if (what == "withdraw") {
-        return command::Withdraw{name_in(text, "request")};
-    }
-    if (what == "decline") {
-        return command::Decline{name_in(text, "request")};
-    }
-    if (what == "cancel all") {
-        return command::CancelAll{};
-    }
-    if (what == "save group") {
-        return command::SaveGroup{name_in(text, "name", most_group_bytes), dealers_in(text)};
-    }
-    return {};
+// A command about one request, and nothing else.
+template <typename Of> Command request_in(const json &text) {
+    return Of{name_in(text, "request")};
+}
+
+// A command about one program.
+template <typename Of> Command program_in(const json &text) {
+    return Of{name_in(text, "name")};
+}
+
+Command hand_over_in(const json &text) {
+    return command::HandOver{name_in(text, "request"), name_in(text, "to")};
+}
+
+std::optional<Quantity> limit_in(const json &text, const char *key) {
+    return text.at(key).is_null() ? std::nullopt : std::optional(number_in(text, key));
+}
+
+Command set_limits_in(const json &text) {
+    return command::SetLimits{name_in(text, "login"), limit_in(text, "quantity"),
+                              limit_in(text, "exposure")};
+}
+
+Command set_reference_in(const json &text) {
+    return command::SetReference{name_in(text, "bond"), text.at("price").is_null()
+                                                            ? std::nullopt
+                                                            : std::optional(price_in(text))};
+}
+
+Command set_distance_in(const json &text) {
+    const json &distance = text.at("distance");
+    return command::SetDistance{
+        distance.is_null() ? std::nullopt : std::optional(price_in({{"price", distance}}))};
+}
+
+Command save_group_in(const json &text) {
+    return command::SaveGroup{name_in(text, "name", most_group_bytes), dealers_in(text)};
+}
+
+using Reader = Command (*)(const json &);
+
+const std::map<std::string, Reader> &readers() {
+    static const std::map<std::string, Reader> all{
+        {"ask", ask_in},
+        {"ask list", ask_list_in},
+        {"stop list",
+         [](const json &text) -> Command { return command::StopList{name_in(text, "list")}; }},
+        {"hit", hit_in},
+        {"pass", request_in<command::Pass>},
+        {"quote", quote_in},
+        {"withdraw", request_in<command::Withdraw>},
+        {"decline", request_in<command::Decline>},
+        {"cancel all", [](const json &) -> Command { return command::CancelAll{}; }},
+        {"claim", request_in<command::ClaimRequest>},
+        {"release", request_in<command::ReleaseRequest>},
+        {"hand over", hand_over_in},
+        {"set limits", set_limits_in},
+        {"set reference", set_reference_in},
+        {"set distance", set_distance_in},
+        {"stop program", program_in<command::StopProgram>},
+        {"release program", program_in<command::ReleaseProgram>},
+        {"save group", save_group_in}};
+    return all;
 }
 
 } // namespace
 
 std::optional<Command> read_command(const json &text) {
     try {
-        return command_in(text);
+        const auto found = readers().find(name_in(text, "do"));
+        return found == readers().end() ? std::nullopt : std::optional(found->second(text));
     } catch (const json::exception &) {
         return {};
     }

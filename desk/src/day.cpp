@@ -7,6 +7,8 @@
 #include <charconv>
 #include <utility>
 
+#include <nlohmann/json.hpp>
+
 namespace desk {
 
 std::unique_ptr<Day> Day::of(Role role) {
@@ -26,6 +28,8 @@ void Day::apply(const Entry &entry) {
         return apply_failure(entry.bytes,
                              "never delivered: the connection broke first, and it is too old now",
                              false, entry.moment);
+    case Entry::Kind::note:
+        return apply_note(entry);
     case Entry::Kind::session:
         return;
     }
@@ -36,7 +40,7 @@ std::set<std::string> Day::take_changed() {
 }
 
 void Day::notice(Moment at, const std::string &text, bool is_refusal) {
-    notice_ = Told{at, text, is_refusal};
+    notice_ = Told{at, text, is_refusal, {}};
 }
 
 void Day::apply_sent(const Entry &entry) {
@@ -45,6 +49,34 @@ void Day::apply_sent(const Entry &entry) {
                    message.get(tag::sender_sub_id)};
     sent_[message.number(tag::msg_seq_num)] = own;
     sent(message, own, entry.moment);
+}
+
+void Day::apply_note(const Entry &entry) {
+    const nlohmann::json note = nlohmann::json::parse(entry.bytes, nullptr, false);
+    try {
+        note.contains("list") ? listed(note, entry.moment) : claimed(note, entry.moment);
+    } catch (const nlohmann::json::exception &) {
+        return; // of a later version of the desk
+    }
+}
+
+void Day::claimed(const nlohmann::json &note, Moment at) {
+    const std::string what = note.at("do"), trader = note.at("trader");
+    Request *request = named(note.at("request"));
+    if (request == nullptr) {
+        return;
+    }
+    changed(request->id);
+    if (what == "claim") {
+        request->claim = Claim{note.at("login"), trader, at};
+        request->note(at, "Claimed", trader);
+    } else if (what == "release") {
+        request->claim.reset();
+        request->note(at, "Released", trader);
+    } else if (what == "hand over") {
+        request->claim = Claim{note.at("to"), note.at("to trader"), at};
+        request->note(at, "Handed over to " + request->claim->trader, trader);
+    }
 }
 
 void Day::count(const Message &message) {

@@ -57,6 +57,10 @@ class Day {
 
     virtual void sent(const Message &message, const Sent &own, Moment at) = 0;
     virtual void received(const Message &message, Moment at) = 0;
+    // Null where there is none.
+    virtual Request *named(const std::string &request) = 0;
+    // What the journal has of a list of requests.
+    virtual void listed(const nlohmann::json &, Moment) {}
     // It had no effect, and never will.
     virtual void failed(const Sent &own, const std::string &why, bool is_refusal, Moment at) = 0;
 
@@ -68,6 +72,8 @@ class Day {
   private:
     void apply_sent(const Entry &entry);
     void apply_received(const Entry &entry);
+    void apply_note(const Entry &entry);
+    void claimed(const nlohmann::json &note, Moment at);
     void apply_failure(const std::string &number, const std::string &why, bool is_refusal,
                        Moment at);
     void count(const Message &message);

@@ -31,9 +31,10 @@ OwnQuote *live_of(DealerRequest &request) {
 }
 
 // How a request ended matters more than what came too late for it.
-void refused(DealerRequest &request, Moment at, const std::string &text) {
+void refused(DealerRequest &request, Moment at, const std::string &text,
+             const std::string &trader) {
     const std::optional<Told> end = request.is_open() ? std::nullopt : request.told;
-    request.tell(at, text, true);
+    request.tell(at, text, true, trader);
     if (end) {
         request.told = end;
     }
@@ -218,7 +219,7 @@ void DealerDay::shown(const Message &message, Moment at) {
 void DealerDay::nothing_cancelled(const Message &message, Moment at) {
     forget_withdrawals();
     notice(at,
-           "Cancel of all: " +
+           "Cancel all: " +
                (message.has(tag::text) ? cancel_refusal(message) : "there was no live quote"),
            false);
 }
@@ -255,37 +256,38 @@ void DealerDay::quote_answered(DealerRequest &request, const Message &message, M
     if (message.number(tag::status) != 0) {
         set(request, *quote, Quote::refused);
         return refused(request, at,
-                       "Quote " + text_of(quote->price) + " refused: " + quote_refusal(message));
+                       "Quote " + text_of(quote->price) + " refused: " + quote_refusal(message),
+                       quote->trader);
     }
     if (OwnQuote *before = live_of(request)) {
         set(request, *before, Quote::replaced);
     }
     set(request, *quote, Quote::live);
     ++usage_.accepted;
-    request.tell(at, "Live: " + text_of(quote->price));
+    request.tell(at, "Live: " + text_of(quote->price), false, quote->trader);
 }
 
 void DealerDay::cancel_answered(DealerRequest &request, const Message &message, Moment at) {
     OwnQuote *quote = quote_of(request, message.get(tag::quote_id));
-    request.settle(Act::withdraw, message.get(tag::quote_id));
+    const std::string trader = request.settle(Act::withdraw, message.get(tag::quote_id));
     if (quote == nullptr) {
         return set_alarm("The venue has a quote that this desk does not know: " +
                          std::string(incomplete));
     }
     if (message.number(tag::status) != 17) {
-        return refused(request, at, "Withdrawal refused: " + cancel_refusal(message));
+        return refused(request, at, "Withdrawal refused: " + cancel_refusal(message), trader);
     }
     set(request, *quote, Quote::withdrawn);
-    request.tell(at, "Withdrawn: " + text_of(quote->price));
+    request.tell(at, "Withdrawn: " + text_of(quote->price), false, trader);
 }
 
 void DealerDay::decline_answered(DealerRequest &request, const Message &message, Moment at) {
-    request.settle(Act::decline, "");
+    const std::string trader = request.settle(Act::decline, "");
     if (message.number(tag::status) != 11) {
-        return refused(request, at, "Decline refused: " + decline_refusal(message));
+        return refused(request, at, "Decline refused: " + decline_refusal(message), trader);
     }
     request.is_declined = true;
-    request.tell(at, "Declined");
+    request.tell(at, "Declined", false, trader);
 }
 
 void DealerDay::failed(const Sent &own, const std::string &why, bool is_refusal, Moment at) {
@@ -306,7 +308,7 @@ void DealerDay::failed(const Sent &own, const std::string &why, bool is_refusal,
     const std::string what = quote != nullptr ? "Quote " + text_of(quote->price) + " "
                              : is_cancel      ? "Withdrawal "
                                               : "Decline ";
-    request->tell(at, what + why, true);
+    request->tell(at, what + why, true, own.trader);
 }
 
 void DealerDay::cancel_all_failed(const std::string &why, bool is_refusal, Moment at) {

@@ -50,6 +50,7 @@ class DealerDay final : public Day {
   private:
     void sent(const Message &message, const Sent &own, Moment at) override;
     void received(const Message &message, Moment at) override;
+    Request *named(const std::string &request) override { return find(request, ""); }
     void failed(const Sent &own, const std::string &why, bool is_refusal, Moment at) override;
 
     void shown(const Message &message, Moment at);

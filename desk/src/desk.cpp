@@ -1,6 +1,9 @@
 #include "desk.h"
 
+#include "changes.h"
 #include "connection_words.h"
+#include "investor_day.h"
+#include "valued_views.h"
 
 #include <utility>
 
@@ -20,10 +23,10 @@ bool is_binding(const Message &message) {
     return type == "S" || type == "R" || (type == "AJ" && message.number(tag::response_type) == 1);
 }
 
-json view_of(const Market &market, Role role) {
+json market_view(const Market &market, Role role, const BondValues &values) {
     json bonds = json::array();
     for (const Bond &bond : market.bonds) {
-        bonds.push_back({{"id", bond.id}, {"name", bond.name}, {"grid", bond.grid}});
+        bonds.push_back(view_of(bond, values, day_of(now())));
     }
     return {{"role", role == Role::dealer ? "dealer" : "investor"},
             {"bonds", bonds},
@@ -36,12 +39,27 @@ json view_of(const Market &market, Role role) {
               {"open", market.limits.open}}}};
 }
 
+// Those whom a colleague may hand something to.
+json colleagues(const std::vector<Trader> &traders) {
+    json all = json::array();
+    for (const Trader &one : traders) {
+        if (one.may_act) {
+            all.push_back({{"login", one.login}, {"trader", one.name}});
+        }
+    }
+    return all;
+}
+
 } // namespace
 
 Desk::Desk(boost::asio::io_context &io, const Config &config, Events &events, int first_number)
-    : io_(io), config_(config), events_(events), groups_(config.data + "/groups.json"),
-      identifiers_(now()), day_(Day::of(config.role)), record_(config.data, [this] { wake(); }),
-      since_(now()) {
+    : io_(io), config_(config), events_(events), values_(config.bonds),
+      groups_(config.data + "/groups.json"), references_(config.data + "/references.json"),
+      limits_(config.data + "/limits.json"),
+      programs_(config.programs, config.data + "/programs.json"), identifiers_(now()),
+      day_(Day::of(config.role)), record_(config.data, [this] { wake(); }), since_(now()),
+      archive_(config.data, config.role, config.market, values_) {
+    days_ = archive_.days(record_.date());
     record_.skip_to(first_number);
     FixListener &listener = *this;
     fix_ = std::make_unique<FixSession>(config.fix, record_, listener);
@@ -52,11 +70,15 @@ Desk::~Desk() = default;
 
 void Desk::start(Audience &audience) {
     audience_ = &audience;
+    stop_lists("The desk was started anew: nothing more of it is asked.");
     fix_->start();
 }
 
 void Desk::stop() {
     record_.let_through();
+    is_over_ = true;
+    archive_thread_.join();
+    sender_.join();
     fix_->stop();
 }
 
@@ -125,6 +147,8 @@ void Desk::apply(const Happening &happening, bool &is_anew) {
         day_->apply(*happening);
     } else {
         day_ = Day::of(config_.role);
+        days_ = archive_.days(record_.date());
+        told_.clear();
         is_anew = true;
     }
 }
@@ -135,13 +159,64 @@ void Desk::tell_changes() {
     }
     const std::set<std::string> changed = day_->take_changed();
     if (!changed.empty()) {
-        json requests = json::array();
-        for (const std::string &request : changed) {
-            requests.push_back(day_->view(request));
-        }
-        audience_->tell({{"t", "requests"}, {"requests", std::move(requests)}});
+        tell_requests(changed);
+    }
+    if (const std::set<std::string> lists =
+            this->lists() == nullptr ? std::set<std::string>() : this->lists()->take_changed();
+        !lists.empty()) {
+        audience_->tell(view_of_lists(lists));
     }
     audience_->tell(session());
+}
+
+// A new one as it is, and of one that pages have what changed.
+void Desk::tell_requests(const std::set<std::string> &changed) {
+    json requests = json::array();
+    json changes = json::array();
+    for (const std::string &request : changed) {
+        json view = this->view(request);
+        const auto before = told_.find(request);
+        if (before == told_.end()) {
+            requests.push_back(view);
+        } else {
+            changes.push_back(change_of(before->second, view));
+        }
+        told_[request] = std::move(view);
+    }
+    if (!requests.empty()) {
+        audience_->tell({{"t", "requests"}, {"requests", std::move(requests)}});
+    }
+    if (!changes.empty()) {
+        audience_->tell({{"t", "changes"}, {"changes", std::move(changes)}});
+    }
+}
+
+json Desk::view(const std::string &request) const {
+    json view = day_->view(request);
+    add_values(view, values_, day_of(Moment(std::chrono::milliseconds(view.at("made")))));
+    mark_program(view);
+    mark_list(view);
+    for (json &quote : view.at("quotes")) {
+        mark_program(quote);
+    }
+    return view;
+}
+
+// A line of a list says which.
+void Desk::mark_list(json &view) const {
+    const auto *day = dynamic_cast<const InvestorDay *>(day_.get());
+    const auto place = day == nullptr ? std::nullopt : day->lists().place_of(view.at("id"));
+    if (place) {
+        view["list"] = {{"id", place->list->id}, {"line", place->line}};
+    }
+}
+
+// What a program of the firm asked or quoted says so.
+void Desk::mark_program(json &made) const {
+    const auto trader = made.find("trader");
+    if (trader != made.end() && programs_.named(trader->get<std::string>()) != nullptr) {
+        made["program"] = *trader;
+    }
 }
 
 json Desk::session() const {
@@ -168,14 +243,14 @@ json Desk::hello(const Trader &trader) const {
             {"date", record_.date()},
             {"firm", config_.firm},
             {"banner", config_.banner},
-            {"trader",
-             {{"name", trader.name},
-              {"login", trader.login},
-              {"mayAct", trader.may_act},
-              {"quantity", trader.quantity ? json(*trader.quantity) : json()}}},
+            {"trader", view_of(trader)},
+            {"days", days_},
+            {"mostLines", config_.role == Role::investor ? most_lines : 0},
+            {"traders", colleagues(config_.traders)},
             {"groups", groups_.of(trader.login)},
-            {"market", view_of(config_.market, config_.role)},
+            {"market", market_view(config_.market, config_.role, values_)},
             {"deliverWithin", config_.deliver_within.count()},
+            {"locksAfter", config_.lock_after ? json(config_.lock_after->count()) : json()},
             {"session", session()}};
 }
 
@@ -183,7 +258,7 @@ std::vector<json> Desk::requests() const {
     std::vector<json> parts;
     json part = json::array();
     for (const std::string &request : day_->requests()) {
-        part.push_back(day_->view(request));
+        part.push_back(view(request));
         if (part.size() == requests_a_part) {
             parts.push_back({{"t", "requests"}, {"requests", std::exchange(part, json::array())}});
         }

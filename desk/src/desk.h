@@ -1,8 +1,11 @@
 // One firm's desk: its FIX session, its journal and the state that follows from it, and what its
-// traders may do. QuickFIX's threads write to the record; everything else is on the thread of `io`.
+// traders may do. QuickFIX's threads and the sender's write to the record; everything else is on
+// the thread of `io`, which waits for no disk.
 #ifndef DESK_DESK_H
 #define DESK_DESK_H
 
+#include "archive.h"
+#include "bond_values.h"
 #include "command.h"
 #include "config.h"
 #include "day.h"
@@ -10,14 +13,25 @@
 #include "fix_session.h"
 #include "groups.h"
 #include "identifiers.h"
+#include "programs.h"
+#include "query.h"
 #include "record.h"
+#include "references.h"
+#include "trader_limits.h"
 
+#include <atomic>
+#include <deque>
+#include <functional>
+#include <map>
 #include <memory>
+#include <optional>
+#include <set>
 #include <string>
 #include <vector>
 
 #include <boost/asio/io_context.hpp>
-#include <nlohmann/json_fwd.hpp>
+#include <boost/asio/thread_pool.hpp>
+#include <nlohmann/json.hpp>
 
 namespace desk {
 
@@ -44,8 +58,37 @@ class Desk final : private FixListener {
     // All requests of the day, in parts.
     std::vector<nlohmann::json> requests() const;
 
-    // Does what a trader asks for. Why it was not done, in words; an empty text where it was sent.
-    std::string act(const Trader &trader, const Command &command);
+    // Does what a trader asks for, one command after the other, and tells why it was not done, in
+    // words; an empty text where it was sent. The disk is waited for by another thread.
+    using Tell = std::function<void(const std::string &why)>;
+    void act(const Trader &trader, const Command &command, Tell tell);
+
+    // Answers what a page asks to be told: by a message, by several where it is long, or why there
+    // is none.
+    struct Answer {
+        nlohmann::json message; // null where there is none
+        std::string why;
+    };
+    using Hear = std::function<void(const Answer &answer)>;
+    void answer(const Query &query, Hear hear);
+
+    // What pages are told when it changes: a trader's rights and limits, those of all (for the
+    // firm's admin), the firm's references, and its programs.
+    nlohmann::json view_of(const Trader &trader) const;
+    nlohmann::json limits() const;
+    nlohmann::json references() const { return references_.view(); }
+    nlohmann::json programs() const { return programs_.view(); }
+    // All lists of the day; null at a dealer's desk.
+    nlohmann::json all_lists();
+
+    // Null where no program has this token.
+    const Program *program_with(const std::string &token) const {
+        return programs_.with_token(token);
+    }
+    void connected(const Program &program, bool is_on);
+
+    // Once a second: tells what may change often and has no hurry.
+    void tick();
 
   private:
     // FixListener
@@ -58,8 +101,32 @@ class Desk final : private FixListener {
     void apply_all();
     void apply(const Happening &happening, bool &is_anew);
     void tell_changes();
+    void tell_requests(const std::set<std::string> &changed);
     nlohmann::json session() const;
+    nlohmann::json view(const std::string &request) const;
+    void mark_program(nlohmann::json &made) const;
+    void mark_list(nlohmann::json &view) const;
+    void answer(const query::Value &value, const Hear &hear);
+    void answer(const query::OneDay &day, const Hear &hear);
+    void answer(const query::Find &find, const Hear &hear);
+    // Has the archive's thread look through these days.
+    void look(std::vector<std::string> days, const std::string &find, std::size_t most,
+              const Hear &hear);
+    std::vector<nlohmann::json> found_in(const std::vector<std::string> &days,
+                                         const std::string &find, std::size_t most) const;
 
+    // A command that waits for those before it.
+    struct Order {
+        const Trader *trader;
+        Command command;
+        Moment at;
+        Tell tell;
+    };
+    void act_next();
+    // Has the sender do what waits for the disk; it says in words why it failed.
+    void by_sender(std::function<std::string()> work);
+    void sent(const std::string &why);
+    std::string act(const Order &order);
     std::string act(const Trader &trader, const command::Ask &ask);
     std::string act(const Trader &trader, const command::Hit &hit);
     std::string act(const Trader &trader, const command::Pass &pass);
@@ -68,13 +135,42 @@ class Desk final : private FixListener {
     std::string act(const Trader &trader, const command::Decline &decline);
     std::string act(const Trader &trader, const command::CancelAll &);
     std::string act(const Trader &trader, const command::SaveGroup &group);
+    std::string act(const Trader &trader, const command::ClaimRequest &claim);
+    std::string act(const Trader &trader, const command::ReleaseRequest &release);
+    std::string act(const Trader &trader, const command::HandOver &hand_over);
+    std::string act(const Trader &trader, const command::SetLimits &limits);
+    std::string act(const Trader &trader, const command::SetReference &reference);
+    std::string act(const Trader &trader, const command::SetDistance &distance);
+    std::string act(const Trader &trader, const command::StopProgram &stop);
+    std::string act(const Trader &trader, const command::ReleaseProgram &release);
+    std::string act(const Trader &trader, const command::AskList &ask);
+    std::string act(const Trader &trader, const command::StopList &stop);
+    // Null at a dealer's desk.
+    Lists *lists();
+    void ask_lists();
+    void ask_line(const ListPlace &place);
+    void stop_lists(const std::string &why);
+    void note_later(nlohmann::json text);
+    nlohmann::json view_of_lists(const std::set<std::string> &ids);
+    // Why this trader may not do it at all.
+    std::string why_may_not(const Trader &trader, const Command &command) const;
+    // What stops programs does so before what waits for the disk.
+    void stop_programs(const Trader &trader, const Command &command);
+    // Into the journal, in this trader's name.
+    void note(const Trader &trader, nlohmann::json text);
     void send(const char *type, const Trader &trader, const std::vector<FixField> &fields,
               const std::vector<std::string> &dealers = {});
 
     boost::asio::io_context &io_;
     const Config &config_;
     Events &events_;
+    const BondValues values_;
     GroupStore groups_;
+    References references_;
+    bool has_new_references_ = false;
+    std::set<std::string> asking_; // the requests of lists that are on their way to the sender
+    TraderLimits limits_;
+    Programs programs_;
     Identifiers identifiers_;
     std::unique_ptr<Day> day_;
     Record record_;
@@ -82,7 +178,17 @@ class Desk final : private FixListener {
     bool is_on_ = false;
     Moment since_;
     std::string cause_; // why the session is down, as far as a trader needs it
+    std::map<std::string, nlohmann::json> told_; // the requests, as pages have them
+    std::deque<Order> orders_;
+    std::optional<Order> sending_; // that which the sender has
+    bool is_sent_ = false;         // whether the sender has the command that is judged
     std::unique_ptr<FixSession> fix_;
+    boost::asio::thread_pool sender_{1}; // what leaves waits for the disk on this thread
+    const Archive archive_;
+    std::vector<std::string> days_; // of the archive, as they were when the day began
+    std::size_t looks_ = 0;         // of the archive's thread, which are not answered
+    std::atomic<bool> is_over_ = false;
+    boost::asio::thread_pool archive_thread_{1};
 };
 
 } // namespace desk

@@ -7,49 +7,108 @@
 
 #include <algorithm>
 
+#include <boost/asio/post.hpp>
+
 namespace desk {
 
 namespace {
 
-constexpr const char *not_allowed = "You may look, and do nothing else: ask for the permission.";
+constexpr std::size_t most_orders = 1024; // commands that wait for the disk
+constexpr const char *too_many = "Too many wait to be sent: nothing was sent.";
+constexpr const char *too_slow = "The desk's disk was too slow: nothing was sent.";
 constexpr const char *not_connected = "Not connected to the venue: nothing was sent.";
 
-// So that nothing is answered by the wrong side's rules.
-Role role_of(const Command &command) {
-    const bool asks = std::holds_alternative<command::Ask>(command) ||
-                      std::holds_alternative<command::Hit>(command) ||
-                      std::holds_alternative<command::Pass>(command) ||
-                      std::holds_alternative<command::SaveGroup>(command);
-    return asks ? Role::investor : Role::dealer;
+template <typename... Some> bool is_one_of(const Command &command) {
+    return (std::holds_alternative<Some>(command) || ...);
 }
 
-// A cancel is delivered however late: it may be sent while the session is down.
+// So that nothing is answered by the wrong side's rules.
+bool is_of(Role role, const Command &command) {
+    const bool is_investors =
+        is_one_of<command::Ask, command::Hit, command::Pass, command::SaveGroup, command::AskList,
+                  command::StopList>(command);
+    const bool is_dealers =
+        is_one_of<command::Quote, command::Withdraw, command::Decline, command::CancelAll,
+                  command::ClaimRequest, command::ReleaseRequest, command::HandOver>(command);
+    return role == Role::dealer ? !is_investors : !is_dealers;
+}
+
+// A cancel is delivered however late: it may be sent while the session is down. The others are
+// nothing that the venue would have a part in.
 bool may_wait(const Command &command) {
-    return std::holds_alternative<command::Withdraw>(command) ||
-           std::holds_alternative<command::CancelAll>(command) ||
-           std::holds_alternative<command::SaveGroup>(command);
+    return !is_one_of<command::Ask, command::AskList, command::Hit, command::Pass, command::Quote,
+                      command::Decline>(command);
 }
 
 } // namespace
 
-std::string Desk::act(const Trader &trader, const Command &command) {
-    if (role_of(command) != config_.role) {
+void Desk::act(const Trader &trader, const Command &command, Tell tell) {
+    if (is_of(config_.role, command)) {
+        stop_programs(trader, command);
+    }
+    if (orders_.size() >= most_orders) {
+        return tell(too_many);
+    }
+    orders_.push_back(Order{&trader, command, now(), std::move(tell)});
+    act_next();
+}
+
+// Each is judged when what was sent before it stands in the journal: no two use one limit.
+void Desk::act_next() {
+    while (!sending_ && !orders_.empty()) {
+        Order order = std::move(orders_.front());
+        orders_.pop_front();
+        const std::string why = act(order);
+        if (why.empty() && is_sent_) {
+            sending_ = std::move(order);
+        } else {
+            order.tell(why);
+        }
+        is_sent_ = false;
+    }
+}
+
+void Desk::by_sender(std::function<std::string()> work) {
+    is_sent_ = true;
+    boost::asio::post(sender_, [this, work = std::move(work)] {
+        const std::string why = work();
+        boost::asio::post(io_, [this, why] { sent(why); });
+    });
+}
+
+void Desk::sent(const std::string &why) {
+    apply_all(); // so that a second press finds it sent
+    const Tell tell = std::move(sending_->tell);
+    sending_.reset();
+    tell(why);
+    act_next();
+}
+
+std::string Desk::act(const Order &order) {
+    const Trader trader = limits_.applied(*order.trader);
+    const Command &command = order.command;
+    if (!is_of(config_.role, command)) {
         return config_.role == Role::dealer ? "A dealer's desk does not do this."
                                             : "An investor's desk does not do this.";
     }
-    if (!trader.may_act) {
-        return not_allowed;
+    if (const std::string why = why_may_not(trader, command); !why.empty()) {
+        return why;
     }
     if (!may_wait(command) && (!is_on_ || !fix_->is_on())) {
         return not_connected;
+    }
+    if (!may_wait(command) && now() - order.at > config_.deliver_within) {
+        return too_slow;
     }
     return std::visit([&](const auto &one) { return act(trader, one); }, command);
 }
 
 void Desk::send(const char *type, const Trader &trader, const std::vector<FixField> &fields,
                 const std::vector<std::string> &dealers) {
-    fix_->send(type, trader.name, fields, dealers);
-    apply_all(); // so that a second press finds it sent
+    by_sender([this, type = std::string(type), name = trader.name, fields, dealers] {
+        fix_->send(type, name, fields, dealers);
+        return std::string();
+    });
 }
 
 std::string Desk::act(const Trader &trader, const command::Ask &ask) {
@@ -57,7 +116,7 @@ std::string Desk::act(const Trader &trader, const command::Ask &ask) {
     std::string why = why_not(ask, trader, config_.market, day, now());
     if (why.empty()) {
         send("R", trader,
-             {{tag::quote_req_id, identifiers_.next('A')},
+             {{tag::quote_req_id, ask.id.empty() ? identifiers_.next('A') : ask.id},
               {tag::symbol, "[N/A]"},
               {tag::security_id, ask.bond},
               {tag::id_source, "4"},
@@ -94,6 +153,9 @@ std::string Desk::act(const Trader &trader, const command::Pass &pass) {
 std::string Desk::act(const Trader &trader, const command::Quote &quote) {
     const auto &day = static_cast<const DealerDay &>(*day_);
     std::string why = why_not(quote, trader, config_.market, day, now());
+    if (why.empty() && trader.is_program) {
+        why = why_ask(quote, references_, day);
+    }
     if (!why.empty()) {
         return why;
     }
@@ -136,7 +198,50 @@ std::string Desk::act(const Trader &trader, const command::CancelAll &) {
 }
 
 std::string Desk::act(const Trader &trader, const command::SaveGroup &group) {
-    return groups_.save(trader.login, group.name, group.dealers);
+    std::string why = groups_.set(trader.login, group.name, group.dealers);
+    if (why.empty()) {
+        by_sender(groups_.writer());
+    }
+    return why;
+}
+
+void Desk::note(const Trader &trader, nlohmann::json text) {
+    text["login"] = trader.login;
+    text["trader"] = trader.name;
+    by_sender([this, text = text.dump(-1, ' ', false, nlohmann::json::error_handler_t::replace)] {
+        record_.note(text);
+        return std::string();
+    });
+}
+
+std::string Desk::act(const Trader &trader, const command::ClaimRequest &claim) {
+    std::string why = why_not(claim, trader, static_cast<const DealerDay &>(*day_));
+    if (why.empty()) {
+        note(trader, {{"do", "claim"}, {"request", claim.request}});
+    }
+    return why;
+}
+
+std::string Desk::act(const Trader &trader, const command::ReleaseRequest &release) {
+    std::string why = why_not(release, static_cast<const DealerDay &>(*day_));
+    if (why.empty()) {
+        note(trader, {{"do", "release"}, {"request", release.request}});
+    }
+    return why;
+}
+
+std::string Desk::act(const Trader &trader, const command::HandOver &hand_over) {
+    std::string why =
+        why_not(hand_over, trader, config_.traders, static_cast<const DealerDay &>(*day_));
+    if (why.empty()) {
+        const auto to = std::find_if(config_.traders.begin(), config_.traders.end(),
+                                     [&](const Trader &one) { return one.login == hand_over.to; });
+        note(trader, {{"do", "hand over"},
+                      {"request", hand_over.request},
+                      {"to", to->login},
+                      {"to trader", to->name}});
+    }
+    return why;
 }
 
 } // namespace desk

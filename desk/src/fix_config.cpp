@@ -9,23 +9,6 @@ namespace desk {
 
 namespace {
 
-// A file that only its owner may read.
-std::string secret_of(const std::string &path) {
-    struct stat facts {};
-    if (::stat(path.c_str(), &facts) != 0) {
-        throw std::runtime_error(path + " can't be read");
-    }
-    if ((facts.st_mode & (S_IRWXG | S_IRWXO)) != 0) {
-        throw std::runtime_error(path + " may be read by others than its owner: chmod 600");
-    }
-    std::ifstream file(path);
-    std::string line;
-    if (!std::getline(file, line) || line.empty()) {
-        throw std::runtime_error(path + " has no password in its first line");
-    }
-    return line;
-}
-
 FixAddress address_of(const TomlTable &part, const std::string &text) {
     const std::size_t colon = text.rfind(':');
     const std::string port = colon == std::string::npos ? "" : text.substr(colon + 1);
@@ -38,6 +21,22 @@ FixAddress address_of(const TomlTable &part, const std::string &text) {
 }
 
 } // namespace
+
+std::string secret_of(const std::string &path) {
+    struct stat facts {};
+    if (::stat(path.c_str(), &facts) != 0) {
+        throw std::runtime_error(path + " can't be read");
+    }
+    if ((facts.st_mode & (S_IRWXG | S_IRWXO)) != 0) {
+        throw std::runtime_error(path + " may be read by others than its owner: chmod 600");
+    }
+    std::ifstream file(path);
+    std::string line;
+    if (!std::getline(file, line) || line.empty()) {
+        throw std::runtime_error(path + " has no secret in its first line");
+    }
+    return line;
+}
 
 FixSettings fix_settings_of(const TomlTable &part, const std::string &firm) {
     part.allow({"addresses", "username", "password_file", "dictionaries", "authorities",

@@ -10,6 +10,9 @@
 namespace desk {
 
 // Reads the file of the password too. Throws std::runtime_error with file, key and cause.
+// The first line of a file that only its owner may read. Throws std::runtime_error.
+std::string secret_of(const std::string &path);
+
 FixSettings fix_settings_of(const TomlTable &part, const std::string &firm);
 
 } // namespace desk

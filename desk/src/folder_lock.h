@@ -2,7 +2,7 @@
 #ifndef DESK_FOLDER_LOCK_H
 #define DESK_FOLDER_LOCK_H
 
-#include "../../gateway/src/descriptor.h"
+#include "common/descriptor.h"
 
 #include <string>
 

@@ -37,8 +37,8 @@ const Groups &GroupStore::of(const std::string &login) const {
     return found == groups_.end() ? none : found->second;
 }
 
-std::string GroupStore::save(const std::string &login, const std::string &name,
-                             const std::vector<std::string> &dealers) {
+std::string GroupStore::set(const std::string &login, const std::string &name,
+                            const std::vector<std::string> &dealers) {
     Groups &own = groups_[login];
     if (name.empty() || characters_of(name) > most_name) {
         return "A group's name has 1 to " + std::to_string(most_name) + " characters.";
@@ -51,12 +51,18 @@ std::string GroupStore::save(const std::string &login, const std::string &name,
     } else {
         own[name] = dealers;
     }
-    try {
-        write_json(path_, groups_);
-    } catch (const std::exception &fault) {
-        return std::string("The group is not saved: ") + fault.what();
-    }
     return {};
+}
+
+std::function<std::string()> GroupStore::writer() const {
+    return [path = path_, text = nlohmann::json(groups_)]() -> std::string {
+        try {
+            write_json(path, text);
+        } catch (const std::exception &fault) {
+            return std::string("The group is not saved: ") + fault.what();
+        }
+        return {};
+    };
 }
 
 } // namespace desk

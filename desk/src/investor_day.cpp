@@ -100,6 +100,7 @@ void InvestorDay::asked(const Message &message, const Sent &own, Moment at) {
     }
     requests_[own.request] = request;
     ++usage_.open;
+    lists_.sent(own.request);
     added(own.request);
     changed(own.request);
 }
@@ -134,7 +135,8 @@ void InvestorDay::received(const Message &message, Moment at) {
     if (message.type() == "AG") {
         request->settle(Act::ask, "");
         end(*request, State::refused, at);
-        return request->tell(at, "Request refused: " + request_refusal(message), true);
+        return request->tell(at, "Request refused: " + request_refusal(message), true,
+                             request->trader);
     }
     told(*request, message, at);
 }
@@ -156,7 +158,7 @@ void InvestorDay::told(InvestorRequest &request, const Message &message, Moment 
         request.settle(Act::ask, "");
         request.state = State::open;
         ++usage_.accepted;
-        return request.note(at, "Accepted by the venue");
+        return request.note(at, "Accepted by the venue", request.trader);
     case 7:
         if (request.is_open()) {
             end(request, State::expired, at);
@@ -198,11 +200,11 @@ void InvestorDay::answered(const Message &message, Moment at) {
         awarded(*request, message, own, at);
     } else if (status == 11) {
         end(*request, State::passed, at);
-        request->tell(at, "Passed");
+        request->tell(at, "Passed", false, own.trader);
     } else {
         request->tell(
             at, std::string(is_hit ? "Hit" : "Pass") + " refused: " + response_refusal(message),
-            true);
+            true, own.trader);
     }
 }
 
@@ -217,7 +219,8 @@ void InvestorDay::awarded(InvestorRequest &request, const Message &message, cons
     request.cover = cover_of(request, *request.award);
     request.trade = message.get(tag::trade_id);
     end(request, State::done, at);
-    request.tell(at, "Done with " + quote->dealer + " at " + text_of(quote->price));
+    request.tell(at, "Done with " + quote->dealer + " at " + text_of(quote->price), false,
+                 hit.trader);
 }
 
 void InvestorDay::end(InvestorRequest &request, State state, Moment at) {
@@ -237,7 +240,12 @@ void InvestorDay::failed(const Sent &own, const std::string &why, bool is_refusa
     if (is_request) {
         end(*request, is_refusal ? State::refused : State::undelivered, at);
     }
-    request->tell(at, (is_request ? "Request " : is_hit ? "Hit " : "Pass ") + why, true);
+    request->tell(at,
+                  (is_request ? "Request "
+                   : is_hit   ? "Hit "
+                              : "Pass ") +
+                      why,
+                  true, own.trader);
     changed(request->id);
 }
 

@@ -3,6 +3,7 @@
 #define DESK_INVESTOR_DAY_H
 
 #include "day.h"
+#include "lists.h"
 
 #include <map>
 #include <optional>
@@ -65,9 +66,14 @@ class InvestorDay final : public Day {
     // Null where there is none.
     const InvestorRequest *request(const std::string &id) const;
 
+    Lists &lists() { return lists_; }
+    const Lists &lists() const { return lists_; }
+
   private:
+    void listed(const nlohmann::json &note, Moment at) override { lists_.apply(note, at); }
     void sent(const Message &message, const Sent &own, Moment at) override;
     void received(const Message &message, Moment at) override;
+    Request *named(const std::string &request) override { return find(request); }
     void failed(const Sent &own, const std::string &why, bool is_refusal, Moment at) override;
 
     void asked(const Message &message, const Sent &own, Moment at);
@@ -85,6 +91,7 @@ class InvestorDay final : public Day {
     std::map<std::string, InvestorRequest> requests_;
     std::map<std::string, std::string> request_of_quote_;
     std::map<std::string, Sent> responses_; // by QuoteRespID (693)
+    Lists lists_;
     Usage usage_;
 };
 

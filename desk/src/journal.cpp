@@ -1,6 +1,7 @@
 #include "journal.h"
 
-#include "../../gateway/src/descriptor.h"
+#include "common/descriptor.h"
+#include "safe_names.h"
 
 #include <array>
 #include <charconv>
@@ -14,6 +15,7 @@
 
 #include <boost/crc.hpp>
 #include <fcntl.h>
+#include <sys/stat.h>
 #include <unistd.h>
 
 namespace desk {
@@ -21,6 +23,8 @@ namespace desk {
 namespace {
 
 using gateway::Descriptor;
+
+constexpr off_t most_read_bytes = 1 << 30; // of a day that is over
 
 std::uint32_t check_of(std::string_view bytes) {
     boost::crc_32_type check;
@@ -109,14 +113,6 @@ bool write_all(int file, std::string_view bytes) {
     return true;
 }
 
-// The names in the folder of a file are safe against a power cut when it returns.
-bool synchronise_names(const std::string &path) {
-    const std::size_t end = path.rfind('/');
-    const std::string name = end == std::string::npos ? "." : path.substr(0, end + 1);
-    const Descriptor folder(::open(name.c_str(), O_RDONLY | O_DIRECTORY | O_CLOEXEC));
-    return folder.number() >= 0 && ::fsync(folder.number()) == 0;
-}
-
 // What is no whole record, or stands behind one that is none, is kept beside the journal: it may
 // be more than the end of the last one. It is safe there before it is cut off here.
 void put_aside(const std::string &path, std::string_view rest) {
@@ -146,6 +142,18 @@ Journal::Journal(const std::string &path, const std::function<void(const Entry &
     if (::ftruncate(file_.number(), static_cast<off_t>(good)) != 0) {
         fail(path, " can't be cut: ");
     }
+}
+
+void read_journal(const std::string &path, const std::function<void(const Entry &)> &each) {
+    const Descriptor file(::open(path.c_str(), O_RDONLY | O_NOFOLLOW | O_CLOEXEC));
+    struct stat facts {};
+    if (file.number() < 0 || ::fstat(file.number(), &facts) != 0) {
+        fail(path, " can't be opened: ");
+    }
+    if (!S_ISREG(facts.st_mode) || facts.st_size > most_read_bytes) {
+        throw std::runtime_error(path + " is no journal, or too long to be shown");
+    }
+    read_entries(bytes_of(file.number(), path), each);
 }
 
 void Journal::write(const Entry &entry) {

@@ -7,7 +7,7 @@
 #ifndef DESK_JOURNAL_H
 #define DESK_JOURNAL_H
 
-#include "../../gateway/src/descriptor.h"
+#include "common/descriptor.h"
 #include "moment.h"
 
 #include <functional>
@@ -21,6 +21,7 @@ struct Entry {
         sent = 'S',        // a message of the firm's
         session = 'A',     // a message of the firm's session (Logon, Heartbeat, ..)
         undelivered = 'U', // in bytes, the number of a message that will never be delivered
+        note = 'N',        // what traders tell each other, in JSON; the venue has no part in it
     };
     Kind kind = Kind::received;
     Moment moment; // of the desk's clock
@@ -45,6 +46,10 @@ class Journal {
     const std::string path_;
     gateway::Descriptor file_;
 };
+
+// Hands over the entries of a day that is over, as far as they are whole, and changes nothing.
+// Throws std::runtime_error where it can't read, or the file has more than a journal may.
+void read_journal(const std::string &path, const std::function<void(const Entry &)> &each);
 
 } // namespace desk
 

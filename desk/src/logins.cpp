@@ -1,8 +1,8 @@
 #include "logins.h"
 
-#include "../../gateway/src/password.h"
+#include "common/password.h"
+#include "common/web/secrets.h"
 #include "file_store.h"
-#include "web/secrets.h"
 
 #include <algorithm>
 #include <stdexcept>
@@ -51,8 +51,9 @@ void Attempts::succeeded(const std::string &who, Moment at) {
     }
 }
 
-Logins::Logins(boost::asio::io_context &io, std::vector<Trader> traders, std::string path)
-    : io_(io), traders_(std::move(traders)), path_(std::move(path)) {
+Logins::Logins(boost::asio::io_context &io, std::vector<Trader> traders, std::string path,
+               std::optional<std::chrono::minutes> lock_after)
+    : io_(io), traders_(std::move(traders)), path_(std::move(path)), lock_after_(lock_after) {
     read();
 }
 
@@ -90,18 +91,18 @@ void Logins::log_in(const std::string &address, const std::string &login,
             }
             of_address_.succeeded(address, begun);
             of_login_.succeeded(login, begun);
-            tell(begin(*own));
+            begin(*own, tell);
         });
     });
 }
 
-Logins::Ticket Logins::begin(const Trader &trader) {
+void Logins::begin(const Trader &trader, const std::function<void(Outcome)> &tell) {
     drop_old(trader.login);
     const Ticket ticket{web::new_secret(), web::new_secret()};
-    sessions_[web::digest_of(ticket.cookie)] = Session{
-        web::digest_of(ticket.token), trader.login, web::digest_of(trader.password), now() + lasts};
-    write();
-    return ticket;
+    sessions_[web::digest_of(ticket.cookie)] =
+        Session{web::digest_of(ticket.token), trader.login, web::digest_of(trader.password),
+                now() + lasts, now()};
+    write([tell, ticket] { tell(ticket); });
 }
 
 // Makes room for one more.
@@ -121,9 +122,32 @@ void Logins::drop_old(const std::string &login) {
     sessions_.erase(oldest);
 }
 
-void Logins::log_out(const std::string &cookie) {
+void Logins::log_out(const std::string &cookie, std::function<void()> done) {
     sessions_.erase(web::digest_of(cookie));
-    write();
+    write(std::move(done));
+}
+
+void Logins::saw(const std::string &cookie) {
+    const auto found = sessions_.find(web::digest_of(cookie));
+    if (found != sessions_.end()) {
+        found->second.seen = now();
+    }
+}
+
+std::vector<std::string> Logins::lock() {
+    std::vector<std::string> locked;
+    const Moment at = now();
+    std::erase_if(sessions_, [&](const auto &one) {
+        const bool is_idle = lock_after_ && one.second.seen + *lock_after_ <= at;
+        if (is_idle) {
+            locked.push_back(one.second.login);
+        }
+        return is_idle;
+    });
+    if (!locked.empty()) {
+        write([] {});
+    }
+    return locked;
 }
 
 const Logins::Session *Logins::session(const std::string &cookie) {
@@ -147,7 +171,7 @@ void Logins::read() {
     for (const auto &[cookie, one] : text.items()) {
         try {
             const Session session{one.at("token"), one.at("login"), one.at("password"),
-                                  Moment(std::chrono::milliseconds(one.at("until")))};
+                                  Moment(std::chrono::milliseconds(one.at("until"))), now()};
             const Trader *own = trader(session.login);
             if (own != nullptr && web::digest_of(own->password) == session.password) {
                 sessions_[cookie] = session;
@@ -158,7 +182,8 @@ void Logins::read() {
     }
 }
 
-void Logins::write() const {
+// By its thread: whoever serves pages does not wait for the disk.
+void Logins::write(std::function<void()> done) {
     json text = json::object();
     for (const auto &[cookie, one] : sessions_) {
         text[cookie] = {{"token", one.token},
@@ -166,12 +191,15 @@ void Logins::write() const {
                         {"password", one.password},
                         {"until", milliseconds_of(one.until)}};
     }
-    try {
-        write_json(path_, text);
-    } catch (const std::runtime_error &) {
-        // Whoever is logged in goes on, and logs in again after a restart. A full disk ends the
-        // desk at its journal.
-    }
+    boost::asio::post(thread_, [this, text = std::move(text), done = std::move(done)] {
+        try {
+            write_json(path_, text);
+        } catch (const std::runtime_error &) {
+            // Whoever is logged in goes on, and logs in again after a restart. A full disk ends
+            // the desk at its journal.
+        }
+        boost::asio::post(io_, done);
+    });
 }
 
 } // namespace desk

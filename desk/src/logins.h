@@ -4,12 +4,13 @@
 #ifndef DESK_LOGINS_H
 #define DESK_LOGINS_H
 
+#include "common/web/secrets.h"
 #include "config.h"
 #include "moment.h"
-#include "web/secrets.h"
 
 #include <functional>
 #include <map>
+#include <optional>
 #include <string>
 #include <utility>
 #include <variant>
@@ -53,14 +54,22 @@ class Logins {
     enum class Refusal { wrong, too_often, busy };
     using Outcome = std::variant<Ticket, Refusal>;
 
-    // Sessions are kept in a file, by their digests, so that a page goes on after a restart.
-    Logins(boost::asio::io_context &io, std::vector<Trader> traders, std::string path);
+    // Sessions are kept in a file, by their digests, so that a page goes on after a restart. One
+    // that nobody has used for `lock_after` is over.
+    Logins(boost::asio::io_context &io, std::vector<Trader> traders, std::string path,
+           std::optional<std::chrono::minutes> lock_after);
     ~Logins();
 
     // Passwords are judged on a thread of their own; `tell` is called on that of io.
     void log_in(const std::string &address, const std::string &login, const std::string &password,
                 std::function<void(Outcome)> tell);
-    void log_out(const std::string &cookie);
+    // `done` is called, on the thread of io, once the session is over for good.
+    void log_out(const std::string &cookie, std::function<void()> done);
+    // Its trader has done something.
+    void saw(const std::string &cookie);
+    // Ends the sessions that nobody has used for too long; their logins.
+    std::vector<std::string> lock();
+    bool has(const std::string &login) const { return trader(login) != nullptr; }
 
     // Null where the cookie is of no session.
     const Trader *trader_of(const std::string &cookie);
@@ -72,17 +81,19 @@ class Logins {
         std::string login;
         std::string password; // the digest of its hash: a new password ends the session
         Moment until;
+        Moment seen; // of the trader; since the start where nothing is known
     };
     const Trader *trader(const std::string &login) const;
-    Ticket begin(const Trader &trader);
+    void begin(const Trader &trader, const std::function<void(Outcome)> &tell);
     const Session *session(const std::string &cookie);
     void drop_old(const std::string &login);
     void read();
-    void write() const;
+    void write(std::function<void()> done);
 
     boost::asio::io_context &io_;
     const std::vector<Trader> traders_;
     const std::string path_;
+    const std::optional<std::chrono::minutes> lock_after_;
     std::map<std::string, Session> sessions_; // by the digest of the cookie
     Attempts of_address_{20};
     Attempts of_login_{10};

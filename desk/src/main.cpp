@@ -1,15 +1,15 @@
 // mireseason-desk CONFIG: one firm's desk, and the pages of its traders. It prints their address.
 #include "built_in_pages.h"
+#include "common/web/server.h"
 #include "config.h"
 #include "desk.h"
 #include "desk_site.h"
 #include "events.h"
 #include "folder_lock.h"
 #include "logins.h"
-#include "web/server.h"
 
-#include "../../gateway/src/password.h"
-#include "../../gateway/src/version.h"
+#include "common/password.h"
+#include "common/version.h"
 
 #include <charconv>
 #include <csignal>
@@ -66,11 +66,11 @@ int print_hash() {
     return 0;
 }
 
-web::Files files_of(const desk::Config &config) {
+web::StaticFiles files_of(const desk::Config &config) {
     if (!config.pages) {
         return desk::built_in_pages();
     }
-    web::Files files;
+    web::StaticFiles files;
     files.add_folder(*config.pages);
     return files;
 }
@@ -79,10 +79,10 @@ void run(const desk::Config &config, int next_number) {
     const desk::FolderLock lock(config.data);
     desk::Events events(config.firm);
     boost::asio::io_context io(1);
-    desk::Logins logins(io, config.traders, config.data + "/sessions.json");
+    desk::Logins logins(io, config.traders, config.data + "/sessions.json", config.lock_after);
     desk::Desk desk(io, config, events, next_number);
-    desk::DeskSite site(config, desk, logins, files_of(config));
-    web::Server server(io, config.door, site);
+    desk::DeskSite site(config, desk, logins, events, files_of(config));
+    web::Server server(io, config.server, site);
     site.set_port(server.port());
 
     boost::asio::signal_set signals(io, SIGINT, SIGTERM);
@@ -97,8 +97,8 @@ void run(const desk::Config &config, int next_number) {
             }
         });
     };
-    tick();
     desk.start(site);
+    tick();
     std::cout << server.address() << std::endl;
     io.run();
     desk.stop();

@@ -21,6 +21,11 @@ std::string fix_text(Moment moment);
 // YYYYMMDD
 std::string date_of(Moment moment);
 
+// The day of the calendar.
+inline std::chrono::year_month_day day_of(Moment moment) {
+    return std::chrono::floor<std::chrono::days>(moment);
+}
+
 // Milliseconds since 1970, as the page and the journal have them.
 inline std::int64_t milliseconds_of(Moment moment) {
     return moment.time_since_epoch().count();

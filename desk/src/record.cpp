@@ -1,6 +1,7 @@
 #include "record.h"
 
 #include "message.h"
+#include "safe_names.h"
 
 #include <algorithm>
 #include <filesystem>
@@ -28,7 +29,7 @@ void Record::open(const std::string &date) {
     sent_.clear();
     next_sent_ = 1;
     next_received_ = 1;
-    journal_ = std::make_unique<Journal>(path_of(date), [this](const Entry &entry) {
+    journal_ = std::make_shared<Journal>(path_of(date), [this](const Entry &entry) {
         count(entry);
         if (entry.kind != Entry::Kind::session) {
             waiting_.emplace_back(entry);
@@ -37,7 +38,7 @@ void Record::open(const std::string &date) {
 }
 
 void Record::count(const Entry &entry) {
-    if (entry.kind == Entry::Kind::undelivered) {
+    if (entry.kind == Entry::Kind::undelivered || entry.kind == Entry::Kind::note) {
         return;
     }
     const int number = static_cast<int>(Message(entry.bytes).number(tag::msg_seq_num));
@@ -50,19 +51,21 @@ void Record::count(const Entry &entry) {
 }
 
 // What leaves is safe against a power cut first, and so is that something never will; what came is
-// asked for again.
+// asked for again. The disk is waited for without the lock: whoever takes does not wait for it.
 void Record::append(std::unique_lock<std::mutex> &lock, Entry entry) {
     using Kind = Entry::Kind;
+    const Kind kind = entry.kind;
     journal_->write(entry);
-    if (entry.kind != Kind::received) {
-        journal_->synchronise();
-    }
     count(entry);
-    if (entry.kind != Kind::session) {
+    if (kind != Kind::session) {
         waiting_.emplace_back(std::move(entry));
     }
+    const std::shared_ptr<Journal> journal = journal_;
     lock.unlock();
     wake_();
+    if (kind != Kind::received) {
+        journal->synchronise();
+    }
 }
 
 std::deque<Happening> Record::take() {
@@ -84,6 +87,11 @@ void Record::received(const std::string &raw) {
 void Record::undelivered(int number) {
     std::unique_lock lock(mutex_);
     append(lock, Entry{Entry::Kind::undelivered, now(), std::to_string(number)});
+}
+
+void Record::note(const std::string &text) {
+    std::unique_lock lock(mutex_);
+    append(lock, Entry{Entry::Kind::note, now(), text});
 }
 
 void Record::skip_to(int number) {
@@ -112,7 +120,7 @@ void Record::begin_day() {
         for (int count = 1; today == date_ && std::filesystem::exists(path_of(today)); ++count) {
             const std::string aside = path_of(today) + "." + std::to_string(count);
             if (!std::filesystem::exists(aside)) {
-                std::filesystem::rename(path_of(today), aside);
+                rename_safely(path_of(today), aside);
             }
         }
         waiting_.emplace_back();

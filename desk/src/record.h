@@ -36,6 +36,8 @@ class Record final : public SessionStore {
     void received(const std::string &raw);
     // The message of this number will never be delivered.
     void undelivered(int number);
+    // What traders tell each other: JSON.
+    void note(const std::string &text);
     // The number of the next message of the session is this one, whatever the journal says: for one
     // that was lost. Before the session is made.
     void skip_to(int number);
@@ -60,7 +62,8 @@ class Record final : public SessionStore {
     const std::function<void()> wake_;
     mutable std::mutex mutex_; // nothing that takes another lock is called under it
     std::condition_variable taken_;
-    std::unique_ptr<Journal> journal_;
+    // A day that begins leaves the old one to whoever synchronises it.
+    std::shared_ptr<Journal> journal_;
     std::string date_;
     std::deque<Happening> waiting_;
     bool lets_through_ = false;

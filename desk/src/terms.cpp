@@ -33,24 +33,27 @@ bool Request::awaits(Act act) const {
                        [&](const Pending &one) { return one.act == act; });
 }
 
-void Request::settle(Act act, const std::string &quote) {
+std::string Request::settle(Act act, const std::string &quote) {
     const auto found = std::find_if(pending.begin(), pending.end(), [&](const Pending &one) {
         return one.act == act && one.quote == quote;
     });
-    if (found != pending.end()) {
-        pending.erase(found);
+    if (found == pending.end()) {
+        return {};
     }
+    std::string trader = found->trader;
+    pending.erase(found);
+    return trader;
 }
 
-void Request::note(Moment at, const std::string &text) {
+void Request::note(Moment at, const std::string &text, const std::string &trader) {
     if (history.size() >= most_history) {
         history.erase(history.begin());
     }
-    history.push_back(Told{at, text, false});
+    history.push_back(Told{at, text, false, trader});
 }
 
-void Request::tell(Moment at, const std::string &text, bool is_refusal) {
-    note(at, text);
+void Request::tell(Moment at, const std::string &text, bool is_refusal, const std::string &trader) {
+    note(at, text, trader);
     history.back().is_refusal = is_refusal;
     told = history.back();
 }

@@ -37,6 +37,14 @@ struct Told {
     Moment at;
     std::string text;
     bool is_refusal = false;
+    std::string trader; // of the firm, SenderSubID (50); empty where the venue acted
+};
+
+// A request that a dealer's trader has taken on. It forbids nobody anything.
+struct Claim {
+    std::string login;
+    std::string trader; // SenderSubID (50)
+    Moment at;
 };
 
 // What a request of either side has. Its history has a limit.
@@ -52,14 +60,17 @@ struct Request {
     std::optional<Told> told; // the last thing that matters now
     std::vector<Told> history;
     std::string trade; // its name, TradeID (1003), where the venue tells it
+    std::optional<Claim> claim;
 
     // Whether one of these is sent and not answered yet.
     bool awaits(Act act) const;
-    // The first pending one of these was answered.
-    void settle(Act act, const std::string &quote);
-    // A line of its history; and one that a trader is told, too.
-    void note(Moment at, const std::string &text);
-    void tell(Moment at, const std::string &text, bool is_refusal = false);
+    // The first pending one of these was answered; whose it was.
+    std::string settle(Act act, const std::string &quote);
+    // A line of its history, with the trader of the firm who acted; and one that a trader is told,
+    // too.
+    void note(Moment at, const std::string &text, const std::string &trader = "");
+    void tell(Moment at, const std::string &text, bool is_refusal = false,
+              const std::string &trader = "");
 };
 
 } // namespace desk

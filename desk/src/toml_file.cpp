@@ -1,15 +1,44 @@
 #include "toml_file.h"
 
+#include "common/regular_file.h"
+#include "common/toml_bounds.h"
+
 #include <algorithm>
 #include <filesystem>
+#include <fstream>
 #include <sstream>
 #include <stdexcept>
 
 namespace desk {
 
+namespace {
+
+// As much as a configuration may have, and a byte more where it has more. A pipe or a device is not
+// read: it may have no end.
+std::string read_bounded(const std::string &path) {
+    std::ifstream in;
+    if (!gateway::may_have_no_end(path)) {
+        in.open(path, std::ios::binary);
+    }
+    std::string text(gateway::longest_toml + 1, '\0');
+    if (!in.is_open() ||
+        (!in.read(text.data(), static_cast<std::streamsize>(text.size())) && !in.eof())) {
+        throw std::runtime_error(path + ": can't be read");
+    }
+    text.resize(static_cast<std::size_t>(in.gcount()));
+    return text;
+}
+
+} // namespace
+
 toml::table read_toml(const std::string &path) {
+    const std::string bytes = read_bounded(path);
+    if (const auto excess = gateway::excess_of(bytes)) {
+        throw std::runtime_error(path + ": line " + std::to_string(excess->line) + ": " +
+                                 excess->what);
+    }
     try {
-        return toml::parse_file(path);
+        return toml::parse(bytes);
     } catch (const toml::parse_error &fault) {
         std::ostringstream text;
         text << path << ": line " << fault.source().begin.line << ": " << fault.description();
@@ -50,6 +79,32 @@ std::int64_t TomlTable::number(std::string_view key, std::int64_t least,
              " to " + std::to_string(greatest));
     }
     return *value;
+}
+
+double TomlTable::decimal(std::string_view key, double least, double greatest) const {
+    const auto value = (*table_)[key].value<double>();
+    if ((*table_)[key].is_boolean() || !value || !(*value >= least && *value <= greatest)) {
+        std::ostringstream range;
+        range << least << " to " << greatest;
+        fail("'" + std::string(key) + "' has to be a number from " + range.str());
+    }
+    return *value;
+}
+
+bool TomlTable::truth(std::string_view key) const {
+    const auto value = (*table_)[key].value_exact<bool>();
+    if (!value) {
+        fail("'" + std::string(key) + "' has to be true or false");
+    }
+    return *value;
+}
+
+std::chrono::year_month_day TomlTable::date(std::string_view key) const {
+    const auto value = (*table_)[key].value_exact<toml::date>();
+    if (!value) {
+        fail("'" + std::string(key) + "' is missing, or no date such as 2030-06-15");
+    }
+    return std::chrono::year(value->year) / value->month / value->day;
 }
 
 std::vector<std::string> TomlTable::texts(std::string_view key) const {

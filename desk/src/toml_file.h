@@ -2,6 +2,7 @@
 #ifndef DESK_TOML_FILE_H
 #define DESK_TOML_FILE_H
 
+#include <chrono>
 #include <cstdint>
 #include <initializer_list>
 #include <string>
@@ -26,6 +27,10 @@ class TomlTable {
     std::string text(std::string_view key) const;
     std::string file(std::string_view key) const;
     std::int64_t number(std::string_view key, std::int64_t least, std::int64_t greatest) const;
+    // A number with or without a point.
+    double decimal(std::string_view key, double least, double greatest) const;
+    bool truth(std::string_view key) const;
+    std::chrono::year_month_day date(std::string_view key) const;
     std::vector<std::string> texts(std::string_view key) const;
     TomlTable table(std::string_view key) const;
     // Empty where the key is missing.

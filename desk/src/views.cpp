@@ -98,7 +98,17 @@ json view_of(const std::optional<Moment> &moment) {
 }
 
 json view_of(const Told &told) {
-    return {{"at", milliseconds_of(told.at)}, {"text", told.text}, {"refusal", told.is_refusal}};
+    return {{"at", milliseconds_of(told.at)},
+            {"text", told.text},
+            {"refusal", told.is_refusal},
+            {"trader", told.trader}};
+}
+
+json view_of(const std::optional<Claim> &claim) {
+    return claim ? json{{"login", claim->login},
+                        {"trader", claim->trader},
+                        {"at", milliseconds_of(claim->at)}}
+                 : json();
 }
 
 // What both sides have.
@@ -111,6 +121,7 @@ json terms_of(const Request &request) {
              {"made", milliseconds_of(request.made)},
              {"ended", view_of(request.ended)},
              {"trade", request.trade},
+             {"claimed", view_of(request.claim)},
              {"told", request.told ? view_of(*request.told) : json()},
              {"pending", json::array()},
              {"history", json::array()}};

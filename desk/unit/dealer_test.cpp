@@ -158,7 +158,7 @@ TEST_CASE_FIXTURE(Fixture, "a cancel of all that finds nothing is told, and wait
     receive("35=AI|131=R1|117=q1|297=5|300=8|");
     CHECK(shown("R1").pending.empty());
     receive("35=AI|297=9|");
-    CHECK(day.notice()->text == "Cancel of all: there was no live quote");
+    CHECK(day.notice()->text == "Cancel all: there was no live quote");
 }
 
 TEST_CASE_FIXTURE(Fixture, "each end of a request has its name") {
@@ -234,6 +234,14 @@ TEST_CASE_FIXTURE(Fixture, "the desk helps before it sends") {
     CHECK(why({"R2", Price{99 * 256}, {}, ""}) ==
           "The exposure would be 4,000,000 of 3,000,000: withdraw another quote first.");
     CHECK(why({"R1", Price{98 * 256}, {}, "q1"}).empty());
+    // What a trader's own limit allows is the trader's own quotes, and no colleague's that are
+    // replaced.
+    small.exposure = 2'000'000;
+    CHECK(why({"R1", Price{98 * 256}, {}, "q1"}, small).empty());
+    Trader colleague = small;
+    colleague.name = "T4";
+    colleague.exposure = 1'000'000;
+    CHECK(why({"R1", Price{98 * 256}, {}, "q1"}, colleague).rfind("Your own exposure", 0) == 0);
     CHECK(why_not(command::Withdraw{"R1"}, day).empty());
     CHECK_FALSE(why_not(command::Withdraw{"R2"}, day).empty());
     CHECK(why_not(command::Decline{"R1"}, day) == "Withdraw the live quote first.");
@@ -255,4 +263,61 @@ TEST_CASE_FIXTURE(Fixture, "the same entries give the same views, at once and la
     CHECK(day.view("R1") == again.day.view("R1"));
     CHECK(day.view("R1")["history"].size() == 2);
     CHECK(day.requests() == std::vector<std::string>{"R1", "R2"});
+}
+
+TEST_CASE_FIXTURE(Fixture, "a claim is its trader's until it is released or handed over") {
+    const Trader tess{"tess", "", "T3", true, {}, {}}, tom{"tom", "", "T4", true, {}, {}},
+        lou{"lou", "", "T5", false, {}, {}};
+    const auto note = [&](const std::string &text) { day.apply(entry(Kind::note, 2000, text)); };
+    CHECK(why_not(command::ClaimRequest{"R9"}, tess, day) == "The request has ended.");
+    CHECK(why_not(command::ReleaseRequest{"R1"}, day) == "Nobody has claimed it.");
+    CHECK(why_not(command::ClaimRequest{"R1"}, tess, day).empty());
+    day.take_changed();
+    note(R"({"do": "claim", "request": "R1", "login": "tess", "trader": "T3"})");
+    CHECK(day.take_changed() == std::set<std::string>{"R1"});
+    REQUIRE(shown("R1").claim);
+    CHECK(shown("R1").claim->login == "tess");
+    CHECK(shown("R1").history.back().text == "Claimed");
+    CHECK(shown("R1").history.back().trader == "T3");
+    CHECK(why_not(command::ClaimRequest{"R1"}, tess, day) == "You have claimed it already.");
+    CHECK(why_not(command::ClaimRequest{"R1"}, tom, day) == "T3 has claimed it.");
+    const std::vector<Trader> traders{tess, tom, lou};
+    CHECK(why_not(command::HandOver{"R1", "tess"}, tom, traders, day) == "T3 has claimed it.");
+    CHECK(why_not(command::HandOver{"R1", "lou"}, tess, traders, day) ==
+          "The desk has no trader 'lou' who may quote.");
+    CHECK_FALSE(why_not(command::HandOver{"R1", "tess"}, tess, traders, day).empty());
+    CHECK(why_not(command::HandOver{"R1", "tom"}, tess, traders, day).empty());
+    note(R"({"do": "hand over", "request": "R1", "login": "tess", "trader": "T3",
+             "to": "tom", "to trader": "T4"})");
+    CHECK(shown("R1").claim->login == "tom");
+    CHECK(shown("R1").history.back().text == "Handed over to T4");
+    note(R"({"do": "release", "request": "R1", "login": "tess", "trader": "T3"})");
+    CHECK_FALSE(shown("R1").claim);
+    CHECK_FALSE(shown("R2").claim);
+}
+
+TEST_CASE_FIXTURE(Fixture, "a note of another form changes nothing") {
+    for (const char *text : {"", "no JSON", "[]", "{}", R"({"do": "claim"})", R"({"do": 5})",
+                             R"({"do": "claim", "request": "R9", "login": "a", "trader": "b"})",
+                             R"({"do": "claim", "request": ["R1"], "login": "a", "trader": "b"})",
+                             R"({"do": "later", "request": "R1", "login": "a", "trader": "b"})"}) {
+        day.apply(entry(Kind::note, 2000, text));
+        CHECK_FALSE(shown("R1").claim);
+        CHECK(shown("R1").history.empty());
+    }
+}
+
+TEST_CASE_FIXTURE(Fixture, "a history says who of the firm acted, and nobody where the venue did") {
+    quote_live(2, "q1", "R1");
+    CHECK(shown("R1").history.back().trader == "T3");
+    send(3, "35=Z|117=q1|298=5|");
+    receive("35=AI|117=q1|297=17|");
+    CHECK(shown("R1").history.back().text == "Withdrawn: 99.5");
+    CHECK(shown("R1").history.back().trader == "T3");
+    send(4, "35=AG|131=R1|658=10|");
+    receive("35=AI|131=R1|297=11|");
+    CHECK(shown("R1").history.back().trader == "T3");
+    receive("35=AJ|131=R1|694=3|");
+    CHECK(shown("R1").history.back().text == "Expired");
+    CHECK(shown("R1").history.back().trader.empty());
 }

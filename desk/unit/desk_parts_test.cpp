@@ -8,7 +8,7 @@
 #include "open_page.h"
 #include "unit.h"
 
-#include "../../gateway/src/password.h"
+#include "common/password.h"
 
 #include <fstream>
 
@@ -162,9 +162,9 @@ TEST_CASE("by no name or address can somebody take the tries of another") {
     CHECK((attempts.may_try(sharing[0], at) || attempts.may_try(sharing[1], at)));
 }
 
-TEST_CASE("a page has a burst of commands, and then twenty a second") {
+TEST_CASE("a pace has a burst, and then so many a second") {
     const Moment at = *moment_of("20260314-09:00:00.000");
-    Pace pace(at);
+    Pace pace(20, 60, at);
     int gone = 0;
     for (int count = 0; count < 200; ++count) {
         gone += pace.may_go(at);
@@ -183,17 +183,18 @@ TEST_CASE("groups are each trader's own, have a limit, and outlive the process")
     const std::string path = folder.file("groups.json");
     {
         GroupStore groups(path);
-        CHECK(groups.save("tess", "big", {"DLR1", "DLR2"}).empty());
-        CHECK(groups.save("tom", "big", {"DLR3"}).empty());
-        CHECK_FALSE(groups.save("tess", "", {"DLR1"}).empty());
-        CHECK_FALSE(groups.save("tess", std::string(25, 'x'), {"DLR1"}).empty());
-        CHECK_FALSE(groups.save("tess", times(25, "é"), {"DLR1"}).empty());
-        CHECK(groups.save("tess", times(24, "é"), {"DLR1"}).empty());
+        CHECK(groups.set("tess", "big", {"DLR1", "DLR2"}).empty());
+        CHECK(groups.set("tom", "big", {"DLR3"}).empty());
+        CHECK_FALSE(groups.set("tess", "", {"DLR1"}).empty());
+        CHECK_FALSE(groups.set("tess", std::string(25, 'x'), {"DLR1"}).empty());
+        CHECK_FALSE(groups.set("tess", times(25, "é"), {"DLR1"}).empty());
+        CHECK(groups.set("tess", times(24, "é"), {"DLR1"}).empty());
         for (int count = 2; count < 16; ++count) {
-            CHECK(groups.save("tess", std::to_string(count), {"DLR1"}).empty());
+            CHECK(groups.set("tess", std::to_string(count), {"DLR1"}).empty());
         }
-        CHECK_FALSE(groups.save("tess", "more", {"DLR1"}).empty());
-        CHECK(groups.save("tess", "5", {}).empty());
+        CHECK_FALSE(groups.set("tess", "more", {"DLR1"}).empty());
+        CHECK(groups.set("tess", "5", {}).empty());
+        CHECK(groups.writer()().empty());
     }
     const GroupStore groups(path);
     CHECK(groups.of("tess").size() == 15);

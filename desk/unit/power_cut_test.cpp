@@ -2,17 +2,22 @@
 // asked for.
 #include <doctest/doctest.h>
 
+#include "file_store.h"
 #include "journal.h"
 #include "record.h"
 #include "unit.h"
 
 #include <algorithm>
+#include <chrono>
+#include <deque>
 #include <filesystem>
 #include <fstream>
 #include <functional>
+#include <future>
 #include <string>
 #include <vector>
 
+#include <nlohmann/json.hpp>
 #include <sys/syscall.h>
 #include <unistd.h>
 
@@ -93,6 +98,38 @@ TEST_CASE("that a message will never be delivered is safe once it was said, as w
     CHECK(safe == 2);
     record.received(desk_tests::fix("35=AI|34=1|")); // what came is asked for again
     CHECK(safe == 2);
+}
+
+TEST_CASE("whoever takes what happened does not wait for the disk") {
+    const Folder folder;
+    Record record(folder.file(""), [] {});
+    const std::string journal = "journal-" + record.date();
+    std::future<std::deque<Happening>> taken;
+    bool is_free = false;
+    {
+        const Listening listening([&](const std::string &name) { // the disk has not answered yet
+            if (std::filesystem::path(name).filename() == journal) {
+                taken = std::async(std::launch::async, [&] { return record.take(); });
+                is_free = taken.wait_for(std::chrono::seconds(20)) == std::future_status::ready;
+            }
+        });
+        record.keep(1, true, desk_tests::fix("35=R|34=1|"));
+    }
+    CHECK(is_free);
+    CHECK(taken.get().size() == 1);
+}
+
+TEST_CASE("a file that has another name is safe, and its name then") {
+    const Folder folder;
+    const std::string path = folder.file("sessions.json");
+    std::vector<std::string> safe;
+    {
+        const Listening listening([&](const std::string &name) { safe.push_back(name); });
+        write_json(path, {{"one", 1}});
+    }
+    const std::string place = std::filesystem::path(path).parent_path();
+    CHECK(safe == std::vector<std::string>{path + ".new", place});
+    CHECK(read_json(path) == nlohmann::json{{"one", 1}});
 }
 
 TEST_CASE("a journal that can't be read is not cut") {

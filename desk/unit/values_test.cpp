@@ -1,15 +1,15 @@
 // Prices, moments, messages, identifiers, cookies, hosts.
 #include <doctest/doctest.h>
 
+#include "common/web/connection_slots.h"
+#include "common/web/cookies.h"
+#include "common/web/secrets.h"
+#include "common/web/server_settings.h"
 #include "identifiers.h"
 #include "message.h"
 #include "moment.h"
 #include "price.h"
 #include "unit.h"
-#include "web/cookies.h"
-#include "web/door.h"
-#include "web/secrets.h"
-#include "web/slots.h"
 
 #include <set>
 #include <stdexcept>
@@ -99,7 +99,7 @@ TEST_CASE("of a cookie that is given twice there is none") {
 }
 
 TEST_CASE("a page of another host or port is none of the server's own") {
-    const web::Names plain(web::Door{}, 8101);
+    const web::Names plain(web::ServerSettings{}, 8101);
     CHECK(plain.address() == "http://127.0.0.1:8101/");
     CHECK(plain.is_own_origin("http://127.0.0.1:8101", "127.0.0.1:8101"));
     CHECK(plain.is_own_origin("http://localhost:8101", "localhost:8101"));
@@ -114,17 +114,17 @@ TEST_CASE("a page of another host or port is none of the server's own") {
 }
 
 TEST_CASE("beyond this machine nobody is served without TLS and a name") {
-    web::Door door;
-    door.address = "0.0.0.0";
-    CHECK_THROWS_AS(web::check(door), std::runtime_error);
-    door.certificate = web::Certificate{"chain.pem", "key.pem"};
-    CHECK_THROWS_AS(web::check(door), std::runtime_error);
-    door.hosts = {"desk.firm.example"};
-    CHECK_NOTHROW(web::check(door));
-    CHECK(web::Names(door, 443).address() == "https://desk.firm.example/");
-    CHECK_FALSE(web::Names(door, 443).is_host("127.0.0.1"));
-    door.address = "here";
-    CHECK_THROWS_AS(web::check(door), std::runtime_error);
+    web::ServerSettings settings;
+    settings.address = "0.0.0.0";
+    CHECK_THROWS_AS(web::check(settings), std::runtime_error);
+    settings.certificate = web::Certificate{"chain.pem", "key.pem"};
+    CHECK_THROWS_AS(web::check(settings), std::runtime_error);
+    settings.hosts = {"desk.firm.example"};
+    CHECK_NOTHROW(web::check(settings));
+    CHECK(web::Names(settings, 443).address() == "https://desk.firm.example/");
+    CHECK_FALSE(web::Names(settings, 443).is_host("127.0.0.1"));
+    settings.address = "here";
+    CHECK_THROWS_AS(web::check(settings), std::runtime_error);
 }
 
 TEST_CASE("secrets are long, differ, and are compared whole") {
@@ -139,7 +139,7 @@ TEST_CASE("secrets are long, differ, and are compared whole") {
 }
 
 TEST_CASE("a place is given back, and one address does not take all") {
-    const auto slots = std::make_shared<web::Slots>(3, 2);
+    const auto slots = std::make_shared<web::ConnectionSlots>(3, 2);
     auto first = slots->take("192.0.2.1");
     auto second = slots->take("192.0.2.1");
     CHECK(first.has_value());

@@ -1,0 +1,100 @@
+// Lists of requests, as the journal has them.
+#include <doctest/doctest.h>
+
+#include "checks.h"
+#include "investor_day.h"
+#include "lists.h"
+
+#include <nlohmann/json.hpp>
+
+using namespace desk;
+using nlohmann::json;
+using State = ListLine::State;
+
+namespace {
+
+const Moment at{std::chrono::milliseconds(1000)};
+
+AskedList two_lines() {
+    AskedList list;
+    list.id = "L1-2";
+    list.name = "Monday";
+    list.within = std::chrono::seconds(60);
+    list.dealers = {"DLR1"};
+    list.lines = {{"A", Side::buy, 5, State::waiting, ""},
+                  {"B", Side::sell, 7, State::waiting, ""}};
+    return list;
+}
+
+json note(json text) {
+    text["login"] = "tess";
+    text["trader"] = "T8";
+    return text;
+}
+
+} // namespace
+
+TEST_CASE("a list is read back as it was noted") {
+    Lists lists;
+    lists.apply(note(note_of(two_lines())), at);
+    CHECK(lists.take_changed() == std::set<std::string>{"L1-2"});
+    CHECK(lists.take_changed().empty());
+    REQUIRE(lists.named("L1-2"));
+    const AskedList &list = *lists.named("L1-2");
+    CHECK(list.login == "tess");
+    CHECK(list.trader == "T8");
+    CHECK(list.made == at);
+    CHECK(list.within == std::chrono::seconds(60));
+    REQUIRE(list.lines.size() == 2);
+    CHECK(list.lines[1].bond == "B");
+    CHECK(list.lines[1].side == Side::sell);
+    CHECK(list.lines[1].quantity == 7);
+}
+
+TEST_CASE("a day has so many lists, whether lines of them wait or not") {
+    InvestorDay day;
+    Market market;
+    market.limits.requests = 1000;
+    const Trader trader{"tess", "", "T8", true, {}, {}};
+    const auto why = [&] { return why_not(command::AskList{}, trader, market, day, at); };
+    for (int count = 0; count < 256; ++count) {
+        CHECK(why().empty());
+        AskedList list = two_lines();
+        list.id = "L" + std::to_string(count);
+        day.lists().apply(note(note_of(list)), at);
+    }
+    CHECK(why() == "The desk takes 256 lists a day.");
+}
+
+TEST_CASE("lines are asked in order, and known by their requests") {
+    Lists lists;
+    lists.apply(note(note_of(two_lines())), at);
+    REQUIRE(lists.next({}));
+    CHECK(lists.next({})->line == 0);
+    CHECK(lists.next({"L1-2-0"})->line == 1);
+    CHECK_FALSE(lists.next({"L1-2-0", "L1-2-1"}));
+    lists.sent("L1-2-0");
+    CHECK(lists.next({})->line == 1);
+    CHECK(lists.place_of("L1-2-1")->line == 1);
+    for (const char *other : {"", "-", "L1-2", "L1-2-", "L1-2-2", "L1-2-1x", "L1-2--1", "A1-3"}) {
+        CAPTURE(other);
+        CHECK_FALSE(lists.place_of(other));
+    }
+    CHECK(view_of(*lists.named("L1-2"))["lines"][0]["request"] == "L1-2-0");
+    CHECK(view_of(*lists.named("L1-2"))["lines"][1]["request"] == "");
+}
+
+TEST_CASE("a stop ends what waits, and a refusal its line") {
+    Lists lists;
+    lists.apply(note(note_of(two_lines())), at);
+    lists.apply(note({{"do", "refuse line"}, {"list", "L1-2"}, {"line", 0}, {"why", "no"}}), at);
+    lists.apply(note({{"do", "stop list"}, {"list", "L1-2"}, {"why", "enough"}}), at);
+    const AskedList &list = *lists.named("L1-2");
+    CHECK(list.lines[0].state == State::refused);
+    CHECK(list.lines[0].why == "no");
+    CHECK(list.lines[1].state == State::stopped);
+    CHECK(list.lines[1].why == "enough");
+    CHECK_FALSE(lists.next({}));
+    lists.apply(note({{"do", "stop list"}, {"list", "L9"}, {"why", "x"}}), at);
+    CHECK(lists.all().size() == 1);
+}
