@@ -4,7 +4,8 @@
 usage: certificates.py SITE FOLDER
 
 SITE is a file as site.toml. FOLDER gets authority.pem and authority.key, and of each host HOST.pem
-and HOST.key; what is there stays, so that a new host is added by running it again. README.md says
+and HOST.key. Where the site has a host for readers, it gets readers.pem and readers.key too, an authority of their own, and reader.pem
+and reader.key, by which a supervisor logs in; what is there stays, so that a new host is added by running it again. README.md says
 where each has its place. Keep authority.key away from all hosts: whoever has it can be any of them.
 """
 
@@ -12,7 +13,7 @@ import argparse
 import sys
 from pathlib import Path
 
-from parts.certificates import make_certificates
+from parts.certificates import make_certificates, make_reader
 from parts.fault import Fault
 from parts.site import read_site
 
@@ -25,6 +26,8 @@ def main() -> None:
     try:
         site = read_site(words.site)
         make_certificates(site.hosts, words.folder)
+        if site.readers:
+            make_reader(words.folder)
     except (Fault, OSError) as fault:
         sys.exit("certificates.py: %s" % fault)
 

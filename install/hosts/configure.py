@@ -4,7 +4,7 @@
 usage: configure.py SITE HOST FOLDER
 
 SITE is a file as site.toml, which names all hosts. Of a database host etcd.yml, patroni.yml,
-make_database.sh and database.sql are written into FOLDER, of a gateway host gateway.toml and pgpass, of a host of copies
+make_database.sh and database.sql are written into FOLDER, of a host for readers patroni.yml, of a gateway host gateway.toml and pgpass, of a host of copies
 keeper.toml and pgpass; README.md says where each has its place.
 """
 
@@ -30,7 +30,8 @@ SECRET = 0o640
 
 def write(words: argparse.Namespace) -> None:
     site = read_site(words.site)
-    folders = DATABASE_HOST if words.host in site.databases else GATEWAY_HOST
+    is_database = words.host in {**site.databases, **site.readers}
+    folders = DATABASE_HOST if is_database else GATEWAY_HOST
     if words.host in site.keepers:
         folders = KEEPER_HOST
     files = site.files(words.host, folders)

@@ -1,7 +1,7 @@
 #!/usr/bin/python3
 """Has each link of a page that a package installs lead to where the packages put what it names.
 
-    packaging/links.py FOLDER     the pages, by the names that they are installed under
+    install/packages/links.py FOLDER     the pages, by the names that they are installed under
 
 A page stands in /usr/share/doc, in the folder of the package whose file debian/PACKAGE.docs names it. What no package has
 stays as text, without a link.
@@ -12,26 +12,26 @@ import re
 import sys
 from pathlib import Path
 
-ROOT = Path(__file__).resolve().parent.parent
+ROOT = Path(__file__).resolve().parents[2]
 DOC = "/usr/share/doc"
 # Where a page stands in the repository, if that is not docs/NAME, and what else is installed from it.
 SOURCES = {
     "gateway.md": "gateway/README.md",
     "desk.md": "desk/README.md",
-    "deploy.md": "deploy/README.md",
+    "deploy.md": "install/hosts/README.md",
     "SECURITY.md": "SECURITY.md",
 }
 FOLDERS = {
-    "deploy/prometheus/": "/usr/share/mireseason/prometheus/",
+    "install/prometheus/": "/usr/share/mireseason/prometheus/",
     "fix/": "/usr/share/mireseason/fix/",
 }
-LINK = re.compile(r"!?\[([^]]*)\]\(([^)#:]+)(#[^)]*)?\)")
+LINK = re.compile(r"!?\[((?:`[^`]*`|[^]`])*)\]\(([^)#:]+)(#[^)]*)?\)")
 
 
 def places() -> dict[str, str]:
     """Of each page in the repository, where it is installed."""
     found = {}
-    for file in (ROOT / "packaging" / "debian").glob("*.docs"):
+    for file in (ROOT / "debian").glob("*.docs"):
         for line in file.read_text().split():
             name = os.path.basename(line)
             found[SOURCES.get(name, "docs/" + name)] = "%s/%s/%s" % (DOC, file.stem, name)

@@ -19,8 +19,12 @@ DO $$ BEGIN
     EXECUTE format('GRANT CONNECT ON DATABASE %I TO gateway, reader, keeper', current_database());
 END $$;
 
--- A reader reads, and nobody waits for it for long. (It may set the two timeouts otherwise: what it can hold is a snapshot.)
-ALTER ROLE reader CONNECTION LIMIT 5;
+-- A reader reads, and nobody waits for it for long. The timeouts it may set otherwise, for a session; the keeper, a member of the
+-- role, ends what takes longer. What it writes of temporary files it may not: a superuser's setting, for each of its processes.
+-- It has no password: a host for readers lets it in by a certificate, and no other host does.
+ALTER ROLE reader CONNECTION LIMIT 5 PASSWORD NULL;
+ALTER ROLE reader SET temp_file_limit = '100MB';
+GRANT reader TO keeper;
 ALTER ROLE reader SET default_transaction_read_only = on;
 ALTER ROLE reader SET statement_timeout = '10min';
 ALTER ROLE reader SET lock_timeout = '5s';
@@ -31,14 +35,16 @@ ALTER ROLE keeper CONNECTION LIMIT 5;
 ALTER ROLE keeper SET lock_timeout = '5s';
 ALTER ROLE keeper SET idle_in_transaction_session_timeout = '10min';
 
--- What PostgreSQL lets everybody do that no role here needs: large objects, words in the WAL, and locks by a number, which
--- whoever holds one could keep others waiting with.
+-- What PostgreSQL lets everybody do that no role here needs: large objects, words in the WAL, locks by a number, which whoever
+-- holds one could keep others waiting with, numbers of transactions, of which there are only so many before the server has to
+-- be vacuumed, and notices, which stay on disk until all that listen have read them. (NOTIFY itself can't be taken away: a
+-- standby takes none.)
 DO $$
 DECLARE
     one REGPROCEDURE;
 BEGIN
     FOR one IN SELECT oid FROM pg_proc WHERE pronamespace = 'pg_catalog'::regnamespace
-        AND (proname ~ '^(lo_|lo(read|write)$)' OR proname IN ('pg_logical_emit_message', 'pg_export_snapshot')
+        AND (proname ~ '^(lo_|lo(read|write)$)' OR proname IN ('pg_logical_emit_message', 'pg_export_snapshot', 'pg_notify', 'pg_current_xact_id', 'txid_current')
              OR proname ~ '^pg_(try_)?advisory_')
     LOOP
         EXECUTE format('REVOKE ALL ON FUNCTION %s FROM PUBLIC', one);

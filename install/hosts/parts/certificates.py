@@ -21,6 +21,11 @@ extendedKeyUsage = serverAuth, clientAuth
 keyUsage = digitalSignature
 basicConstraints = CA:FALSE
 """
+# A reader is a client of one kind of server, by its name.
+READER = """extendedKeyUsage = clientAuth
+keyUsage = digitalSignature
+basicConstraints = CA:FALSE
+"""
 
 
 def make_certificates(hosts: Mapping[str, str], folder: Path) -> None:
@@ -29,10 +34,21 @@ def make_certificates(hosts: Mapping[str, str], folder: Path) -> None:
     """
     folder.mkdir(parents=True, exist_ok=True)
     if not (folder / "authority.key").exists():
-        _make_authority(folder)
+        _make_authority(folder, "authority", "Mireseason site authority")
     for name, address in hosts.items():
         if not (folder / (name + ".key")).exists():
-            _make_host(folder, name, address)
+            _make_signed(folder, name, HOST % (name, address), "authority")
+
+
+def make_reader(folder: Path) -> None:
+    """Makes `readers.pem` and `readers.key`, an authority that signs readers alone, and `reader.pem` and `reader.key`. A reader
+    has no certificate of the hosts' authority: etcd and Patroni take everybody who has one for a host.
+    """
+    folder.mkdir(parents=True, exist_ok=True)
+    if not (folder / "readers.key").exists():
+        _make_authority(folder, "readers", "Mireseason readers")
+    if not (folder / "reader.key").exists():
+        _make_signed(folder, "reader", READER, "readers")
 
 
 def put_certificate(made: Path, name: str, folder: Path, user: str) -> None:
@@ -50,7 +66,7 @@ def put_certificate(made: Path, name: str, folder: Path, user: str) -> None:
         os.chown(path, owner.pw_uid, owner.pw_gid)
 
 
-def _make_authority(folder: Path) -> None:
+def _make_authority(folder: Path, name: str, subject: str) -> None:
     run(
         "openssl",
         "req",
@@ -59,21 +75,22 @@ def _make_authority(folder: Path) -> None:
         "-days",
         str(AUTHORITY_DAYS),
         "-subj",
-        "/CN=Mireseason site authority",
+        "/CN=" + subject,
         "-addext",
         "keyUsage=critical,keyCertSign,cRLSign",
         "-keyout",
-        str(folder / "authority.key"),
+        str(folder / (name + ".key")),
         "-out",
-        str(folder / "authority.pem"),
+        str(folder / (name + ".pem")),
     )
-    (folder / "authority.key").chmod(0o600)
+    (folder / (name + ".key")).chmod(0o600)
 
 
-def _make_host(folder: Path, name: str, address: str) -> None:
+def _make_signed(folder: Path, name: str, what: str, authority: str) -> None:
+    """A certificate and its key, by this authority; `what` is the words of its extensions."""
     request, words = folder / (name + ".request"), folder / (name + ".words")
     key = folder / (name + ".key")
-    words.write_text(HOST % (name, address))
+    words.write_text(what)
     try:
         run(
             "openssl",
@@ -95,9 +112,9 @@ def _make_host(folder: Path, name: str, address: str) -> None:
             "-in",
             str(request),
             "-CA",
-            str(folder / "authority.pem"),
+            str(folder / (authority + ".pem")),
             "-CAkey",
-            str(folder / "authority.key"),
+            str(folder / (authority + ".key")),
             "-CAcreateserial",
             "-days",
             str(DAYS),

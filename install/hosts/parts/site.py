@@ -13,12 +13,22 @@ from typing import Any
 from .fault import Fault
 
 CONFIG = Path(__file__).resolve().parent.parent / "config"
-GATEWAY = CONFIG.parent.parent / "gateway"
+GATEWAY = CONFIG.parents[2] / "gateway"
 DATABASE_FILES = ("etcd.yml", "patroni.yml", "make_database.sh", "database.sql")
 TABLES = {"SCHEMA_SQL": "schema.sql", "TERMS_SQL": "terms.sql"}  # of the gateway
-WORDS = ("GATEWAY", "READER", "REPLICATION", "REWIND", "REST")  # what has a password
+WORDS = ("GATEWAY", "REPLICATION", "REWIND", "REST")  # what has a password
+FORMER = "READER"  # had one: a reader has a certificate now
 KEEPER = "KEEPER"  # and what has one where there is a host for copies
 ALONE = ""  # the name of a venue that is the only one
+# A host for readers never becomes the primary, and no commit waits for it. It waits with what the primary has changed for as
+# long as somebody reads what was there before: else it would end a reader of a long day.
+TAGS = "tags: {nofailover: true, nosync: true, noloadbalance: true, clonefrom: false}\n"
+STANDBY = '    max_standby_streaming_delay: "15min"\n    hot_standby_feedback: "off"\n'
+READER = "    - hostssl  mireseason   reader      %s   cert\n"
+READERS = '''readers = """host=%s port=5432 dbname=mireseason user=keeper \\
+    passfile=%s/pgpass sslmode=verify-full sslrootcert=%s/authority.pem \\
+    sslcert=%s/host.pem sslkey=%s/host.key connect_timeout=5"""
+'''
 LEFT = re.compile(r"@[A-Z0-9_]+@")
 # They stand in YAML, in SQL within a command of a shell, and in a pgpass: no other character is the
 # same in all of them.
@@ -49,11 +59,12 @@ class Site:
     venues: tuple[str, ...] = (ALONE,)
     synchronous: str = "on"
     keepers: Mapping[str, str] = field(default_factory=dict)  # hosts of copies
+    readers: Mapping[str, str] = field(default_factory=dict)  # hosts that supervisors read from
 
     @property
     def hosts(self) -> dict[str, str]:
         """All of them, with their addresses."""
-        return {**self.databases, **self.gateways, **self.keepers}
+        return {**self.databases, **self.gateways, **self.keepers, **self.readers}
 
     def files(self, host: str, folders: Folders) -> dict[str, str]:
         """The configurations of a host, by their names."""
@@ -61,6 +72,9 @@ class Site:
             return self._database_files(host, folders)
         if host in self.gateways:
             return self._gateway_files(host, folders)
+        if host in self.readers:
+            files = self._database_files(host, folders)
+            return {"patroni.yml": files["patroni.yml"]}
         if host in self.keepers:
             return self._keeper_files(folders)
         raise Fault("there is no host %s" % host)
@@ -68,8 +82,9 @@ class Site:
     def _database_files(self, host: str, folders: Folders) -> dict[str, str]:
         words = {
             "NAME": host,
-            "ADDRESS": self.databases[host],
+            "ADDRESS": self.hosts[host],
             "NETWORK": self.network,
+            **self._words_of_readers(host),
             "DATA": folders.data,
             "RUN": folders.run,
             "CONFIG": folders.config,
@@ -79,6 +94,16 @@ class Site:
         }
         words |= {word: (GATEWAY / name).read_text() for word, name in TABLES.items()}
         return {name: self._filled(name, words) for name in DATABASE_FILES}
+
+    def _words_of_readers(self, host: str) -> dict[str, str]:
+        """What is another at a host for readers than at one of the three."""
+        is_one = host in self.readers
+        return {
+            "TAGS": TAGS if is_one else "",
+            "STANDBY": STANDBY if is_one else "",
+            "READER": READER % self.network if is_one else "",
+            "CLIENT_AUTHORITIES": "authorities.pem" if is_one else "authority.pem",
+        }
 
     def _gateway_files(self, host: str, folders: Folders) -> dict[str, str]:
         words = {
@@ -108,6 +133,7 @@ class Site:
             "STATE": folders.data,
             "GATEWAY_KEYS": self._gateway_keys(),
             "SCHEMA": self.schema,
+            "READERS": self._readers(folders),
             "PROGRAM": self.command[0],
             "NAMES": "" if self.venues == (ALONE,) else "names = %s\n" % json.dumps(self.venues),
         }
@@ -115,6 +141,11 @@ class Site:
             "keeper.toml": self._filled("keeper.toml", words),
             "pgpass": "*:*:*:keeper:%s\n" % self.passwords[KEEPER],
         }
+
+    def _readers(self, folders: Folders) -> str:
+        """The key `readers` of keeper.toml."""
+        places = folders.config, *[folders.tls] * 3
+        return READERS % (",".join(self.readers.values()), *places) if self.readers else ""
 
     def _gateway_keys(self) -> str:
         """The public keys of all gateways, by which each knows what another has signed."""
@@ -172,7 +203,7 @@ def read_site(path: Path) -> Site:
         }
         keepers = texts(table.get("keepers", {}))
         wanted = {*WORDS, KEEPER} if keepers else set(WORDS)
-        if not wanted <= set(passwords) <= {*WORDS, KEEPER}:
+        if not wanted <= set(passwords) <= {*WORDS, KEEPER, FORMER}:
             raise ValueError("the passwords are those of %s" % ", ".join(sorted(wanted)).lower())
         venue = table["venue"]
         return Site(
@@ -184,6 +215,7 @@ def read_site(path: Path) -> Site:
             text(table["security"]),
             tuple(map(text, venue.get("names", [ALONE]))),
             keepers=keepers,
+            readers=texts(table.get("readers", {})),
         )
     except (OSError, ValueError, AttributeError, TypeError) as fault:
         raise Fault("%s: %s" % (path, fault)) from fault
