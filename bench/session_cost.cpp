@@ -2,7 +2,7 @@
 // with the session as it was after the Logon, so that the quote is the message that it expects.
 #include "frames.h"
 
-#include "../gateway/session/fix_sessions.h"
+#include "../gateway/src/session/fix_sessions.h"
 
 #include <cstdint>
 #include <cstdio>

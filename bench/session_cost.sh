@@ -13,7 +13,7 @@ else
     (cd "$crate" && rt lib > /dev/null 2>&1)
     set -- "$crate/out/libfix_sessions_c.a" "$(dirname "$(rt doc)")/c/liblibc_c.a"
 fi
-g++ -std=c++20 -O3 -I "$top/gateway/session" -o "$make/cost" "$here/session_cost.cpp" "$@"
+g++ -std=c++20 -O3 -I "$top/gateway/src/session" -I "$top/gateway/src" -o "$make/cost" "$here/session_cost.cpp" "$@"
 instructions() {
     valgrind --tool=callgrind --callgrind-out-file=/dev/null "$make/cost" "$1" 2>&1 | sed -n 's/.*Collected : //p'
 }

@@ -1,14 +1,16 @@
 #!/usr/bin/env python3
-"""Proves and builds the venue's program, crates/rfq_venue/out/rfq_venue, and the library of its sessions,
-crates/fix_sessions_c/out/libfix_sessions_c.a, with which the gateway is linked; and tells how far it is.
+"""Proves and builds the venue's program, crates/rfq_venue/out/rfq_venue, and the libraries with which the
+gateway is linked: crates/fix_sessions_c/out/libfix_sessions_c.a, its sessions, and
+crates/session_recovery_c/out/libsession_recovery_c.a, their recovery. It tells how far it is.
 
 usage: prove_venue.py [--jobs N]
 
-The crates below the two lie in a copy of the repository without tests and without wrong bodies. An
+The crates below these lie in a copy of the repository without tests and without wrong bodies. An
 `rt ci` over the whole copy proves them side by side, where memory allows, and proves, builds and runs
-the program; an `rt lib` makes the library. Where the kit's `rt ci` takes names and keeps what it
+the program; an `rt lib` makes each library. Where the kit's `rt ci` takes names and keeps what it
 proves, each crate is proved before that by an `rt ci CRATE` of its own, as soon as those below it are,
-and what an earlier run or a gate has proved is taken. So is what is newer than all its sources.
+and what an earlier run or a gate has proved is taken. So is what is newer than all its sources. In the
+end it says whether all are the bytes that crates/proved.sha256 has for these sources.
 """
 
 import argparse
@@ -25,32 +27,16 @@ from pathlib import Path
 from typing import IO
 
 ROOT = Path(__file__).resolve().parent.parent
+sys.path.insert(0, str(ROOT / "tools"))
+
+from proved import LIBRARIES, MADE, below, compare, crates_of, made_of
+
 MEMORY_OF_A_CRATE = 3 << 30  # bytes
-MADE = {"rfq_venue": "rfq_venue", "fix_sessions_c": "libfix_sessions_c.a"}  # by crate, in its out/
-LIBRARY = "fix_sessions_c"
 MINUTES_OF_ONE = 175  # for all, as if on one processor
 MORE = 1  # crates at work beyond the processors, for the time in which one can't fill its own
 BEHIND, NICEST = 3, 12  # how nice a proof is for each one for which more waits, at most
 LOOK, TELL = 0.5, 30.0  # seconds
 KEPT = "and that is kept"  # what rt says last where the next run may take what this one proved
-
-
-def crates_of(text: str) -> dict[str, list[str]]:
-    """Each crate of crates.txt, and those of the repository that it names."""
-    named = {}
-    for line in text.splitlines():
-        head, colon, below = line.partition("#")[0].partition(":")
-        if colon:
-            named[head.split()[0]] = below.split()
-    return {name: [each for each in below if each in named] for name, below in named.items()}
-
-
-def below(crates: dict[str, list[str]], top: str) -> list[str]:
-    """All crates below one, each behind those below it."""
-    found: list[str] = []
-    for name in crates[top]:
-        found += [each for each in [*below(crates, name), name] if each not in found]
-    return found
 
 
 def lines_of(name: str) -> int:
@@ -66,11 +52,6 @@ def ways_up(crates: dict[str, list[str]], names: list[str]) -> dict[str, int]:
         above = [ways[each] for each in ways if name in crates[each]]
         ways[name] = lines_of(name) + max(above, default=0)
     return ways
-
-
-def made_of(name: str, top: Path = ROOT) -> Path:
-    """The program or the library that a crate is built into."""
-    return top / "crates" / name / "out" / MADE[name]
 
 
 def is_newer(file: Path, names: list[str]) -> bool:
@@ -91,7 +72,7 @@ def copy_crates(names: list[str], to: Path) -> None:
     named = [line for line in lines if line.partition(":")[0].split()[:1] in [[it] for it in names]]
     (to / "crates.txt").write_text("".join(named))
     shutil.copy2(ROOT / "HANDLES", to)
-    rest = shutil.ignore_patterns("out", "must-fail")
+    rest = shutil.ignore_patterns("out")
     for name in names:
         shutil.copytree(ROOT / "crates" / name, to / "crates" / name, ignore=rest)
 
@@ -228,11 +209,11 @@ def prove_all(place: Path) -> None:
         proof.end()
 
 
-def make_library(place: Path) -> None:
-    """Builds the library from the crates that are proved there."""
+def make_library(place: Path, name: str) -> None:
+    """Builds a library from the crates that are proved there."""
     told = subprocess.run(
         ["rt", "lib"],
-        cwd=place / "crates" / LIBRARY,
+        cwd=place / "crates" / name,
         stdin=subprocess.DEVNULL,
         capture_output=True,
         text=True,
@@ -240,7 +221,7 @@ def make_library(place: Path) -> None:
     )
     if told.returncode != 0:
         last = (told.stdout + told.stderr).splitlines()[-20:]
-        sys.exit("%s gives no library:\n%s" % (LIBRARY, "\n".join(last)))
+        sys.exit("%s gives no library:\n%s" % (name, "\n".join(last)))
 
 
 def keep(place: Path, name: str) -> None:
@@ -256,7 +237,7 @@ def prove(crates: dict[str, list[str]], tops: list[str], jobs: int) -> None:
     """Proves these crates with all below them, and makes of each what it is built into."""
     every = [name for top in tops for name in [*below(crates, top), top]]
     # A program's own proof is part of the last run, which builds it.
-    names = [name for name in dict.fromkeys(every) if name not in tops or name == LIBRARY]
+    names = [name for name in dict.fromkeys(every) if name not in tops or name in LIBRARIES]
     print("Proving %d crates:" % len(names), flush=True)
     print(
         "about %d minutes the first time, where nothing else runs." % (MINUTES_OF_ONE // jobs),
@@ -270,8 +251,8 @@ def prove(crates: dict[str, list[str]], tops: list[str], jobs: int) -> None:
             Prover(crates, names, jobs, place).run()
             print("What is a program is proved, built and run:", flush=True)
         prove_all(place)
-        if LIBRARY in tops:
-            make_library(place)
+        for name in [top for top in tops if top in LIBRARIES]:
+            make_library(place, name)
         for top in tops:
             keep(place, top)
 
@@ -288,6 +269,7 @@ def main() -> None:
     wanting = [top for top in MADE if not stands[top]]
     if wanting:
         prove(crates, wanting, given.jobs)
+    compare()
 
 
 if __name__ == "__main__":

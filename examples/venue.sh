@@ -1,7 +1,8 @@
 #!/bin/sh
 # A venue to try: the gateway, the venue's program, two dealers that quote by themselves, an investor that
-# asks now and then, and a desk in the browser for INV1 and for DLR3. It runs until Ctrl-C, prints the
-# addresses and the logins, and tells how each auction ends.
+# asks now and then, and a desk in the browser for INV1 and for DLR3; an operator's command and page, and a
+# supervisor's view of the day as it goes on. It runs until Ctrl-C, prints the addresses and the logins, what
+# an operator can try, and how each auction ends.
 #
 #     examples/venue.sh           two minutes from a fresh clone on four quiet processors, then seconds
 #     examples/venue.sh down      ends it, where it still runs, and has the audit check the day
@@ -10,7 +11,8 @@
 # crates/fix_sessions_c/out (examples/prove_venue.py makes both); else second implementations, and the
 # pages say so. All that it writes is in FOLDER (examples/venue/out). GATEWAY and DESK name folders of
 # programs that are built already (gateway/out and desk/out); where one is missing, all are built in
-# examples/venue/out/built, to be had soon, not to be fast.
+# examples/venue/out/built, to be had soon, not to be fast. PORTS names three ports: of the gateway, of INV1's
+# page and of DLR3's (8101 and 8102, or others where these are taken).
 set -eu
 root=$(cd "$(dirname "$0")/.." && pwd)
 here=$root/examples/venue
@@ -28,6 +30,7 @@ day=$(absolute "${FOLDER:-$here/out}")
 gateway=$(absolute "${GATEWAY:-$root/gateway/out}")/mireseason-gateway
 desks=$(absolute "${DESK:-$root/desk/out}")
 built=$here/out/built
+audit_packages="python3-jinja2 python3-psycopg2 python3-cryptography openssl"
 proved=$root/crates/rfq_venue/out/rfq_venue
 program=$(quoted "$proved") # its command line
 [ -x "$proved" ] || program="python3 $(quoted "$root/tests/model/program.py")"
@@ -94,7 +97,7 @@ down() {
     exec "$root/audit/mireseason-audit" check --venue "$program" --gateway-key "$day/keys/gateway.pub" "$log"
 }
 
-# build: all three programs, in a session of its own, so that its compilers end with it. It says every ten
+# build: all four programs, in a session of its own, so that its compilers end with it. It says every ten
 # seconds how far it is.
 build() {
     # Which sessions the gateway is linked with is chosen anew: the proved ones, where their library stands.
@@ -130,6 +133,34 @@ run() {
     started $!
 }
 
+# view: the supervisor's pages of the day, made anew as it goes on, where the audit's packages are there.
+view() {
+    /usr/bin/python3 -c 'import jinja2, psycopg2, cryptography' 2>/dev/null || return 0
+    rm -rf "$day/pages"
+    nice "$root/audit/mireseason-audit" page "$(log)" "$day/pages" --follow --every 20 --venue "$program" \
+        >"$day/view.events" 2>&1 &
+    started $!
+    echo "  supervisor  file://$day/pages/index.html: who asked, who quoted, what each firm was told; made anew as the day goes on"
+}
+
+# operator: what whoever tries the venue can do as its operator.
+operator() {
+    echo "  operator    $(cat page): who is logged on, what is open, the last events; and metrics"
+    [ -S admin.sock ] || {
+        echo "              (no command: the name of $day is too long for a socket)"
+        return 0
+    }
+    cat <<EOF
+  Say $day/admin and one of these. What changes something stands in the log, with who and why:
+    halt --because "prices are in doubt"              nothing is asked, quoted or hit any more; resume
+    suspend DLR1 --because "their desk called"        DLR1 is logged out, and its quotes are gone; resume DLR1
+    cancel DLR2 --because "they asked"                the quotes of DLR2 are gone, and it goes on
+    release DLR1                                      lets DLR1 try again, were its store lost
+    next-day                                          which day opens next, and with which firms
+    status                                            the day, the disk, the clock, and what a restart would do
+EOF
+}
+
 [ "${1:-}" != down ] || down
 [ $# = 0 ] || {
     sed -n '/^#     ex/,/^#$/s/^# \{0,1\}//p' "$0" >&2
@@ -137,18 +168,26 @@ run() {
 }
 umask 077 # the folder has passwords
 mkdir -p "$day"
+# Whoever else writes there puts a command of his own in the place of the operator's.
+if [ ! -O "$day" ] || [ -n "$(find "$day" -maxdepth 0 -perm /022)" ]; then
+    fail "$day is somebody else's, or others may write there: passwords and commands go there"
+fi
 ! runs ||
     fail "a venue runs in $day already: examples/venue.sh down ends it"
 sweep
 trap stop EXIT
 trap 'exit 0' HUP INT TERM
 
-if ! [ -x "$gateway" ] || ! [ -x "$desks/mireseason-desk" ] || ! [ -x "$desks/sample-firm" ]; then
+are_built=yes
+for each in "$gateway" "$(dirname "$gateway")/mireseason-admin" "$desks/mireseason-desk" "$desks/sample-firm"; do
+    [ -x "$each" ] || are_built=
+done
+if [ -z "$are_built" ]; then
     gateway=$built/gateway/mireseason-gateway
     desks=$built/desk
     say "Packages of Debian: minutes, where many are missing"
-    # shellcheck disable=SC2046 # a word for each package
-    "$root/tests/packages.sh" $("$root/gateway/packages.sh") $("$root/desk/packages.sh")
+    # shellcheck disable=SC2046,SC2086 # a word for each package
+    "$root/tests/packages.sh" $("$root/gateway/packages.sh") $("$root/desk/packages.sh") $audit_packages
     say "The programs are built: two minutes on four quiet processors, where nothing is built yet"
     build
 fi
@@ -178,10 +217,12 @@ done
 
 say "The venue runs until Ctrl-C: $program"
 cat addresses
+view
+operator
 echo "Ask two or three dealers on INV1's page, and quote on DLR3's. How each auction ends:"
 python3 "$here/tell.py" "$(log)" "$before" &
 started $!
 status=0
 wait "$server" || status=$?
 [ "$status" = 0 ] || { tail -n 3 gateway.events >&2; fail "the gateway ended with status $status"; }
-say "The day is over: sessions last from midnight to midnight in UTC. The next start begins a new one"
+say "The gateway has ended"

@@ -14,7 +14,6 @@ import subprocess
 import sys
 import tomllib
 from collections.abc import Iterable
-from datetime import datetime, timezone
 from pathlib import Path
 from typing import Any
 
@@ -25,6 +24,7 @@ Row = dict[str, Any]
 
 # The firms that have a desk: firm, login, password, the page's port if it is free.
 DESKS = [("INV1", "ines", "investor-1", 8101), ("DLR3", "dora", "dealer-3", 8102)]
+LONGEST_SOCKET = 107  # bytes of the name of a socket
 SAMPLES = ["DLR1", "DLR2", "INV2"]  # those that trade by themselves
 
 
@@ -49,6 +49,14 @@ def free_port(usual: int) -> int:
                 continue
             return int(probe.getsockname()[1])
     raise SystemExit("there is no free port")
+
+
+def ports() -> list[int]:
+    """Of the gateway, and of the page of each desk: those that PORTS names, or free ones."""
+    named = [int(word) for word in os.environ.get("PORTS", "").split()]
+    if len(named) not in (0, 1 + len(DESKS)):
+        raise SystemExit(f"PORTS has {len(named)} ports, and {1 + len(DESKS)} are needed")
+    return named or [free_port(usual) for usual in (0, *(desk[3] for desk in DESKS))]
 
 
 def role_of(venue: Row, firm: str) -> str:
@@ -95,6 +103,23 @@ def fix_part(folder: Path, firm: str, port: int) -> list[str]:
     ]
 
 
+def operator_part(folder: Path) -> list[str]:
+    """The operator's socket, where the kernel can name it; and the page, which is told to whoever starts the venue."""
+    metrics = free_port(8103)
+    write(folder / "page", f"http://127.0.0.1:{metrics}/\n")
+    has_room = len(os.fsencode(folder.resolve() / "admin.sock")) <= LONGEST_SOCKET
+    socket_lines = ["[operator]", *toml({"socket": "admin.sock"})] if has_room else []
+    return [*socket_lines, "[metrics]", *toml({"port": metrics})]
+
+
+def write_admin(folder: Path, gateway: str) -> None:
+    """A command by which whoever tries the venue is its operator."""
+    program = shlex.quote(str(Path(gateway).resolve().parent / "mireseason-admin"))
+    path = shlex.quote(str(folder.resolve() / "admin.sock"))
+    write(folder / "admin", f'#!/bin/sh\nexec {program} --socket {path} "$@"\n')
+    (folder / "admin").chmod(0o700)
+
+
 def write_gateway(folder: Path, port: int, command: list[str]) -> None:
     words = [str(Path(word).resolve()) if Path(word).is_file() else word for word in command]
     lines = [
@@ -113,8 +138,7 @@ def write_gateway(folder: Path, port: int, command: list[str]) -> None:
                 "checkpoints": "checkpoints",
             }
         ),
-        "[metrics]",
-        *toml({"port": 0}),
+        *operator_part(folder),
     ]
     write(folder / "gateway.toml", "\n".join(lines) + "\n")
 
@@ -135,12 +159,13 @@ def write_credentials(folder: Path, gateway: str, firms: list[str]) -> None:
 
 
 def write_desk(
-    folder: Path, venue: Row, firm: str, fix_port: int, gateway: str, banner: str
+    folder: Path, venue: Row, firm: str, fix_port: int, port: int, gateway: str, banner: str
 ) -> str:
     """The desk's configuration; the line that tells a person where it is."""
-    _, login, password, usual = next(desk for desk in DESKS if desk[0] == firm)
-    role, port = role_of(venue, firm), free_port(usual)
+    _, login, password, _ = next(desk for desk in DESKS if desk[0] == firm)
+    role = role_of(venue, firm)
     row = {"firm": firm, "role": role, "market": f"{firm}.market.toml", "data": f"{firm}.data"}
+    row["bonds"] = str(HERE / "bonds.toml")
     if banner:
         row["banner"] = banner
     may = "quote" if role == "dealer" else "ask"
@@ -190,11 +215,11 @@ def write_sample(folder: Path, venue: Row, firm: str, fix_port: int) -> None:
 def main() -> None:
     folder, gateway, command = Path(sys.argv[1]), sys.argv[2], shlex.split(sys.argv[3])
     os.umask(0o077)
-    today = datetime.now(timezone.utc).strftime("%Y%m%d")
-    text = re.sub(r"(?m)^date = .*", f'date = "{today}"', (HERE / "venue.toml").read_text())
+    # Without a date it is of each day, and the next one begins by itself.
+    text = re.sub(r"(?m)^date = .*\n", "", (HERE / "venue.toml").read_text())
     venue = tomllib.loads(text)
     write(folder / "venue.toml", text)
-    fix_port = free_port(0)
+    fix_port, *page_ports = ports()
     firms = [row["name"] for row in venue["dealer"] + venue["investor"]]
     for firm in firms:
         write(folder / f"{firm}.market.toml", market_of(venue, firm))
@@ -203,11 +228,15 @@ def main() -> None:
             [gateway, "--make-keys", folder / "keys"], stdout=subprocess.DEVNULL, check=True
         )
     write_gateway(folder, fix_port, command)
+    write_admin(folder, gateway)
     write_credentials(folder, gateway, firms)
     for firm in SAMPLES:
         write_sample(folder, venue, firm, fix_port)
     banner = banner_of(gateway, command)
-    lines = [write_desk(folder, venue, firm, fix_port, gateway, banner) for firm, *_ in DESKS]
+    lines = [
+        write_desk(folder, venue, desk[0], fix_port, port, gateway, banner)
+        for desk, port in zip(DESKS, page_ports)
+    ]
     write(folder / "addresses", "\n".join(lines) + "\n")
 
 
