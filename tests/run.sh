@@ -1,10 +1,11 @@
 #!/bin/sh
-# All tests: the gate (rt ci), ctest (the gateway's own tests in C++) and pytest (the folders below tests/). What is
-# counted is what these three report, and nothing else. The last line is `N passed, M failed`.
+# All tests: the gate (rt ci, and the wrong bodies that each landing tries), ctest (the gateway's own tests in C++) and
+# pytest (the folders below tests/). What is counted is what these report, and nothing else. The last line is
+# `N passed, M failed`.
 #
 #     tests/run.sh                 the gate first, and then the short forms of the others, in the time that is left
 #     tests/run.sh --beside        the others alone, with the program that stands
-#     tests/run.sh --quick         twenty minutes from a fresh clone, with `rt` or without: the second
+#     tests/run.sh --quick         ten to twenty minutes from a fresh clone, with `rt` or without: the second
 #                                  implementation of the venue stands in the program's place, and
 #                                  nothing is proved
 #
@@ -13,8 +14,9 @@
 # is an unsteady one, which failed and then passed alone: it is named, and somebody has to mend it. A part
 # that fails prints its last lines, and the others go on. Its limit of time is many times what it takes, also on two
 # processors that have other work: one that is not done by then hangs, has failed, and ends with all that it started.
-# What a machine can't do (a package that can't be had) is told as not run. The day of a gateway ends at midnight in
-# UTC: what would come too near to it waits for the next day, on top of its limit of time.
+# What a machine can't do (a package that can't be had) is told as not run. Before the last line each part has one with its
+# wall-clock and its processor time, the most expensive first; behind them stands again what was not run, and why. The
+# day of a gateway ends at midnight in UTC: what would come too near to it waits for the next day, on top of its limit.
 #
 # SEED is the seed of all (1), JOBS how many processors they take (all). GATEWAY has a gateway that is
 # built already. MINUTES is the time for everything (no limit): a part that can't be done in what is left
@@ -24,6 +26,7 @@ root=$(cd "$(dirname "$0")/.." && pwd)
 cd "$root" || exit 2
 seed=${SEED:-1}
 jobs=${JOBS:-$(nproc)}
+several=$((jobs / 2 + 1)) # tests of one folder at a time, where two folders are tried beside each other
 start=$(date +%s)
 most=$((${MINUTES:-1440} * 60))
 least=300 # seconds: no form is begun with less
@@ -48,176 +51,82 @@ trap 'exit 143' HUP INT TERM
 exec </dev/null
 : >"$work/absent"
 : >"$work/counts"
+: >"$work/parts"
+: >"$work/not_run"
 export LC_ALL=C.UTF-8
 # Compilers, databases and browsers want a place of their own.
 [ -n "${HOME:-}" ] && [ -w "$HOME" ] || export HOME="$work"
 
-# count GOOD BAD
-count() {
-    echo "$1 $2" >>"$work/counts"
-}
-
-# total: the last line, of all that was counted.
-total() {
-    awk -v more="${1:-}" '{ passed += $1; failed += $2 }
-        END { print passed + 0 " passed, " failed + 0 " failed" more; exit failed > 0 }' "$work/counts"
-}
-
-# debians_python: the one Python for all, since it alone has Debian's modules.
-debians_python() {
-    first=$(command -v python3)
-    [ -n "$first" ] && [ "$(readlink -f "$first")" != "$(readlink -f /usr/bin/python3)" ] || return 0
-    echo "python3: $first is first on the PATH; the tests take /usr/bin/python3, which has Debian's modules" >&2
-    mkdir "$work/bin" && ln -s /usr/bin/python3 "$work/bin/python3" && export PATH="$work/bin:$PATH"
-}
-
-# aside COMMAND ..: beside the others.
-aside() {
-    (
-        child=
-        trap '[ -z "$child" ] || kill "$child" 2>/dev/null' EXIT
-        trap 'exit 143' HUP INT TERM
-        "$@"
-    ) &
-    asides="$asides $!"
-}
-
-# in_time SECONDS COMMAND ..: so that a signal to this script ends the command too. cut says whether its time is over,
-# and the file $told has what the command said.
-in_time() {
-    seconds=$1 status=0 cut=
-    shift
-    since=$(date +%s)
-    timeout -k 60 "$seconds" "$@" >"$told" 2>&1 &
-    child=$!
-    wait "$child" || status=$?
-    # By SIGTERM, or by SIGKILL where that did not end it.
-    if [ "$status" = 124 ] || [ "$status" = 137 ] && [ $(($(date +%s) - since)) -ge "$seconds" ]; then
-        cut=yes
-        kill -KILL "-$child" 2>/dev/null # who is left of its processes
-        echo "not done in $seconds s" >>"$told"
-    elif [ "$status" != 0 ]; then
-        echo "ended with status $status" >>"$told" # over 128: by a signal
-    fi
-    child=
-    return "$status"
-}
-
-# what_is_left: the seconds of MINUTES that are left.
-what_is_left() {
-    echo $((most - ($(date +%s) - start)))
-}
-
-# can_have SECONDS PACKAGE ..: installs what is missing. What could not be had once is not tried again: without a
-# network that takes minutes each time.
-can_have() {
-    seconds=$1
-    shift
-    ! printf '%s\n' "$@" | grep -xF -f "$work/absent" >"$told.lacking" || return 1
-    ! timeout "$seconds" tests/packages.sh "$@" 2>"$told.packages" || return 0
-    sed -n 's/ is not installed.*//p' "$told.packages" | tee "$told.lacking" >>"$work/absent"
-    return 1
-}
-
-# tell NAME REPORT STATUS TOOK: counts a report, and tells of it. A part without a report, or with one that does not
-# say why its command failed, has failed.
-tell() {
-    name=$1 report=$2 status=$3 took=$4
-    counted=$work/$name.counted
-    if ! [ -s "$report" ] || ! python3 -m tests.harness.reports "$report" >"$counted" 2>>"$told"; then
-        echo "0 0" >"$counted"
-    fi
-    read -r good bad <"$counted"
-    [ "$status" = 0 ] && [ "$good" != 0 ] || [ "$bad" != 0 ] || ! is_fault "$status" "$report" || bad=1
-    [ "$bad" = 0 ] || tail -n 60 "$told"
-    echo "$name: $good passed, $bad failed, seed $seed, $took s"
-    sed -n "s/^skipped /$name: skipped /p; s/^failed /$name: failed /p; s/^unsteady /$name: unsteady /p" "$counted"
-    ! grep -q '^unsteady ' "$counted" || tail -n 60 "$told"
-    count "$good" "$bad"
-}
-
-# is_fault STATUS REPORT: whether a command that reported nothing failed is at fault all the same.
-is_fault() {
-    [ "$1" != 0 ] || ! [ -s "$2" ]
-}
-
-# form NAME SECONDS PACKAGES COMMAND ..: the command writes its report to $work/NAME.xml.
-form() {
-    name=$1 limit=$2 packages=$3 told=$work/$1
-    shift 3
-    left=$(what_is_left)
-    # shellcheck disable=SC2086 # a word for each package
-    if [ "$left" -ge "$least" ] && ! can_have "$left" $packages; then
-        echo "$name: not run: can't be installed: $(paste -sd ' ' "$told.lacking")"
-        return
-    fi
-    began=$(date +%s)
-    left=$(what_is_left)
-    if [ "$left" -lt "$least" ]; then
-        echo "$name: not run: $left s are left"
-        return
-    fi
-    [ "$limit" -lt "$left" ] || limit=$left
-    echo "$name: begins, $limit s at most" >&2
-    status=0
-    in_time "$limit" "$@" || status=$?
-    if [ -n "$cut" ] && [ "$limit" = "$left" ]; then
-        echo "$name: not run to its end: $left s were left"
-        return
-    fi
-    tell "$name" "$work/$name.xml" "$status" $(($(date +%s) - began))
-}
-
-# in_one_day NAME: whether a part may begin, whose tests play days, each within one of UTC. What they wait for the next one
-# is not of its time.
-in_one_day() {
-    left=$(what_is_left)
-    midnight=$((86400 - $(date +%s) % 86400))
-    [ "$midnight" -lt "$in_day" ] || return 0
-    if [ $((left - midnight)) -lt "$least" ]; then
-        echo "$1: not run: $left s are left, and it might wait $midnight s for midnight in UTC"
-        return 1
-    fi
-    echo "$1: may wait $midnight s for midnight in UTC" >&2
-}
+# shellcheck source=tests/parts.sh
+. tests/parts.sh
 
 gate() {
+    : >"$work/gate.begins"
     rt ci | tee "$work/gate"
     verdict=$(sed -n 's/^\([0-9]*\) passed, \([0-9]*\) failed$/\1 \2/p' "$work/gate" | tail -n 1)
     verdict=${verdict:-0 1}
     echo "gate: ${verdict% *} passed, ${verdict#* } failed"
     count "${verdict% *}" "${verdict#* }"
-    if ! tests/edits/remarks.sh "$work/gate" >"$work/remarks"; then
-        echo "gate: no goal refuses these wrong bodies, so they show nothing: change a value, and keep the names"
-        cat "$work/remarks"
-        count 0 "$(wc -l <"$work/remarks")"
-    fi
+    [ "${verdict#* }" != 0 ] || : >"$work/is_proved"
 }
 
-# The proved sessions, with which the gateway is linked. Without them it would be built over the second implementation.
-session_library() {
-    told=$work/library
-    in_time 7200 sh -c 'cd crates/fix_sessions_c && exec rt lib' && return
-    tail -n 20 "$told"
-    echo "gate: crates/fix_sessions_c gives no library"
-    count 0 1
+# compile_ahead: the gate leaves processors idle, since each crate waits for those below it. They compile the gateway and the
+# desk, so that what is built later comes from ccache. Nothing counts what becomes of it.
+compile_ahead() {
+    told=$work/ahead
+    # shellcheck disable=SC2046 # a word for each package
+    can_have "$(what_is_left)" ccache $(gateway/packages.sh) $(cat tests/desk/packages) || return 0
+    # rt looks at every file of the tree before it says anything.
+    waited=0
+    until [ -s "$work/gate" ] || [ "$waited" -ge 300 ]; do sleep 1 && waited=$((waited + 1)); done
+    # Two files at a time: the proofs beside it count on the memory that is free when they begin.
+    in_time 7200 nice -n 19 tests/build.sh 2 gateway gateway/out &&
+        in_time 7200 nice -n 19 tests/build.sh 2 desk desk/out
 }
 
-# begin_library: beside what needs no gateway, since it takes minutes.
+# wrong_bodies: those of the gate, over what it proved.
+wrong_bodies() {
+    told=$work/edits
+    in_time 7200 tests/edits/run.sh --gate --since "$work/gate.begins" || :
+    verdict=$(sed -n 's/^\([0-9]*\) passed, \([0-9]*\) failed$/\1 \2/p' "$told" | tail -n 1)
+    verdict=${verdict:-0 1}
+    [ "${verdict#* }" = 0 ] || cat "$told"
+    echo "wrong bodies: ${verdict% *} refused, ${verdict#* } not"
+    count "${verdict% *}" "${verdict#* }"
+}
+
+# proved_sums: whether what is built is what crates/proved.sha256 has for these sources.
+proved_sums() {
+    if tools/proved.py; then count 1 0; else count 0 1; fi
+}
+
+# The proved sessions and their recovery, with which the gateway is linked, over what the gate has built. Without them it would be
+# built over the second implementation.
+session_libraries() {
+    for name in fix_sessions_c session_recovery_c; do
+        told=$work/$name
+        in_time 7200 python3 -m tests.harness.static_library "$name" "$work/gate.begins" && continue
+        tail -n 20 "$told"
+        echo "gate: crates/$name gives no library"
+        count 0 1
+    done
+}
+
+# begin_library: beside what needs no gateway.
 begin_library() {
     [ "$(what_is_left)" -ge "$least" ] || return 0
-    aside session_library
+    aside clocked library session_libraries
     library=$!
 }
 
-# folder NAME SECONDS PACKAGES WORDS ..: pytest on a folder of tests. A few that fail are tried once more, alone: one that
-# passes then is told as unsteady.
+# folder NAME SECONDS PACKAGES WORDS ..: pytest on a folder of tests, $several at a time. A few that fail are tried once more,
+# alone: one that passes then is told as unsteady.
 folder() {
     name=$1 limit=$2 packages=$3
     shift 3
     form "$name" "$limit" "$testers $packages" \
         python3 -m tests.harness.twice "tests/$name" --venue "$program" --seed "$seed" --junitxml "$work/$name.xml" \
-        -o junit_family=xunit1 -q --durations 5 --gateway "$gateway" "$@"
+        -o junit_family=xunit1 -q --durations 5 --gateway "$gateway" -n "$several" --dist loadgroup "$@"
 }
 
 # day_folder NAME SECONDS PACKAGES WORDS ..: one whose tests play days.
@@ -228,20 +137,17 @@ day_folder() {
     folder "$name" $((limit + in_day)) "$@"
 }
 
-# The gateway, and its tests. What ccache keeps of it need not be compiled again for tests/mutants.
+# The gateway, and its tests.
 build_gateway() {
     [ -z "$library" ] || wait "$library"
     [ -z "${GATEWAY:-}" ] || return 0
     in_one_day ctest || return 0
     told=$work/ccache
-    launcher=
-    ! can_have "$(what_is_left)" ccache || launcher=-DCMAKE_CXX_COMPILER_LAUNCHER=ccache
+    can_have "$(what_is_left)" ccache || :
     # shellcheck disable=SC2016 # of the inner shell
     form ctest 7200 "$(gateway/packages.sh)" \
-        env CCACHE_BASEDIR="${CCACHE_BASEDIR:-$root}" CCACHE_NOHASHDIR=1 CCACHE_SLOPPINESS=pch_defines,time_macros \
-        sh -c 'cmake -S gateway -B gateway/out $3 && cmake --build gateway/out -j "$1" &&
-            python3 -m tests.gateway.midnight &&
-            ctest --test-dir gateway/out --output-on-failure --output-junit "$2"' build "$jobs" "$work/ctest.xml" "$launcher"
+        sh -c 'tests/build.sh "$1" gateway gateway/out && python3 -m tests.gateway.midnight &&
+            ctest --test-dir gateway/out -j "$1" --output-on-failure --output-junit "$2"' build "$jobs" "$work/ctest.xml"
 }
 
 # part NAME: a folder of tests, with its limit of time and what it needs.
@@ -252,10 +158,11 @@ part() {
     model | isolation | hostile) folder "$1" 3600 "" -n "$jobs" ;;
     refused_memory) folder "$1" 3600 "gcc libc6-dev" -n "$jobs" ;;
     engines) folder engines 1800 "g++ libquickfix-dev" ;;
-    gateway) day_folder gateway 5400 "$usual clang libclang-rt-dev" -n 3 ;;
+    gateway) day_folder gateway 5400 "$usual clang libclang-rt-dev" ;;
     audit) day_folder audit 5400 "$usual" ;;
-    replicas) day_folder replicas 3600 "$usual patroni etcd-server etcd-client iproute2" ;;
-    mutants) day_folder mutants 7200 "$usual $(cat tests/desk/packages)" ;;
+    replicas) day_folder replicas 3600 "$usual patroni etcd-server etcd-client iproute2" -n 0 ;;
+    certify) day_folder certify 3600 "$usual $(cat tests/certify/packages)" -n $((2 * jobs)) ;; # most of it waits
+    mutants) day_folder mutants 7200 "$usual $(cat tests/desk/packages tests/mutants/packages)" ;;
     *) day_folder "$1" 3600 "$usual $(cat "tests/$1/packages" 2>/dev/null)" ;;
     esac
 }
@@ -266,11 +173,45 @@ others() {
         grep -vxE 'pages|cases|model|isolation|hostile|refused_memory|engines|gateway|audit|replicas'
 }
 
+# longest_first NAME ..: folders, those first whose tests take most seconds by tests/durations.
+longest_first() {
+    printf '%s\n' "$@" | awk 'FILENAME == "tests/durations" { if (!/^#/) { split($2, path, "/"); seconds[path[2]] += $1 } next }
+        { print seconds[$1] + 0, $1 }' tests/durations - | sort -rn | cut -d ' ' -f 2
+}
+
+# lane NAME ..: in this order each of these parts that no other lane has begun.
+lane() {
+    for each in "$@"; do
+        ! mkdir "$work/$each.begun" 2>/dev/null || part "$each"
+    done
+}
+
+# lane_before_gateway: what needs no gateway, and then, with another lane, what needs one.
+lane_before_gateway() {
+    # shellcheck disable=SC2086 # a word for each part
+    lane $before_gateway
+    until [ -e "$work/gateway.stands" ]; do sleep 1; done
+    # shellcheck disable=SC2086
+    lane $with_gateway
+}
+
 # browser: what a part does without where it can't be had.
 browser() {
     told=$work/browser
     [ "$(what_is_left)" -lt "$least" ] || can_have "$(what_is_left)" chromium || echo "chromium can't be installed"
     can_have "$(what_is_left)" tshark || echo "tshark can't be installed"
+}
+
+# in_two_lanes BUILD: the parts of $before_gateway while BUILD makes the gateway, and then those of $with_gateway, two at a time:
+# most tests wait rather than compute.
+in_two_lanes() {
+    aside lane_before_gateway
+    other=$!
+    "$1"
+    : >"$work/gateway.stands"
+    # shellcheck disable=SC2086 # a word for each part
+    lane $with_gateway
+    wait "$other"
 }
 
 beside() {
@@ -283,45 +224,83 @@ beside() {
     fi
     began_beside=$(date +%s)
     browser
-    for each in pages model isolation hostile refused_memory engines; do part "$each"; done
-    build_gateway
-    for each in gateway audit $(others) replicas; do part "$each"; done
+    before_gateway=$(longest_first model refused_memory hostile isolation engines pages)
+    # shellcheck disable=SC2046 # a word for each folder
+    with_gateway=$(longest_first gateway audit replicas $(others))
+    in_two_lanes build_gateway
     echo "beside the gate: $(($(date +%s) - began_beside)) s"
+}
+
+# soon: a gateway that is to be had soon, rather than to be fast, as that of examples/venue.sh; its tests are built beside what
+# tries it.
+soon() {
+    [ -z "${GATEWAY:-}" ] || return 0
+    gateway=$root/$built/gateway/mireseason-gateway
+    told=$work/ccache
+    can_have "$(what_is_left)" ccache || :
+    told=$work/build
+    in_time 3600 tests/build.sh "$jobs" examples/venue "$built" mireseason-gateway mireseason-admin terms_test ||
+        tail -n 30 "$told"
+    aside ctest_soon
+    ctest=$!
+}
+
+# ctest_soon: the gateway's own tests.
+ctest_soon() {
+    in_one_day ctest || return 0
+    # shellcheck disable=SC2016 # of the inner shell
+    form ctest 3600 "$(gateway/packages.sh)" \
+        sh -c 'tests/build.sh "$1" examples/venue "$2" gateway-tests && python3 -m tests.gateway.midnight &&
+            ctest --test-dir "$2/gateway" -j "$1" --output-on-failure --output-junit "$3"' \
+        build "$several" "$built" "$work/ctest.xml"
 }
 
 # The second implementation stands in the program's place, and is not held against itself. What needs no gateway is tried while it
 # is built. Of the other folders those are tried that take a minute.
 quick() {
     program=$second
+    built=examples/venue/out/built
+    ctest=
     short='examples|supervisor'
     told=$work/all
     # shellcheck disable=SC2086 # a word for each package
     can_have "$(what_is_left)" $usual $testers ||
         echo "can't be installed: $(paste -sd ' ' "$told.lacking")"
     browser
-    echo "model, isolation, hostile, refused_memory, replicas: not run: there is no proved program"
-    echo "$(others | grep -vxE "$short" | paste -sd ' ' | sed 's/ /, /g'): not run: --quick has no time for them"
-    aside part cases
-    aside part pages
-    build_gateway
-    aside part gateway
-    aside part engines
-    part audit
-    for each in $(others | grep -xE "$short"); do part "$each"; done
-    wait
+    not_run "model, isolation, hostile, refused_memory, replicas: not run: there is no proved program"
+    not_run "$(others | grep -vxE "$short" | paste -sd ' ' | sed 's/ /, /g'): not run: --quick has no time for them"
+    # shellcheck disable=SC2046 # a word for each folder
+    before_gateway=$(longest_first engines pages cases $(others | grep -xE "$short"))
+    with_gateway="gateway audit"
+    in_two_lanes soon
+    [ -z "$ctest" ] || wait "$ctest"
     echo "quick: $(($(date +%s) - start)) s"
 }
 
 debians_python
 case "${1:-}" in
 '')
-    gate
+    aside clocked ahead compile_ahead
+    ahead=$!
+    aside clocked gate gate # aside, so that its processor time is its own
+    wait "$!"
+    wait "$ahead"
     begin_library
+    refused=
+    if [ -e "$work/is_proved" ]; then
+        aside clocked wrong_bodies wrong_bodies
+        refused=$!
+    else
+        not_run "wrong_bodies: not run: the gate failed"
+    fi
     beside
+    [ -z "$refused" ] || wait "$refused"
+    proved_sums
     ;;
 --beside) beside ;;
 --quick)
     quick
+    table
     total " (nothing was proved)"
     exit
     ;;
@@ -330,4 +309,5 @@ case "${1:-}" in
     exit 2
     ;;
 esac
+table
 total

@@ -13,7 +13,7 @@ from tests.gateway.stage import Stage
 from tests.gateway.wait import LONG, until
 from tests.harness.options import ROOT
 
-NOTE = re.compile(rb"# (act|clock) [0-9:.]{12} [ -~]+")
+NOTE = re.compile(rb"# (act|clock|gateway) [0-9:.]{12} [ -~]+")
 
 
 @dataclass(frozen=True)

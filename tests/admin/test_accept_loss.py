@@ -8,7 +8,7 @@ from collections.abc import Callable
 
 import pytest
 
-from tests.admin.desk import acts, admin, audit, did, rows, socket_of, wait_open
+from tests.admin.operator import acts, admin, audit, did, rows, socket_of, wait_open
 from tests.admin.test_orders import halt_is_seen
 from tests.gateway.stage import Stage
 from tests.gateway.test_seals import kept_aside, put_back

@@ -1,16 +1,20 @@
 """What acts change: a firm's limits, the clock, credentials; and that it is so again after a restart and on another gateway."""
 
+import re
 import subprocess
 import time
 from collections.abc import Iterator
+from concurrent.futures import ThreadPoolExecutor
 from contextlib import contextmanager
 
 import pytest
 
-from tests.admin.desk import acts, admin, audit, did, firm_row, rows
+from tests.admin.operator import acts, admin, audit, did, firm_row, rows
+from tests.admin.test_orders import quoted, request_fields
 from tests.gateway.ledger import PostgresLog
-from tests.gateway.market import BOND
-from tests.gateway.stage import DEALER, Stage
+from tests.gateway.market import BOND, moment_in
+from tests.gateway.stage import DEALER, INVESTOR, Stage
+from tests.gateway.test_second_attack import asked
 from tests.gateway.wait import LONG, until
 from tests.gateway.wire import Fields, Wire
 from tests.harness.clock import Clock
@@ -112,23 +116,62 @@ def limit_of(stage: Stage) -> int:
     return int(firm_row(stage, "DLR1")["day_bytes_limit"])
 
 
-@contextmanager
-def entries_locked(log: PostgresLog) -> Iterator[None]:
-    """Nobody puts an entry into the log meanwhile."""
-    words = ["psql", "-X", "-q", "-A", "-t", "-d", log.connection]
-    with subprocess.Popen(
-        words, stdin=subprocess.PIPE, stdout=subprocess.PIPE, text=True
-    ) as holder:
-        assert holder.stdin is not None and holder.stdout is not None
-        holder.stdin.write(
-            "BEGIN; LOCK TABLE %s.entry IN EXCLUSIVE MODE;\n\\echo held\n" % log.schema
+class EntriesLock:
+    """Whoever has it keeps anybody else from putting an entry into the log. They get it in the order in which they ask, and so do
+    those who put entries."""
+
+    def __init__(self, log: PostgresLog) -> None:
+        words = ["psql", "-X", "-q", "-A", "-t", "-d", log.connection]
+        self._psql = subprocess.Popen(
+            words, stdin=subprocess.PIPE, stdout=subprocess.PIPE, text=True
         )
-        holder.stdin.flush()
-        assert holder.stdout.readline().strip() == "held"
-        try:
-            yield
-        finally:
-            holder.stdin.close()
+        self._say("BEGIN; LOCK TABLE %s.entry IN EXCLUSIVE MODE;\n\\echo held\n" % log.schema)
+
+    def _say(self, text: str) -> None:
+        assert self._psql.stdin is not None
+        self._psql.stdin.write(text)
+        self._psql.stdin.flush()
+
+    def wait(self) -> None:
+        assert self._psql.stdout is not None
+        assert self._psql.stdout.readline().strip() == "held"
+
+    def give_back(self) -> None:
+        self._psql.communicate()
+
+
+@contextmanager
+def entries_locked(log: PostgresLog) -> Iterator[EntriesLock]:
+    """Nobody puts an entry into the log meanwhile."""
+    lock = EntriesLock(log)
+    try:
+        lock.wait()
+        yield lock
+    finally:
+        lock.give_back()
+
+
+def waiting_for_entries(log: PostgresLog) -> int:
+    """How many sessions of the database wait for that lock, or wait to put an entry."""
+    words = "SELECT count(*) FROM pg_locks WHERE NOT granted AND relation = '%s.entry'::regclass"
+    command = ["psql", "-X", "-q", "-A", "-t", "-d", log.connection, "-c", words % log.schema]
+    return int(subprocess.run(command, capture_output=True, text=True, check=True).stdout)
+
+
+def begun(stage: Stage, count: int) -> None:
+    """Waits until so many acts have begun."""
+    until(
+        "the act is begun",
+        LONG,
+        lambda: stage.door.told.read_bytes().count(b'operator act="') == count,
+    )
+
+
+def frames_behind(stage: Stage, act: bytes) -> list[bytes]:
+    """What firms said that stands behind the last act with these words."""
+    entries = stage.door.ledger().entries
+    at = max(place for place, entry in enumerate(entries) if act in entry.line)
+    return [entry.message for entry in entries[at:] if entry.number is not None]
 
 
 @pytest.mark.parametrize("log_place", ["postgres"], indirect=True)
@@ -145,6 +188,137 @@ def test_an_act_that_is_not_committed(stage_of_log: Stage) -> None:
         assert acts(stage) == []
     until("it is set", LONG, lambda: limit_of(stage) == 700_000)
     assert len(acts(stage)) == 1
+
+
+@pytest.mark.parametrize("log_place", ["postgres"], indirect=True)
+@pytest.mark.parametrize("words", [("halt",), ("suspend", "DLR1")], ids=["halt", "suspend"])
+def test_what_an_act_forbids_while_the_log_stalls(
+    stage_of_log: Stage, words: tuple[str, ...]
+) -> None:
+    """An act that is not committed yet forbids already: what comes behind it in the log's order is no trade."""
+    stage = stage_of_log
+    stage.door.operators = ""
+    stage.open()
+    assert stage.postgres is not None
+    with logged_on(stage, DEALER) as dealer, logged_on(stage, INVESTOR) as investor:
+        asked(dealer, investor)
+        quoted(dealer, b"q1")
+        shown = investor.got(b"S").given(117)
+        with entries_locked(stage.postgres), ThreadPoolExecutor() as pool:
+            said = pool.submit(admin, stage, *words, "--because", "they asked")
+            begun(stage, 1)
+            if words[0] == "halt":
+                fields: Fields = [(50, b"V1"), (693, b"h1"), (694, b"1"), (117, shown)]
+                assert investor.raw(investor.message(b"AJ", investor.name, fields))
+            else:
+                assert dealer.raw(dealer.message(b"S", dealer.name, quote(b"q2")))
+            assert "is not known" in said.result().err
+        until("the act is committed", LONG, lambda: len(acts(stage)) == 1)
+        if words[0] == "halt":
+            answer = investor.got_until(lambda message: message.value(379) == b"h1")
+            assert answer.kind == b"j", answer.raw
+    entries = stage.door.ledger().entries
+    at = next(place for place, entry in enumerate(entries) if entry.line.startswith(b"# act"))
+    behind = [entry for entry in entries[at:] if entry.number is not None]
+    assert not any(b"q2" in entry.message or b"h1" in entry.message for entry in behind), behind
+
+
+@pytest.mark.parametrize("log_place", ["postgres"], indirect=True)
+@pytest.mark.parametrize("words", [(), ("--bond", BOND.decode())], ids=["venue", "bond"])
+def test_a_halt_behind_a_resume_while_the_log_stalls(
+    stage_of_log: Stage, words: tuple[str, ...]
+) -> None:
+    """The venue is halted, and resumed; and halted again while the resume is not committed yet. Once that is, the second halt has
+    its place in the log's order, and waits for its own commit: nothing that it forbids is taken."""
+    stage = stage_of_log
+    stage.door.operators = ""
+    stage.open()
+    assert stage.postgres is not None
+    with logged_on(stage, DEALER) as dealer, logged_on(stage, INVESTOR) as investor:
+        asked(dealer, investor)
+        did(stage, "halt", *words, "--because", "rumours")
+        with ThreadPoolExecutor() as pool, entries_locked(stage.postgres) as first:
+            log = stage.postgres
+            resumed = pool.submit(admin, stage, "resume", *words)
+            until("the resume is put there", LONG, lambda: waiting_for_entries(log) == 1)
+            second = EntriesLock(stage.postgres)
+            try:
+                until("the next one asks", LONG, lambda: waiting_for_entries(log) == 2)
+                halted = pool.submit(admin, stage, "halt", *words, "--because", "more of them")
+                begun(stage, 3)
+                first.give_back()
+                second.wait()
+                resumed.result()
+                assert dealer.raw(dealer.message(b"S", dealer.name, quote(b"q1")))
+                answer = dealer.read_until(lambda message: message.value(379) == b"q1", limit=3)
+                halted.result()  # done, or not known: that is of another test
+            finally:
+                second.give_back()
+        until("it is committed", LONG, lambda: len(acts(stage)) == 3)
+        assert not any(b"q1" in frame for frame in frames_behind(stage, b" halt "))
+        answer = answer or dealer.got_until(lambda message: message.value(379) == b"q1")
+        assert answer.kind == b"j", answer.raw
+        did(stage, "resume", *words)
+        assert dealer.raw(dealer.message(b"S", dealer.name, quote(b"q2")))
+        assert dealer.got_until(lambda message: message.value(117) == b"q2").value(297) == b"0"
+
+
+@pytest.mark.parametrize("log_place", ["postgres"], indirect=True)
+def test_a_suspension_behind_a_resume_while_the_log_stalls(stage_of_log: Stage) -> None:
+    """The same of a firm: where its suspension has its place behind the end of another, it may log on, and nothing that it begins
+    is taken."""
+    stage = stage_of_log
+    stage.door.operators = ""
+    stage.open()
+    assert stage.postgres is not None
+    with logged_on(stage, DEALER) as dealer, logged_on(stage, INVESTOR) as investor:
+        asked(dealer, investor)
+        number = dealer.number
+        did(stage, "suspend", "DLR1", "--because", "they called")
+        assert dealer.got(b"5")
+        with ThreadPoolExecutor() as pool, entries_locked(stage.postgres) as first:
+            log = stage.postgres
+            resumed = pool.submit(admin, stage, "resume", "DLR1")
+            until("the resume is put there", LONG, lambda: waiting_for_entries(log) == 1)
+            second = EntriesLock(stage.postgres)
+            try:
+                until("the next one asks", LONG, lambda: waiting_for_entries(log) == 2)
+                again = pool.submit(admin, stage, "suspend", "DLR1", "--because", "once more")
+                begun(stage, 3)
+                first.give_back()
+                second.wait()
+                resumed.result()
+                with Wire(stage.door.port) as wire:
+                    wire.number = number
+                    wire.logon(b"DLR1", DEALER.password.encode())
+                    wire.raw(wire.message(b"S", b"DLR1", quote(b"q1")))
+                    again.result()
+            finally:
+                second.give_back()
+        until("it is committed", LONG, lambda: len(acts(stage)) == 3)
+        assert not any(b"q1" in frame for frame in frames_behind(stage, b" suspend "))
+        assert firm_row(stage, "DLR1")["set"] == "suspended"
+
+
+@pytest.mark.parametrize("log_place", ["postgres"], indirect=True)
+def test_an_end_of_the_day_while_the_log_stalls(stage_of_log: Stage) -> None:
+    """No new request stands behind the order in the log, though it is not committed yet; the day goes on until it is."""
+    stage = stage_of_log
+    stage.door.operators = ""
+    stage.open()
+    assert stage.postgres is not None
+    with logged_on(stage, DEALER) as dealer, logged_on(stage, INVESTOR) as investor:
+        asked(dealer, investor)
+        with entries_locked(stage.postgres), ThreadPoolExecutor() as pool:
+            said = pool.submit(admin, stage, "end-day", "--because", "a holiday")
+            begun(stage, 1)
+            fields = request_fields(b"A2", moment_in(600))
+            assert investor.raw(investor.message(b"R", investor.name, fields))
+            said.result()
+        until("it is committed", LONG, lambda: len(acts(stage)) == 1)
+        answer = investor.got_until(lambda message: message.value(379) == b"A2")
+        assert answer.kind == b"j", answer.raw
+        assert not any(b"A2" in frame for frame in frames_behind(stage, b" end-day "))
 
 
 def test_a_clock_that_is_accepted(stage: Stage, clock: Clock) -> None:
@@ -177,6 +351,32 @@ def test_a_clock_that_is_accepted(stage: Stage, clock: Clock) -> None:
     assert len(steps) == 1, steps
     microseconds = int(steps[0].rsplit(b" ", 1)[1])
     assert -40_100_000 < microseconds < -39_000_000, steps
+
+
+def test_small_steps_of_the_clock_add_up(stage: Stage, clock: Clock) -> None:
+    """Three steps of a second each: after the third no quote is taken, and after a restart neither. An operator's word counts for all
+    of them, and the next step is one of a second."""
+    stage.door.operators = ""
+    stage.open(stage.other)
+
+    def takes_business() -> bool:
+        return bool(rows(stage, "status")[0]["takes_business"])
+
+    for seconds in (1, 2, 3):
+        assert takes_business()
+        clock.set(seconds)
+        until(
+            "the step is told",
+            LONG,
+            lambda: stage.door.told.read_text().count("clock was set by=") == seconds,
+        )
+    until("no quote is taken", LONG, lambda: not takes_business())
+    started_again(stage)
+    assert not takes_business()
+    did(stage, "clock", "accept", "--because", "ntpd was wrong, and is right")
+    clock.set(4)
+    until("it is told", LONG, lambda: stage.door.told.read_text().count("clock was set by=") == 4)
+    assert takes_business()
 
 
 def test_samples_of_the_clock(stage: Stage) -> None:
@@ -216,6 +416,8 @@ def test_files_that_are_read_again(stage: Stage) -> None:
     assert (
         said.status == 1 and "stay as they were" in said.err and "username is missing" in said.err
     ), said.text
+    words = [act.split(b" ", 4)[4] for act in acts(stage)]
+    assert words == [b'reload because="as every Friday"', b"reload", b"reload refused"]
     file.write_text(right.split("[DLR2]")[0] + "[INV1]" + right.split("[INV1]")[1])
     did(stage, "reload")
     until(
@@ -224,7 +426,30 @@ def test_files_that_are_read_again(stage: Stage) -> None:
         lambda: bool(firm_row(stage, "DLR2")["logged_on"] == ""),
     )
     assert firm_row(stage, "DLR1")["logged_on"]
-    assert len(acts(stage)) == 3
+    assert len(acts(stage)) == 4
+
+
+def test_credentials_of_a_firm_of_tomorrow(stage: Stage) -> None:
+    """A reload reads them too: a misspelled key is refused with its line, and what is right is told to count for nothing today."""
+    stage.door.operators = ""
+    stage.open(*stage.firms)
+    file = stage.door.folder / "credentials.toml"
+    right = file.read_text()
+    hashed = re.findall('password = ("[^"]*")', right)[0]
+    part = '[DLR9]\nusername = "DLR9"\n%s = ' + hashed + "\n"
+    line = right.count("\n") + 3
+    file.write_text(right + part % "pasword")
+    said = admin(stage, "reload")
+    assert said.status == 1 and "[DLR9] password is missing" in said.err, said.text
+    file.write_text(right + part % "password" + 'adresses = ["192.0.2.7"]\n')
+    said = admin(stage, "reload")
+    assert said.status == 1, said.text
+    assert (
+        "credentials.toml: line %d: [DLR9] adresses is no key" % (line + 1) in said.err
+    ), said.text
+    file.write_text(right + part % "password")
+    assert "DLR9 is no firm of today" in did(stage, "reload")
+    assert all(firm.logged_on() for firm in stage.firms)
 
 
 def test_acts_and_another_gateway(stage_of_log: Stage) -> None:

@@ -2,14 +2,16 @@
 
 from pathlib import Path
 
-from tests.admin.desk import acts, admin, audit, did, rows
+from tests.admin.operator import acts, admin, audit, did, rows
 from tests.admin.test_orders import quoted, request_fields
+from tests.gateway.door import today
 from tests.gateway.market import moment_in
 from tests.gateway.stage import DEALER, INVESTOR, Stage
 from tests.gateway.wait import LONG, until
 from tests.gateway.wire import Fields, Wire
 from tests.limits.flood import logged_on, not_taken
 from tests.operating.test_configuration import VENUE
+from tests.operating.test_configuration import told as check
 
 NOT_AVAILABLE = b"4"  # BusinessRejectReason (380)
 ENDED = 'stop cause="the operator has ended the day"'
@@ -38,6 +40,11 @@ def told(stage: Stage) -> str:
 def ended(stage: Stage) -> None:
     """The day has ended, and the gateway waits for the next one."""
     until("the day ends", LONG, lambda: ENDED in told(stage))
+    waits(stage)
+
+
+def waits(stage: Stage) -> None:
+    """For the next day; nobody may log on."""
     until("the next day is waited for", LONG, lambda: "closed until=" in told(stage))
     said = rows(stage, "status")[0]
     assert said["state"] == "waits" and "the trading day" in said["for"], said
@@ -52,8 +59,10 @@ def test_it_waits_for_open_requests(stage: Stage) -> None:
     opened(stage)
     with logged_on(stage, DEALER) as dealer, logged_on(stage, INVESTOR) as investor:
         asked(stage, dealer, investor)
+        assert rows(stage, "status")[0]["takes_business"] is True
         said = did(stage, "end-day", "--because", "a storm")
         assert "the day ends once these 1 have ended" in said and "A1" in said, said
+        assert rows(stage, "status")[0]["takes_business"] is False
         assert acts(stage)[-1].endswith(b' end-day because="a storm"')
         fields = request_fields(b"A2", moment_in(600))
         not_taken(investor, b"R", fields, NOT_AVAILABLE, b"the operator ends the day")
@@ -79,7 +88,8 @@ def test_it_waits_for_open_requests(stage: Stage) -> None:
     stage.door.kill()
     Path(stage.door.told).unlink()
     stage.door.start()
-    ended(stage)
+    until("it is known to have ended", LONG, lambda: "it is not opened again" in told(stage))
+    waits(stage)
     assert "ready address=" not in told(stage), "a day that has ended is opened again"
     assert stage.door.stop() == 0
 
@@ -116,6 +126,48 @@ def test_no_trade_that_one_side_is_not_told(stage: Stage) -> None:
         assert not any(m.kind == b"AJ" for m in iter(lambda: dealer.read(LONG), None))
     ended(stage)
     assert audit(stage, "check").status == 0
+
+
+def test_a_restart_behind_it(stage: Stage) -> None:
+    """It opens nothing, adds nothing to the log and makes no second copy; --check and `status` say so before."""
+    (stage.folder / "copies").mkdir()
+    opened(stage)
+    with (stage.folder / "gateway.toml").open("a") as file:
+        file.write('[copies]\nfolder = "copies"\n')
+    assert stage.door.stop() == 0
+    stage.door.start()
+    stage.door.wait_open()
+    did(stage, "end-day")
+    ended(stage)
+    until("the day is copied", LONG, (stage.folder / "copies" / today()).exists)
+    says = "a restart now opens no day yet: "
+    assert did(stage, "status").startswith(says), did(stage, "status")
+    found = check(stage)
+    assert found.returncode == 0 and says in found.stdout, found
+    entries = stage.door.ledger().entries
+    stage.door.kill()
+    before = told(stage)
+    stage.door.start()
+    until("the next day is waited for", LONG, lambda: "closed until=" in told(stage)[len(before) :])
+    assert "an operator has ended this day" in told(stage)[len(before) :]
+    assert stage.door.stop() == 0
+    assert stage.door.ledger().entries == entries
+    assert [path.name for path in (stage.folder / "copies").iterdir()] == [today()]
+
+
+def test_an_old_log_behind_it(stage: Stage) -> None:
+    """What was ended is the log that was signed: in the place of another one the gateway looks at that, and waits for the operator."""
+    opened(stage)
+    assert stage.door.stop() == 0
+    old = stage.door.database.read_bytes()
+    stage.door.start()
+    stage.door.wait_open()
+    did(stage, "end-day")
+    ended(stage)
+    assert stage.door.stop() == 0
+    stage.door.database.write_bytes(old)
+    stage.door.start()
+    until("it waits for the operator", LONG, lambda: "waits for the operator" in told(stage))
 
 
 def test_with_nothing_open(stage: Stage) -> None:

@@ -7,7 +7,7 @@ import tomllib
 from concurrent.futures import ThreadPoolExecutor
 from datetime import datetime, timedelta, timezone
 
-from tests.admin.desk import acts, admin, audit, did, rows, wait_open
+from tests.admin.operator import acts, admin, audit, did, rows, wait_open
 from tests.gateway.door import today
 from tests.gateway.stage import Stage
 from tests.gateway.stage import check as check_text

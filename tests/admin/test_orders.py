@@ -1,7 +1,9 @@
 """What an operator orders of a firm and of the venue: a suspension, a cancel, a halt, and the ways back of a firm that lost its
 store. Each is an act, and is so again after a gateway that was killed."""
 
-from tests.admin.desk import acts, admin, audit, did, firm_row, rows
+import re
+
+from tests.admin.operator import acts, admin, audit, did, firm_row, rows
 from tests.admin.stream import Stream, quote_fields
 from tests.gateway.firm import Received
 from tests.gateway.market import BOND, moment_in
@@ -142,7 +144,7 @@ def test_quotes_that_are_cancelled_while_the_dealer_quotes(stage: Stage) -> None
         with Stream(wire) as stream:
             for _ in range(5):
                 stream.wait_for_more()
-                did(stage, "cancel", "DLR1")
+                did(stage, "cancel", "DLR1", "--because", WHY)
     numbers = numbers_of(stage)
     check(numbers == list(range(1, len(numbers) + 1)), "the numbers are %r" % numbers[-50:])
     until("the record is whole", LONG, lambda: audit(stage, "check").status == 0)
@@ -164,7 +166,7 @@ def test_an_investor_that_is_suspended(stage: Stage) -> None:
             "that the request was passed",
             lambda message: message.kind == b"AJ" and message.value(694) == b"6",
         )
-    said = admin(stage, "cancel", "INV1")
+    said = admin(stage, "cancel", "INV1", "--because", WHY)
     check(said.status == 1 and "is an investor, and has no quotes" in said.err, said.text)
 
 
@@ -176,7 +178,7 @@ def test_quotes_that_are_cancelled(stage: Stage) -> None:
         assert wire.read_kind(b"R") is not None
         quoted(wire, b"q1")
         before = firm_row(stage, "DLR1")
-        did(stage, "cancel", "DLR1")
+        did(stage, "cancel", "DLR1", "--because", WHY)
         after = firm_row(stage, "DLR1")
         check(after["messages"] == before["messages"] + 1, "the cancel is no message of the firm's")
         check(after["day_bytes"] > before["day_bytes"], "the cancel's bytes are not the firm's")
@@ -224,12 +226,15 @@ def test_quotes_of_one_trader(stage_of_log: Stage) -> None:
         number = wire.number
     started_again(stage)
     with logged_on(stage, DEALER, number=number) as wire:
-        said = admin(stage, "cancel", "DLR1", "--trader", "T9")
+        said = admin(stage, "cancel", "DLR1", "--trader", "T9", "--because", WHY)
         check(said.status == 1 and "has no trader T9: its traders are T1, T3" in said.err, said)
         said = admin(stage, "cancel", "DLR1", "--trader", "")
         check(said.status == 1 and "--trader has no name behind it" in said.err, said)
-        did(stage, "cancel", "DLR1", "--trader", "T1")
-        check(acts(stage)[-1].endswith(b" cancel DLR1 --trader T1"), acts(stage))
+        did(stage, "cancel", "DLR1", "--trader", "T1", "--because", WHY)
+        check(
+            acts(stage)[-1].endswith(b' cancel DLR1 --trader T1 because="%s"' % WHY.encode()),
+            acts(stage),
+        )
         ends = ends_of(stage, 2)
         wanted = [b"\x0150=T1\x01298=5\x01117=%s\x01" % name for name in (b"q1", b"q5")]
         check(all(want in end for want, end in zip(wanted, ends, strict=True)), ends)
@@ -237,7 +242,7 @@ def test_quotes_of_one_trader(stage_of_log: Stage) -> None:
             wire.got_until(
                 lambda message: message.value(117) == name and message.value(297) == DROPPED
             )
-        did(stage, "cancel", "DLR1", "--trader", "T1")
+        did(stage, "cancel", "DLR1", "--trader", "T1", "--because", WHY)
         check(frames_behind_last_act(stage) == [], "what is gone is cancelled again")
         quoted_by(wire, b"T1", b"q6", b"R1")
     check(audit(stage, "check").status == 0, audit(stage, "check").text)
@@ -303,21 +308,27 @@ def test_a_halt(stage: Stage) -> None:
         halted(dealer, investor, shown, HALTED)
         halt_is_seen(stage, "yes", takes_business=False)
         page = asked(stage.door, "/")[1]
-        check("an operator has halted the venue" in page, page)
-        did(stage, "resume")
+        check(page.count("an operator has halted the venue") == 1, page)
+        code, words = asked(stage.door, "/ready")
+        check(code == 200 and "(an operator has halted the venue)" in words, words)
+        event = re.compile(r'operator act="\w+\(\d+\) halt" because="rumours"$', re.MULTILINE)
+        check(event.search(stage.door.told.read_text()), "an event has no such act")
+        check(did(stage, "resume") == "the venue goes on\n", "it is halted")
         halt_is_seen(stage, "no", takes_business=True)
         quoted(dealer, b"q2")
         shown = investor.got_until(
             lambda message: message.kind == b"S" and message.value(117) != shown.value(117)
         )
-        said = admin(stage, "halt", "--bond", "BONDX0000009")
+        said = admin(stage, "halt", "--bond", "BONDX0000009", "--because", WHY)
         check(said.status == 1 and "has no bond BONDX0000009" in said.err, said.text)
         for word in ("halt", "resume"):
             said = admin(stage, word, "--bond", "")
             check(said.status == 1 and "--bond has no ID behind it" in said.err, said)
-        did(stage, "halt", "--bond", BOND.decode())
+        did(stage, "halt", "--bond", BOND.decode(), "--because", WHY)
         halted(dealer, investor, shown, BOND_HALTED)
         halt_is_seen(stage, BOND.decode(), takes_business=True)
+        rest = "the venue goes on, but for this:\nan operator has halted bonds: %s\n"
+        check(did(stage, "resume") == rest % BOND.decode(), "the bond is not told")
         numbers = dealer.number, investor.number
     started_again(stage)
     with logged_on(stage, DEALER, number=numbers[0]) as dealer:

@@ -2,13 +2,14 @@
 
 import json
 import resource
+import shutil
 import socket
 import subprocess
 import time
 
 import pytest
 
-from tests.admin.desk import (
+from tests.admin.operator import (
     acts,
     admin,
     answer_to,
@@ -296,3 +297,30 @@ def test_a_socket_that_is_there(desk: Stage) -> None:
         assert desk.door.wait_end() == 1
         assert "another gateway listens there" in desk.door.last_words()
     until("the socket of the other is there", LONG, socket_of(desk).exists)
+
+
+@NEEDS_ROOT
+def test_who_the_mode_keeps_out(stage: Stage) -> None:
+    """The program says that its user may not, and not that no gateway is there."""
+    stage.door.operators = ""
+    stage.open()
+    program = stage.door.programs.gateway.parent / "mireseason-admin"
+    own = stage.folder / "mireseason-admin"
+    shutil.copy(program, own)
+    stage.folder.chmod(0o755)
+    for path, words in (
+        (socket_of(stage), "you may not use"),
+        (stage.folder / "none.sock", "no gateway answers at"),
+    ):
+        done = subprocess.run(
+            [str(own), "--socket", str(path), "status"],
+            capture_output=True,
+            text=True,
+            user="nobody",
+            group="nogroup",
+            extra_groups=[],
+            cwd="/",
+            timeout=LONG,
+            check=False,
+        )
+        assert done.returncode == 3 and words in done.stderr, done

@@ -1,13 +1,16 @@
 """What the tests of the audit are run with, as programs that they start read it."""
 
 from collections.abc import Iterator
+from pathlib import Path
 
 import pytest
 
 
 @pytest.fixture(scope="session", autouse=True)
-def remembered(tmp_path_factory: pytest.TempPathFactory) -> Iterator[None]:
-    """A folder in which the venue's answers are kept: see remembered.py."""
+def remembered(shared: Path) -> Iterator[None]:
+    """A folder in which the venue's answers are kept, for all workers: see remembered.py."""
+    folder = shared / "remembered"
+    folder.mkdir(exist_ok=True)
     with pytest.MonkeyPatch.context() as patch:
-        patch.setenv("REMEMBERED", str(tmp_path_factory.mktemp("remembered")))
+        patch.setenv("REMEMBERED", str(folder))
         yield

@@ -41,6 +41,11 @@ ALL_DEALERS = {
 ALL_INVESTORS = {"FJORD": ("FJ1", "FJ2"), "GROVE": ("GR1",)}
 
 
+def name_of(bond: str) -> str:
+    """What people call a bond, where a day says it."""
+    return "Treasury <%s>" % bond[-3:]
+
+
 @dataclass(frozen=True)
 class Firms:
     """The firms of a day, each with its traders."""
@@ -49,6 +54,7 @@ class Firms:
     investors: dict[str, tuple[str, ...]]
     currencies: tuple[str, ...] = ()  # of the bonds, in their order; empty of one without
     in_32nds: bool = False  # how all bonds are quoted
+    are_bonds_named: bool = False
 
     @property
     def all(self) -> dict[str, tuple[str, ...]]:
@@ -68,6 +74,8 @@ def configuration(firms: Firms) -> bytes:
             text += 'currency = "%s"\n' % currency
         if firms.in_32nds:
             text += 'quoted = "32nds"\n'
+        if firms.are_bonds_named:
+            text += 'name = "%s"\n' % name_of(bond)
     for name, traders in firms.dealers.items():
         text += '\n[[dealer]]\nname = "%s"\ntraders = [%s]\n' % (name, quoted(traders))
         text += "quotes = 4096\nexposure = 60000000\n"
@@ -117,7 +125,7 @@ class Market:
     """The venue, its firms and what is still to come."""
 
     def __init__(
-        self, path: Path, seed: int, noise: int, firms: Firms, venue: list[str], form: int = 5
+        self, path: Path, seed: int, noise: int, firms: Firms, venue: list[str], form: int = 6
     ) -> None:
         self.draw, self.noise, self.firms = random.Random(seed), noise, firms
         self.door = random.Random("door %d" % seed)  # its own: the day is the same without it
@@ -393,9 +401,14 @@ def main() -> None:
     parser.add_argument("venue", nargs="+")
     parser.add_argument("--dealers", type=int, default=len(ALL_DEALERS))
     parser.add_argument("--investors", type=int, default=len(ALL_INVESTORS))
-    parser.add_argument("--form", type=int, default=5, choices=(3, 4, 5), help="of the log")
+    parser.add_argument("--form", type=int, default=6, choices=(3, 4, 5, 6), help="of the log")
     parser.add_argument("--currencies", default="", help="of the bonds, with commas between them")
     parser.add_argument("--in-32nds", action="store_true", help="quotes all bonds in 32nds")
+    parser.add_argument("--named", action="store_true", help="gives the bonds names")
+    text = "a file for the last checkpoint, as a gateway keeps it outside of its log"
+    parser.add_argument("--checkpoint", type=Path, help=text)
+    text = "a file for all checkpoints, a line each, as a gateway sends them"
+    parser.add_argument("--sent", type=Path, help=text)
     words = parser.parse_args()
     words.log.unlink(missing_ok=True)
     firms = Firms(
@@ -403,8 +416,15 @@ def main() -> None:
         first_of(ALL_INVESTORS, words.investors),
         tuple(words.currencies.split(",")) if words.currencies else (),
         words.in_32nds,
+        words.named,
     )
-    Market(words.log, words.seed, words.noise, firms, words.venue, words.form).play(words.requests)
+    market = Market(words.log, words.seed, words.noise, firms, words.venue, words.form)
+    market.play(words.requests)
+    if words.checkpoint is not None:
+        words.checkpoint.write_text(market.ledger.outside)
+    if words.sent is not None:
+        lines = [text.rstrip("\n").replace("\n", "\t") for text in market.ledger.all_outside]
+        words.sent.write_text("".join(line + "\n" for line in lines))
 
 
 if __name__ == "__main__":

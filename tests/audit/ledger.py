@@ -29,9 +29,19 @@ OLD_SESSIONS = """DROP TABLE outgoing; DROP TABLE session;
         bytes BYTEA NOT NULL, PRIMARY KEY (firm, number));
     CREATE TABLE session (firm TEXT PRIMARY KEY, target INTEGER NOT NULL,
         logged_on INTEGER NOT NULL);"""
-OLD_TABLES = {
+# Before form 6 no checkpoint said that a day had ended.
+OLD_CHECKPOINTS = """DROP TABLE checkpoint;
+    CREATE TABLE checkpoint (number INTEGER PRIMARY KEY, term INTEGER NOT NULL,
+        place INTEGER NOT NULL, event INTEGER NOT NULL, signature BYTEA NOT NULL);"""
+# Nor had a seal session notes.
+OLD_SEALS = """DROP TABLE seal;
+    CREATE TABLE seal (number INTEGER PRIMARY KEY, term INTEGER NOT NULL, place INTEGER NOT NULL,
+        event INTEGER NOT NULL, mac BYTEA NOT NULL);"""
+TABLES = {
     3: "DROP TABLE seal; DROP TABLE checkpoint; UPDATE form SET number = 3;" + OLD_SESSIONS,
-    4: "UPDATE form SET number = 4;" + OLD_SESSIONS,
+    4: "UPDATE form SET number = 4;" + OLD_SEALS + OLD_CHECKPOINTS + OLD_SESSIONS,
+    5: "UPDATE form SET number = 5;" + OLD_SEALS + OLD_CHECKPOINTS,
+    6: "",
 }
 
 Fields = list[tuple[str, str]]
@@ -80,7 +90,8 @@ class Session:
     kept: list[int] = field(default_factory=list)
     given: list[int] = field(default_factory=list)  # of these, those of the venue
     came: int = 0
-    messages: int = 0  # of the venue
+    messages: int = 0  # of the venue,
+    messages_hash: bytes = bytes(32)  # and their running hash
     connection: int | None = None
     peer: tuple[str, str | None] = "", None  # its address and certificate
     received: int = 0  # microseconds, the last message on it
@@ -100,14 +111,19 @@ class Ledger:
     connections: int = 0
     before_event: bytes = bytes(32)
     clock_at: int = 0  # microseconds, the last that it said
-    form: int = 5  # or 4; or 3, which has no seals
+    form: int = 6  # or one before; 3 has no seals
     notes: bool = False  # the day gives reasons and the names of trades
     seals: int = 0
+    session_notes: bytes = b""  # that no seal covers yet, a line feed behind each
+    before_note: bytes = bytes(32)
     checkpoints: int = 0
+    signature: bytes = bytes(64)  # of the last checkpoint
+    signed: str = ""  # and what it signed
+    all_outside: list[str] = field(default_factory=list)  # of each, the text that is kept outside
 
     def __post_init__(self) -> None:
         self.database = sqlite3.connect(self.path, isolation_level=None)
-        self.database.executescript(SCHEMA.read_text() + OLD_TABLES.get(self.form, ""))
+        self.database.executescript(SCHEMA.read_text() + TABLES[self.form])
         self.database.execute("BEGIN")
         digest = hashlib.sha256(self.configuration).hexdigest()
         head = "version %s\nprogram %s\nconfiguration %s\n" % (VERSION, PROGRAM, digest)
@@ -143,10 +159,12 @@ class Ledger:
     # ------------------------------------------------------------ seals
 
     def sealed_text(self) -> str:
-        text = "mireseason log 4\nvenue -\nday %s\nconfiguration %s\nterm 0\nentry %d %s\n"
+        text = "mireseason log %d\nvenue -\nday %s\nconfiguration %s\nterm 0\nentry %d %s\n"
         configuration = hashlib.sha256(self.configuration).hexdigest()
-        text %= self.date, configuration, self.place, self.before.hex()
-        return text + "connection %d %s\n" % (self.events, self.before_event.hex())
+        title = 6 if self.form > 5 else 4
+        text %= title, self.date, configuration, self.place, self.before.hex()
+        text += "connection %d %s\n" % (self.events, self.before_event.hex())
+        return text + ("seal %d %s\n" % (self.seals, self.before_note.hex()) if title > 5 else "")
 
     def seal(self) -> None:
         """A seal of all that there is, and each third time the gateway's signature, too."""
@@ -154,16 +172,30 @@ class Ledger:
             return
         self.seals += 1
         mac = hmac.new(SECRET, self.sealed_text().encode(), hashlib.sha256).digest()
-        row = (self.seals, 0, self.place, self.events, mac)
-        self.database.execute("INSERT INTO seal VALUES (?, ?, ?, ?, ?)", row)
+        row = [self.seals, 0, self.place, self.events, mac]
+        if self.form > 5:
+            row[4:4] = self.session_notes, self.before_note
+        self.session_notes = b""
+        self.database.execute("INSERT INTO seal VALUES (%s)" % ", ".join("?" * len(row)), row)
         if self.seals % 3 == 1:
             self.sign()
 
-    def sign(self) -> None:
+    def sign(self, is_end: bool = False) -> None:
         self.checkpoints += 1
-        signature = KEY.sign((self.sealed_text() + "checkpoint %d\n" % self.checkpoints).encode())
-        row = (self.checkpoints, 0, self.place, self.events, signature)
-        self.database.execute("INSERT INTO checkpoint VALUES (?, ?, ?, ?, ?)", row)
+        text = self.sealed_text() + "checkpoint %d\n" % self.checkpoints
+        if self.form > 5:
+            text += "before %s\nend %s\n" % (self.signature.hex(), "yes" if is_end else "no")
+        self.signed, self.signature = text, KEY.sign(text.encode())
+        self.all_outside.append(self.outside)
+        row = [self.checkpoints, 0, self.place, self.events, self.signature]
+        if self.form > 5:
+            row[4:4] = self.seals, int(is_end)
+        self.database.execute("INSERT INTO checkpoint VALUES (%s)" % ", ".join("?" * len(row)), row)
+
+    @property
+    def outside(self) -> str:
+        """The file of the last checkpoint, as a gateway keeps it outside."""
+        return self.signed + "signature %s\n" % self.signature.hex()
 
     # ------------------------------------------------------------ times
 
@@ -323,6 +355,23 @@ class Ledger:
             kept = frame([("35", kind), *body])
             values = (firm, number, carried, kind, time_text(moment), kept)
             self.database.execute(query, values)
+            if carried is not None:
+                text = "%s %d\n" % (session.messages_hash.hex(), len(kept))
+                session.messages_hash = hashlib.sha256(text.encode() + kept).digest()
+        if carried is None and self.form > 5:
+            self.note(firm, kind, number, moment, body)
+
+    def note(self, firm: str, kind: str, number: int, moment: int, body: Fields) -> None:
+        """A session note of a message of the session's own (docs/RECOVERY.md)."""
+        session = self.sessions[firm]
+        fields = "".join("%s=%s\\x01" % pair for pair in body)
+        more = {"A": " %d N" % moment, "3": " " + fields, "j": " " + fields}.get(kind, "")
+        hash_, at = session.messages_hash.hex(), time_text(moment)
+        counts = number, session.came + 1, 0, session.messages
+        line = "%s 0 %s %d %d %d %d %s %s%s" % (firm, kind, *counts, hash_, at, more)
+        text = "%s %s\n" % (self.before_note.hex(), line)
+        self.before_note = hashlib.sha256(text.encode()).digest()
+        self.session_notes += line.encode() + b"\n"
 
     def came(self, firm: str, moment: int, data: bytes, number: bool = True) -> int:
         """A message of a firm; without a number the gateway's own, for a firm that is gone."""
@@ -366,7 +415,7 @@ class Ledger:
     def close(self) -> None:
         self.seal()
         if self.form > 3:
-            self.sign()
+            self.sign(is_end=True)
         self.database.execute("COMMIT")
         self.database.execute("VACUUM")
         self.database.close()

@@ -1,6 +1,6 @@
 """Frames and a configuration of docs/, for the tests of the parts."""
 
-# Frames of docs/CONNECTING.md, with a bar for each SOH.
+# Frames of docs/FORMATS.md, with a bar for each SOH.
 ACCEPTED = (
     "8=FIXT.1.1|9=73|35=AI|49=VENUE|56=DLR1|34=2|52=20250314-09:00:10.000|131=R1|117=a1|297=0"
     "|10=207|"

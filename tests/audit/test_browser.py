@@ -30,10 +30,13 @@ function look(frame, name) {
     one.scrollWidth > one.clientWidth + 1 && getComputedStyle(one).overflowX !== "visible"
     && getComputedStyle(one).display !== "none" && !one.closest("thead, svg"))
     .map(one => one.tagName + " " + one.className);
+  const over = [...page.querySelectorAll(".cards td, .cards th")].filter(one =>
+    one.scrollHeight > one.clientHeight + 1 && one.clientHeight > 1)
+    .map(one => one.dataset.label);
   const bare = [...page.querySelectorAll(".scroll")].filter(one => one.scrollWidth > one.clientWidth
     && getComputedStyle(one).overflowX !== "auto").length;
   found.push({name, inner: frame.contentWindow.innerWidth, scroll: root.scrollWidth, wide,
-    headings, bare, sideways, style: getComputedStyle(page.body).fontSize});
+    headings, bare, sideways, over, style: getComputedStyle(page.body).fontSize});
 }
 async function all() {
   for (const name of pages) {
@@ -117,7 +120,7 @@ class Browser(unittest.TestCase):
                 self.assertLessEqual(one["scroll"], width, one)
                 self.assertEqual((one["wide"], one["bare"]), ([], 0), one)
                 if width == min(WIDTHS):
-                    self.assertEqual(one["sideways"], [], one)
+                    self.assertEqual((one["sideways"], one["over"]), ([], []), one)
                 self.assertEqual(one["headings"][:1], ["H1"], one)
                 self.assertEqual(one["style"], "15px", "%s has no style sheet" % one["name"])
 

@@ -174,7 +174,9 @@ class Commands(LogCase):
         other.mkdir()
         _, wrong = keys(other)
         self.assertEqual(audit("check", self.log, "--key", public).status, 2)  # no seal yet
-        self.assertEqual(audit("seal", self.log, "--key", private).status, 0)
+        ran = audit("seal", self.log, "--key", private)
+        self.assertEqual(ran.status, 0)
+        self.assertRegex(ran.out, r"\njudged: the entries, .*; not judged: what firms were sent")
         first = self.log.with_name("day.db.seal").read_bytes()
         self.assertEqual(audit("seal", self.log, "--key", private).status, 0)
         self.assertEqual(first, self.log.with_name("day.db.seal").read_bytes())
@@ -311,7 +313,7 @@ class Commands(LogCase):
             for words in (["page", self.log, pages, "--sign"], ["seal", self.log, "--key"]):
                 ran = audit(*words, key, venue=["/nowhere/venue"])
                 self.assertEqual((ran.status, ran.out), (2, ""))
-                self.assertIn("openssl pkey", ran.err)
+                self.assertIn("the private key %s can't be read" % key, ran.err)
         self.assertFalse(pages.exists())
 
     def test_a_request_that_the_day_does_not_have(self) -> None:

@@ -302,7 +302,7 @@ class DrawnDay(unittest.TestCase):
         ((connections,),) = self.rows("SELECT count(*) FROM connection WHERE event = 'logon'")
         text = "door      %d connections in %d rows, each follows on the one before: %s"
         self.assertIn(text % (connections, events, last.hex()), self.ran.out.splitlines())
-        self.assertIn("and the record is whole", self.ran.out)
+        self.assertIn("and the record is consistent", self.ran.out)
 
     def test_each_message_says_which_connection_it_came_on(self) -> None:
         query = """SELECT entry.place, entry.firm, entry.number, received, address, certificate,
@@ -459,7 +459,7 @@ class OldDays(unittest.TestCase):
         with folder() as name:
             log = Path(name) / "day.db"
             for number, text in (
-                (2, "the form of its tables is none of 1, 3, 4 and 5"),
+                (2, "the form of its tables is none of 1, 3, 4, 5 and 6"),
                 (3, "no such column: received"),
             ):
                 shutil.copyfile(DAY, log)

@@ -26,7 +26,6 @@ from mireseason_audit.second_day import moved_fields
 from mireseason_audit.story import seconds
 from mireseason_audit.templates import date_text, quantity_text
 from mireseason_audit.timeline import broken, gap_text
-from mireseason_audit.toml_text import MOST_DOTS, MOST_DOTS_OF_LINE, table_of
 from mireseason_audit.venue import Venue
 
 from tests.audit.common import ROOT, folder
@@ -223,24 +222,6 @@ class Lists(unittest.TestCase):
         ]
         for head in others:
             self.assertFalse(is_head(head, day, dealer), head)
-
-
-class Configurations(unittest.TestCase):
-    def test_what_no_reader_can_bear(self) -> None:
-        """A key of many parts takes the square of their number; and a value may hold itself."""
-        key = ".".join(["a"] * (MOST_DOTS_OF_LINE + 1)).encode()
-        self.assertIn("a", table_of(key + b" = 1\n"))
-        texts = (
-            b"a." + key + b" = 1\n",
-            b"#..\n" * (MOST_DOTS // 2 + 1),
-            b"a = " + b"[" * 100_000,
-            b"a = " + b"{a = " * 100_000,
-            b"a = 1\na = 2\n",
-            b"a = \xff\n",
-        )
-        for text in texts:
-            with self.assertRaises(ValueError, msg=text[:20]):
-                table_of(text)
 
 
 class Words(unittest.TestCase):

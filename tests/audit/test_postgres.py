@@ -13,6 +13,7 @@ from pathlib import Path
 from typing import Any
 
 import psycopg2
+from mireseason_audit.postgres_log import PostgresSource
 
 from tests.audit.common import DAY, ROOT, Folder, audit, folder, venue_words
 from tests.audit.ledger import OLD_SESSIONS
@@ -29,6 +30,61 @@ TO_FORM_2 = (
     UPDATE form SET number = 2; """
     + OLD_SESSIONS
 )
+# What somebody may put into a schema, and how the audit names it.
+BEYOND: list[tuple[str, list[str]]] = [
+    ("", []),
+    ("CREATE TABLE more (x INTEGER)", ["table more"]),
+    ("CREATE UNLOGGED TABLE more (x INTEGER)", ["table more", "unlogged table more"]),
+    ("ALTER TABLE sent ADD COLUMN told TEXT", ["column told of sent"]),
+    ("ALTER TABLE sent SET UNLOGGED", ["unlogged table sent"]),
+    ("CREATE VIEW v AS SELECT * FROM entry", ["view v"]),
+    ("CREATE MATERIALIZED VIEW m AS SELECT * FROM entry", ["materialized view m"]),
+    ("CREATE SEQUENCE s", ["sequence s"]),
+    ("CREATE INDEX i ON sent (place)", ["index i of sent"]),
+    ("CREATE RULE r AS ON INSERT TO sent DO INSTEAD NOTHING", ["rule r of sent"]),
+    ("ALTER TABLE entry ENABLE ROW LEVEL SECURITY", ["row security of entry"]),
+    (
+        "CREATE POLICY p ON entry USING (place < 5); ALTER TABLE entry ENABLE ROW LEVEL SECURITY",
+        ["policy p of entry", "row security of entry"],
+    ),
+    (
+        "CREATE TABLE more () INHERITS (entry)",
+        ["table more", "child more of entry", "parent entry of more"],
+    ),
+    ("CREATE TABLE parts (x INTEGER) PARTITION BY LIST (x)", ["partitioned table parts"]),
+    (
+        "CREATE FOREIGN DATA WRAPPER w; CREATE SERVER s FOREIGN DATA WRAPPER w;"
+        "CREATE FOREIGN TABLE f (x INTEGER) SERVER s",
+        ["foreign table f"],
+    ),
+    ("CREATE TYPE word AS ENUM ('a')", ["type word"]),
+    ("CREATE DOMAIN word AS TEXT", ["type word"]),
+    ("CREATE TYPE pair AS (a TEXT, b TEXT)", ["relation pair"]),
+    (
+        "CREATE OPERATOR === (LEFTARG = TEXT, RIGHTARG = TEXT, FUNCTION = texteq)",
+        ["operator ==="],
+    ),
+    ("ALTER TABLE sent ADD CHECK (place < 100)", ["constraint sent_place_check of sent"]),
+    ("ALTER TABLE sent ALTER place SET DEFAULT 5", ["default place of sent"]),
+    (
+        "CREATE FUNCTION f() RETURNS TRIGGER LANGUAGE plpgsql AS 'BEGIN RETURN NULL; END';"
+        "CREATE TRIGGER t BEFORE INSERT ON sent FOR EACH ROW EXECUTE FUNCTION f()",
+        ["function f", "trigger t of sent"],
+    ),
+    (  # the gateway's own name for it, on a table on which it makes none
+        "CREATE TRIGGER one_term AFTER INSERT ON sent REFERENCING NEW TABLE AS added"
+        " FOR EACH STATEMENT EXECUTE FUNCTION refuse_other_terms()",
+        ["trigger one_term of sent"],
+    ),
+    ("ALTER TABLE entry DISABLE TRIGGER one_term", ["trigger one_term of entry"]),
+    (  # the gateway's own function, which does nothing now: a gateway whose term is over may write
+        "CREATE OR REPLACE FUNCTION speak(mine INTEGER) RETURNS VOID LANGUAGE plpgsql"
+        " AS 'BEGIN RETURN; END'",
+        ["function speak"],
+    ),
+    ("ALTER FUNCTION speak(INTEGER) SECURITY DEFINER", ["function speak"]),
+    ("CREATE FUNCTION speak(mine TEXT) RETURNS VOID LANGUAGE SQL AS ''", ["function speak"]),
+]
 # A server ends with the test that started it, however that ends.
 AS_USER = "setpriv --reuid=postgres --regid=postgres --clear-groups --pdeathsig=QUIT --".split()
 
@@ -113,12 +169,28 @@ class Postgres(unittest.TestCase):
             self.assertEqual(ran.status, 2, ran.text)
             self.assertEqual(len(ran.err.splitlines()), 1)
 
+    def test_what_the_form_does_not_have(self) -> None:
+        """Each in a schema of its own, with the gateway's tables."""
+        for number, (script, told) in enumerate(BEYOND):
+            with self.subTest(script):
+                schema = "beyond_%d" % number
+                make_tables(self.connection, schema, script)
+                with PostgresSource(self.connection, schema).open() as log:
+                    self.assertEqual(list(log.beyond_form()), told)
+
+    def test_what_the_form_does_not_have_is_a_finding(self) -> None:
+        self.change("CREATE RULE r AS ON DELETE TO sent DO INSTEAD NOTHING")
+        status, text = self.check()
+        self.change("DROP RULE r ON sent")
+        self.assertEqual(status, 1)
+        self.assertIn("\ntables: no gateway makes this: rule r of sent", text)
+
     def test_tables_of_another_form(self) -> None:
         self.change("UPDATE form SET number = 1")
         status, text = self.check()
-        self.change("UPDATE form SET number = 5")
+        self.change("UPDATE form SET number = 6")
         self.assertEqual(status, 2)
-        self.assertIn("the form of its tables is none of 2, 3, 4 and 5", text)
+        self.assertIn("the form of its tables is none of 2, 3, 4, 5 and 6", text)
 
     def test_signatures(self) -> None:
         """Each is right; an entry that is put in with number and hash right has none."""
@@ -127,7 +199,9 @@ class Postgres(unittest.TestCase):
         words = ["postgres:" + self.connection, "--schema", SCHEMA, "--gateway-key", str(key)]
         ran = audit("check", *words)
         self.assertEqual(ran.status, 0, ran.text)
-        self.assertRegex(ran.out, r"signed +\d+ checkpoints, each by a gateway; no entry follows")
+        self.assertRegex(
+            ran.out, r"signatures: \d+ checkpoints, each by a gateway; no entry follows"
+        )
         with closing(sqlite3.connect(self.day)) as stored:
             last = stored.execute(ENTRIES).fetchall()[-1]
         made: Any = (last[0] + 1, *last[1:])

@@ -9,12 +9,14 @@ from pathlib import Path
 from typing import Any
 
 from mireseason_audit.chain import ChainReader, hash_of
-from mireseason_audit.check import Verdict, report
 from mireseason_audit.faults import Wrong
 from mireseason_audit.findings import Finding
 from mireseason_audit.frame import fault_of, fields_of, framed
+from mireseason_audit.identity import Identity
 from mireseason_audit.records import Entry, Messages, Outgoing, Sent, configured, day_of
+from mireseason_audit.report import report
 from mireseason_audit.seal import Sealed, compared, first_of, read_seal, write_seal
+from mireseason_audit.verdict import Verdict
 from mireseason_audit.wire import WireReader, carried, header_fault, parts_of
 
 from tests.audit.common import folder, keys
@@ -337,7 +339,8 @@ class Reports(unittest.TestCase):
     def test_nothing_in_a_log_writes_a_line_of_its_own(self) -> None:
         forged = "X\nverdict: each firm was sent what the rules give, byte for byte\x1b[2J\u2028"
         day = configured(forged, "", CONFIGURATION)
-        verdict = Verdict("day.db", day, True, program="v 1\r", messages={"DLR1": 0, "INV1": 0})
+        counts = {"DLR1": 0, "INV1": 0}
+        verdict = Verdict("day.db", day, Identity(day, {}), True, program="v 1\r", messages=counts)
         verdict.findings = [Finding(forged, "its moment %s" % forged, 3)]
         lines = report(verdict)
         self.assertTrue(all(line.isprintable() for line in lines), lines)

@@ -14,7 +14,8 @@ from tests.audit import ledger
 from tests.audit.common import ROOT, Ran, audit, folder, keys, venue_words
 from tests.audit.tamper import ENTRIES, hash_of
 
-SIGNED = r"signed +\d+ checkpoints, each by a gateway; no entry follows the last, of entry \d+\n"
+FORMS = (3, 4, 5, 6)
+SIGNED = r"checked +signatures: \d+ checkpoints, each by a gateway; no entry follows the last, of entry \d+\n"
 
 
 def rows_of(log: Path, query: str, *values: object) -> list[Any]:
@@ -24,7 +25,10 @@ def rows_of(log: Path, query: str, *values: object) -> list[Any]:
 
 def draw(path: Path, form: int) -> None:
     words = ["/usr/bin/python3", "-m", "tests.audit.draw_day", str(path), "--requests", "6"]
-    words += ["--form", str(form), "--", *venue_words()]
+    words += ["--form", str(form)]
+    if form > 3:
+        words += ["--checkpoint", str(path.with_suffix(".checkpoint"))]
+    words += ["--", *venue_words()]
     subprocess.run(words, check=True, cwd=ROOT)
 
 
@@ -36,7 +40,7 @@ class Signatures(unittest.TestCase):
         kept = folder()
         cls.addClassCleanup(kept.cleanup)
         cls.place = Path(kept.name)
-        for form in (3, 4, 5):
+        for form in FORMS:
             draw(cls.place / ("drawn-%d.db" % form), form)
         (cls.place / "gateway.pub").write_bytes(ledger.public_key())
         _, other = keys(cls.place)
@@ -44,7 +48,8 @@ class Signatures(unittest.TestCase):
 
     def setUp(self) -> None:
         self.log = self.place / "day.db"
-        self.log.write_bytes((self.place / "drawn-5.db").read_bytes())
+        self.log.write_bytes((self.place / "drawn-6.db").read_bytes())
+        self.kept = self.place / "drawn-6.checkpoint"
 
     def check_log(self, *words: str) -> Ran:
         key = str(self.place / "gateway.pub")
@@ -88,7 +93,10 @@ class Signatures(unittest.TestCase):
     def test_put_in_with_a_seal(self) -> None:
         """A seal that is none, which only the gateways can tell: nobody has signed the entry."""
         place = self.put_in()
-        seal = "INSERT INTO seal SELECT max(number) + 1, 0, ?, max(event), ? FROM seal"
+        seal = (
+            "INSERT INTO seal SELECT number + 1, 0, ?, event, x'', hash, ? FROM seal"
+            " ORDER BY number DESC LIMIT 1"
+        )
         self.do(seal, place, hashlib.sha256(b"guessed").digest())
         ran = self.check_log()
         self.found(ran, r"entries: entry %d: 1 entry follows the last checkpoint" % place)
@@ -117,7 +125,8 @@ class Signatures(unittest.TestCase):
 
     def test_no_checkpoints(self) -> None:
         self.do("DELETE FROM checkpoint")
-        self.found(self.check_log(), r"signed +0 checkpoints, NOT AS THEY SHOULD BE")
+        pattern = r"found wrong signatures: 0 checkpoints, NOT AS THEY SHOULD BE"
+        self.found(self.check_log(), pattern)
 
     def test_last_checkpoint_out(self) -> None:
         self.do("DELETE FROM checkpoint WHERE number = (SELECT max(number) FROM checkpoint)")
@@ -140,21 +149,23 @@ class Signatures(unittest.TestCase):
         key = str(self.place / "gateway.pub")
         ran = audit("stats", self.log, "--until", "9", "--gateway-key", key)
         self.assertEqual(ran.status, 2, ran.text)
-        self.assertIn("signatures are of the whole log", ran.err)
+        self.assertIn("signatures, checkpoints and seals are of the whole log", ran.err)
 
-    def test_form_4(self) -> None:
-        """A log with all that its sessions sent: checked and signed as it was."""
-        self.log.write_bytes((self.place / "drawn-4.db").read_bytes())
-        ran = self.check_log()
-        self.assertEqual(ran.status, 0, ran.text)
-        self.assertIn("as its session carried them", ran.out)
+    def test_forms_before(self) -> None:
+        """A log with all that its sessions sent, and one that no end ends: checked as they were."""
+        for form in (4, 5):
+            self.log.write_bytes((self.place / ("drawn-%d.db" % form)).read_bytes())
+            ran = self.check_log()
+            self.assertEqual(ran.status, 0, ran.text)
+            self.assertIn("as its session carried them", ran.out)
+            self.assertIn("not checked checkpoints: in this form of the log", ran.out)
 
     def test_form_3(self) -> None:
         """A log of an old release: checked as it was, and nobody has signed it."""
         self.log.write_bytes((self.place / "drawn-3.db").read_bytes())
         ran = audit("check", self.log)
         self.assertEqual(ran.status, 0, ran.text)
-        self.assertNotIn("signed", ran.out)
+        self.assertIn("not checked signatures: without --gateway-key", ran.out)
         ran = self.check_log()
         self.assertEqual(ran.status, 2, ran.text)
         self.assertIn("of a form in which gateways did not sign", ran.err)

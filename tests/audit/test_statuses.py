@@ -227,7 +227,10 @@ class Statuses(LogCase):
                 ("ALTER TABLE session RENAME TO rows", "CREATE VIEW session AS SELECT * FROM rows"),
                 "session",
             ),
-            (("CREATE VIRTUAL TABLE words USING fts5(word)",), "words"),
+            (
+                ("DROP TABLE session", "CREATE VIRTUAL TABLE session USING fts5(firm, target)"),
+                "session",
+            ),
             (("ALTER TABLE sent ADD COLUMN more BLOB AS (zeroblob(1000000))",), "sent"),
         ):
             shutil.copyfile(DAY, self.log)

@@ -79,7 +79,7 @@ def filled(text: str, names: dict[str, str]) -> str:
     def moment(found: re.Match[str]) -> str:
         return (now + timedelta(seconds=int(found[1] or 0))).strftime("%Y%m%d-%H:%M:%S")
 
-    return SHIFTED.sub(moment, text)
+    return SHIFTED.sub(moment, text.replace("<MINUTE>", now.strftime("%Y%m%d-%H:%M")))
 
 
 def message_of(text: str) -> bytes:

@@ -25,7 +25,7 @@ INTERVALS = {True: (2, 8, 30), False: (60, 120, 300)}
 LIMITS = (20.0, 60.0, 180.0)
 
 
-@pytest.fixture(scope="module")
+@pytest.fixture(scope="session")
 def firms(tools: Tools) -> Iterator[Firms]:
     """Firms whose sessions nobody has begun."""
     with tempfile.TemporaryDirectory(prefix="mrc") as name:

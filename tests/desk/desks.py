@@ -1,6 +1,7 @@
 """The desk of one firm: its configuration, and its process, which can be ended and started again."""
 
 import json
+import os
 import ssl
 import subprocess
 import urllib.request
@@ -50,7 +51,7 @@ def bonds_text() -> str:
 
 def row_text(firm: FirmOf) -> str:
     rows = "".join("%s = %d\n" % item for item in firm.limits.items())
-    return '[[%s]]\nname = "%s"\ntraders = ["%s", "T4"]\n%s' % (
+    return '[[%s]]\nname = "%s"\ntraders = ["%s", "T4", "P1"]\n%s' % (
         firm.role,
         firm.name,
         firm.trader,
@@ -78,6 +79,15 @@ class TraderOf:
     limits: dict[str, int] = field(default_factory=dict)
 
 
+@dataclass(frozen=True)
+class ProgramOf:
+    """A program of the firm's own, with the rights of the trader who has this login."""
+
+    name: str
+    login: str
+    token: str
+
+
 @dataclass
 class Desk:
     program: Path
@@ -86,6 +96,8 @@ class Desk:
     venue_port: int
     hashed: str  # the hash of PASSWORD
     page: dict[str, str] = field(default_factory=dict)  # more keys of [page], as TOML writes them
+    programs: list[ProgramOf] = field(default_factory=list)
+    bonds: str = ""  # bonds.toml: the static data of bonds
     trust: ssl.SSLContext | None = None  # of the page's certificate, if it has one
     process: "subprocess.Popen[bytes] | None" = None
     port: Port = field(default_factory=Port)
@@ -97,6 +109,7 @@ class Desk:
             TraderOf("tess", self.firm.trader, acts),
             TraderOf("tom", "T4", acts, small),
             TraderOf("lou", "T4", "look"),
+            TraderOf("ada", "T4", "admin"),
         ]
 
     @property
@@ -126,6 +139,11 @@ class Desk:
             name,
             name,
         )
+        if self.bonds:
+            (self.folder / ("%s.bonds.toml" % name)).write_text(self.bonds)
+            text += 'bonds = "%s.bonds.toml"\n' % name
+        if "DESK_PAGES" in os.environ:
+            text += "pages = %s\n" % json.dumps(os.environ["DESK_PAGES"])
         text += (
             '[fix]\naddresses = ["127.0.0.1:%d"]\nusername = "%s"\npassword_file = "%s.password"\n'
             % (self.venue_port, name, name)
@@ -143,7 +161,18 @@ class Desk:
                 self.hashed,
             )
             text += "".join("%s = %d\n" % item for item in trader.limits.items())
+        text += "".join(map(self.program_text, self.programs))
         (self.folder / ("%s.toml" % name)).write_text(text)
+
+    def program_text(self, program: ProgramOf) -> str:
+        file = self.folder / ("%s.%s.token" % (self.firm.name, program.name))
+        file.write_text(program.token + "\n")
+        file.chmod(0o600)
+        return '[[program]]\nname = "%s"\nlogin = "%s"\ntoken_file = "%s"\n' % (
+            program.name,
+            program.login,
+            file.name,
+        )
 
     def start(self) -> None:
         with self.told.open("ab") as told:

@@ -59,6 +59,36 @@ def test_hosts_and_paths(house: House) -> None:
     assert ask(port, "PUT", "/", own(house.investor)).status == 404
 
 
+def test_a_second_host(house: House) -> None:
+    """One that is the desk's makes another beside it no better, whichever comes first."""
+    port = house.investor.port.number
+    good, bad = b"Host: 127.0.0.1:%d\r\n" % port, b"Host: evil.example\r\n"
+    for hosts in (good + bad, bad + good, good + good):
+        with socket.create_connection(("127.0.0.1", port), timeout=LONG) as link:
+            link.sendall(b"GET / HTTP/1.1\r\n" + hosts + b"\r\n")
+            status = link.recv(64).split(b" ")[1]
+        assert status in (b"400", b"403"), (hosts, status)
+
+
+def test_logins_are_events(house: House) -> None:
+    """Who came, who was refused and who left; a name that nobody has is not told, it may be a password."""
+    desk = house.investor
+    ticket = log_in(desk)
+    for login in ("tess", "a secret in the wrong field"):
+        body = json.dumps({"login": login, "password": "wrong"}).encode()
+        assert ask(desk.port.number, "POST", "/login", own(desk), body).status == 403
+    assert log_out(desk, ticket).status == 200
+    told = desk.last_words()
+    for event in (
+        "Login: tess from 127.0.0.1",
+        "Login refused: tess from 127.0.0.1: Wrong login or password.",
+        "Login refused: a login that nobody has from 127.0.0.1: Wrong login or password.",
+        "Logout: tess from 127.0.0.1",
+    ):
+        assert event in told, told
+    assert "secret" not in told
+
+
 def test_another_origin_posts_nothing(house: House) -> None:
     """Neither a page of another host or port, nor a form, nor a request without an Origin."""
     desk = house.investor

@@ -90,7 +90,7 @@ def test_a_key_that_is_held_down_and_a_double_click_hit_nothing(house: House) ->
 
 
 def test_a_quote_that_changes_under_a_press_is_not_hit(house: House) -> None:
-    """Where the chosen quote is replaced, the choice is over, and the trader is told."""
+    """Where the chosen quote is replaced by a worse one, the choice is over, and the trader is told."""
     investor, dealer = house.browser(house.investor), house.view(house.dealer)
     investor.ask("alder", "buy", "1m", dealers=("DLR1",))
     request = dealer.wait_shown(1)
@@ -100,16 +100,27 @@ def test_a_quote_that_changes_under_a_press_is_not_hit(house: House) -> None:
 
     def changed() -> bool:
         nonlocal price
-        price -= POINT
+        price += POINT
         investor.arm("DLR1")
         dealer.quote(request, price)
         investor.card_says(str(price // POINT))
-        return (
-            "The quote that you chose is gone." in investor.card_text()
-        )  # or the press was forgotten before
+        words = "DLR1 went from %d to %d, which is worse" % (price // POINT - 1, price // POINT)
+        return words in investor.card_text()  # or the press was forgotten before
 
     investor.until("the choice is over", changed)
     assert "Once more" not in investor.card_text()
+
+
+def test_what_cannot_be_hit_is_not_counted_as_quoted(house: House) -> None:
+    """Of a quote whose validity is over, and of one that was withdrawn, the card says so."""
+    page, view = house.browser(house.investor), house.view(house.investor)
+    first, second = house.view(house.dealer), house.view(house.other)
+    view.ask_for(["DLR1", "DLR2"])
+    first.quote(first.wait_shown(1), 99 * POINT, seconds=10)
+    second.quote(second.wait_shown(1), 100 * POINT)
+    page.card_says("100")
+    assert second.act(do="withdraw", request="R1") == ""
+    page.card_says("0 of 2 quoted, 1 over, 1 withdrew")
 
 
 def test_each_way_that_a_request_ends(house: House) -> None:
@@ -173,9 +184,19 @@ def test_the_dealers_entry(house: House) -> None:
     dealer.press(Keys.ESCAPE)
     dealer.until("it is empty", lambda: dealer.in_card("input.entry").get_attribute("value") == "")
     dealer.quote("97")
-    dealer.until_said("2.5 points from your last, 99.5: Enter again if it is meant.")
-    dealer.card_says("Live 99.5")
-    dealer.until("the second Enter confirms", lambda: confirmed(dealer, "Live 97 (97-00)"))
+    dealer.until_said("2.5 points from your last, 99.5: type OFFER to send it")
+    dealer.press(Keys.ENTER, "bid", Keys.ENTER)
+    dealer.until("the word is chosen, to be typed again", lambda: typed_word(dealer) == "bid")
+    dealer.card_says(
+        "Live 99.5", "That was bid. 2.5 points from your last, 99.5: type OFFER to send it"
+    )
+    dealer.press("offer", Keys.ENTER)
+    dealer.card_says("Live 97 (97-00)")
+    dealer.quote("94")
+    dealer.until_said("3 points from your last, 97: type OFFER")
+    dealer.press(Keys.ESCAPE)
+    dealer.until("the keys are in the price", lambda: dealer.focused().startswith("Offer for"))
+    dealer.press(Keys.ESCAPE)
     dealer.script(
         "const list = arguments[0]; list.value = '30'; list.dispatchEvent(new Event('change'))",
         dealer.in_card("select.seconds"),
@@ -192,11 +213,52 @@ def test_the_dealers_entry(house: House) -> None:
     dealer.until_says("#blotter", "stale at the end")
 
 
-def confirmed(page: Browser, words: str) -> bool:
-    """Presses Enter again, until the card says so."""
-    if words not in page.card_text():
-        page.press(Keys.ENTER)
-    return words in page.card_text()
+def test_a_price_that_was_taken_back_is_no_yardstick(house: House) -> None:
+    """The right price behind a slip asks for no typed word, and says what was withdrawn; a second Enter that comes too soon is
+    told so."""
+    dealer, investor = house.browser(house.dealer), house.view(house.investor)
+    investor.ask_for(["DLR1"])
+    dealer.quote("97.5")
+    dealer.card_says("Live 97.5")
+    dealer.in_card("button.withdraw").send_keys(Keys.ENTER)
+    dealer.card_says("No live quote")
+    entry = dealer.in_card("input.entry")
+    entry.send_keys("99.5")
+    dealer.script(
+        """for (let count = 0; count < 2; ++count)
+            arguments[0].dispatchEvent(new KeyboardEvent('keydown', {key: 'Enter', bubbles: true, cancelable: true}));""",
+        entry,
+    )
+    dealer.card_says(
+        "That was too soon to be an answer. Your first price: OFFER 2,000,000", "97.5 was withdrawn"
+    )
+    dealer.confirm_first()
+    dealer.card_says("Live 99.5")
+    dealer.quote("97.5")
+    dealer.card_says("2 points from your last, 99.5: type OFFER to send it")
+
+
+def test_an_exposure_that_has_no_room_is_told_at_once(house: House) -> None:
+    """Nobody is asked to confirm what can't be sent."""
+    dealer, investor = house.browser(house.other), house.view(house.investor)
+    for count in range(3):
+        investor.ask_for(["DLR2"], quantity=4_000_000)
+        dealer.until("it is shown", lambda count=count: len(dealer.cards()) == count + 1)  # type: ignore[misc]
+    for number in (0, 1):
+        dealer.quote("99.5", number)
+        dealer.card_says("Live 99.5", number=number)
+    entry = dealer.in_card("input.entry", 2)
+    entry.send_keys("94.5", Keys.ENTER)
+    dealer.card_says(
+        "The exposure would be 12,000,000 of 10,000,000: withdraw another quote first.", number=2
+    )
+    assert "type OFFER" not in dealer.card_text(2)
+
+
+def typed_word(page: Browser) -> object:
+    return page.script(
+        "const {value, selectionStart, selectionEnd} = document.activeElement; return value.slice(selectionStart, selectionEnd);"
+    )
 
 
 def test_presses_that_were_meant_for_what_stood_there_before(house: House) -> None:
@@ -215,7 +277,7 @@ def test_presses_that_were_meant_for_what_stood_there_before(house: House) -> No
         page.until("one card is left", lambda page=page: len(page.all("article.card")) == 1)  # type: ignore[misc]
     dealer.quote("19.5")
     dealer.until_said(
-        "Your first price on this bond is 80.5 points from 100: Enter again if it is meant."
+        "Your first price on this bond is 80.5 points from 100: type OFFER to send it"
     )
     dealer.card_says("No live quote")
     dealer.script(
@@ -275,7 +337,7 @@ def test_the_ticket(house: House) -> None:
     investor.press(Keys.TAB, "s")
     assert investor.one("#sell").is_selected()
     for quantity, says in (
-        ("x", "A quantity is more than 0"),
+        ("x", "x is no quantity: write 2,000,000, 2m or 500k."),
         ("0", "A quantity is more than 0"),
         ("0,5m", "0,5m has a comma that parts no thousands: write 0.5m or 500,000."),
         ("9m", "9,000,000 is above the limit of 5,000,000 a request."),
@@ -361,6 +423,6 @@ def test_blotter_filter_and_export(house: House) -> None:
     investor.one("#ends").send_keys("open")
     investor.until_says("#blotter", "0 of 3 requests, 0 done")
     made = investor.script(
-        """const {csv} = await import('/csv.js'); return csv([['=1+1', 'a,"b', -5]])"""
+        """const {csv} = await import('/csv.js'); return csv([['=1+1', 'a,"b', -5, 'a; =1', 'b\\t@x', 'a-b']])"""
     )
-    assert made == '\'=1+1,"a,""b",-5\r\n'
+    assert made == '\'=1+1,"a,""b",-5,"a; \'=1","b\t\'@x",a-b\r\n'

@@ -1,5 +1,7 @@
 """What stands on a card, and stays where it is: last prices, the position, arrows, Withdraw."""
 
+from pathlib import Path
+
 from selenium.webdriver.common.keys import Keys
 
 from tests.desk.browser import Browser
@@ -10,7 +12,7 @@ ARROWS = "\u25b2\u25bc"
 PRICE = ".quotes td.price"
 
 PLACE = """const card = [...document.querySelectorAll('article.card')].find(one => one.textContent.includes('Cedar'));
-const {left, top} = card.querySelector('button.send').getBoundingClientRect(); return [left, top + scrollY];"""
+const {left, top} = card.querySelector('button.send').getBoundingClientRect(); return [left, top + document.getElementById('body').scrollTop];"""
 
 # Presses a button as soon as the price of the other dealer is another: in the same moment as the page.
 # So it is also where the page is not let to work for half a second in between: its clock stands still.
@@ -34,6 +36,60 @@ def test_a_card_keeps_its_place(house: House) -> None:
     dealer.press_in_card("button.small", 0)
     dealer.until("it is closed", lambda: len(dealer.all("article.card")) == 1)
     assert dealer.script(PLACE) == before
+
+
+def test_the_ticket_of_a_trade(house: House) -> None:
+    """Both sides print it alone and save it, from the card and from the blotter, by the mouse and by keys."""
+    view, quotes = house.view(house.investor), house.view(house.dealer)
+    investor, dealer = house.browser(house.investor), house.browser(house.dealer)
+    asked = view.ask_for(["DLR1"], "sell", 1_500_000, bond="BONDC0000003")
+    quotes.quote(quotes.wait_shown(1), 99 * POINT + 16)
+    view.until("a quote", lambda: view.requests[asked]["quotes"])
+    assert view.hit(asked, "DLR1") == ""
+    view.until("a trade", lambda: view.requests[asked]["trade"])
+    terms = (
+        ("Trade", view.requests[asked]["trade"]),
+        ("Buyer", "DLR1"),
+        ("Seller", "INV1"),
+        ("Bond", "Cedar 4.75 02/34"),
+        ("Identifier", "BONDC0000003"),
+        ("Nominal", "1,500,000"),
+        ("Price", "99.0625 (99-02)"),
+    )
+    for page, trader in ((investor, "Trader of INV1"), (dealer, "Trader of DLR1")):
+        page.script("window.printed = 0; window.print = () => { window.printed += 1; }")
+        page.card_says("Ticket")
+        page.one("article.card button.paper").send_keys(Keys.ENTER)
+        page.until("one more Enter prints nothing", lambda page=page: page.focused() == "Close")  # type: ignore[misc]
+        page.press(Keys.SHIFT + Keys.TAB + Keys.TAB + Keys.NULL, Keys.ENTER)
+        assert page.script("return window.printed") == 1 and alone_in_print(page)
+        shown = dict(zip(page.text("#paper dt").split("\n"), page.text("#paper dd").split("\n")))
+        assert {name: shown[name] for name, _ in terms} == dict(terms) and trader in shown
+        page.press(Keys.ESCAPE)
+        page.click(".blotter button", "Ticket")
+        page.click("#paper button", "Save")
+        page.until("it is saved", lambda page=page: saved(page))  # type: ignore[misc]
+        lines = saved(page)[0].read_text().split("\n")
+        assert {name: line_of(lines, name) for name, _ in terms} == dict(terms)
+        assert page.complaints() == []
+
+
+def alone_in_print(page: Browser) -> bool:
+    """Whether paper has the ticket, and nothing else of the page."""
+    page.driver.execute_cdp_cmd("Emulation.setEmulatedMedia", {"media": "print"})
+    seen = page.text("body > :not(#paper)").strip()
+    page.driver.execute_cdp_cmd("Emulation.setEmulatedMedia", {"media": ""})
+    return seen == ""
+
+
+def saved(page: Browser) -> list[Path]:
+    """The tickets that are written whole: the browser makes an empty file first."""
+    files = sorted((page.profile / "downloads").glob("ticket-*.txt"))
+    return [file for file in files if file.stat().st_size]
+
+
+def line_of(lines: list[str], name: str) -> str:
+    return next(line.removeprefix(name).strip() for line in lines if line.split("  ")[0] == name)
 
 
 def test_rows_keep_their_order_under_the_keys(house: House) -> None:

@@ -5,6 +5,8 @@ from collections.abc import Iterator
 from dataclasses import dataclass
 from itertools import count, islice
 
+from selenium.webdriver.common.keys import Keys
+
 from tests.desk.browser import Browser
 from tests.desk.conftest import House
 from tests.desk.view import View
@@ -35,10 +37,18 @@ BUDGETS = {
 }
 QUOTES = {Form.LONG: 200, Form.SHORT: 40}
 
-# When each price was on the page first: with an arrow in front of it, where its dealer had another one.
-NOTE_PRICES = """window.noted = {}; new MutationObserver(all => { const at = Date.now();
-    for (const one of all) if (one.target.classList?.contains('price')) window.noted[one.target.textContent.trim().split(' ').at(-1)] ??= at; })
-    .observe(document.getElementById('cards'), {childList: true, subtree: true});"""
+# When each price was painted first: with an arrow in front of it, where its dealer had another one. What is posted in a
+# frame is heard when that frame has been painted.
+NOTE_PRICES = """window.noted = {};
+const painted = note => requestAnimationFrame(() => {
+  const {port1, port2} = new MessageChannel();
+  port1.onmessage = () => note(Date.now());
+  port2.postMessage(0);
+});
+new MutationObserver(all => {
+  const prices = all.filter(one => one.target.classList?.contains('price')).map(one => one.target.textContent.trim().split(' ').at(-1));
+  if (prices.length) painted(at => { for (const price of prices) window.noted[price] ??= at; });
+}).observe(document.getElementById('cards'), {childList: true, subtree: true});"""
 WHEN_NOTED = "return window.noted[arguments[0]] ?? null"
 
 
@@ -73,24 +83,36 @@ def test_200_requests_at_once(house: House) -> None:
 
 
 def test_how_soon_a_quote_is_on_the_page(house: House, form: Form) -> None:
-    """From the dealer's press, which is before the gateway has it, to the investor's page, with 50 requests open."""
-    investor, dealer = house.view(house.investor), house.view(house.dealer)
+    """From a dealer's press, which is before the gateway has it, to what the investor's page has painted: its 50 cards and
+    its table, with the quotes of two dealers."""
+    investor, dealers = house.view(house.investor), [
+        house.view(house.dealer),
+        house.view(house.other),
+    ]
     page = house.browser(house.investor)
     for _ in range(OPEN):
-        investor.ask_for(["DLR1"], quantity=1_000)
-    dealer.wait_shown(OPEN)
+        investor.ask_for(["DLR1", "DLR2"], quantity=1_000)
+    for dealer in dealers:
+        dealer.wait_shown(OPEN)
     page.until("all are on the page", lambda: len(page.all("article.card")) == OPEN)
+    page.press(Keys.F8)
+    page.until("all are in the table", lambda: len(page.all(".open-table tbody tr")) == OPEN)
     page.script(NOTE_PRICES)
     numbers = count()
     for each in BUDGETS[form]:
         each.budget.hold(
-            lambda: slowest(page_times(page, dealer, numbers, QUOTES[form]), each.part)
+            lambda: slowest(page_times(page, dealers, numbers, QUOTES[form]), each.part)
         )
 
 
-def page_times(page: Browser, dealer: View, numbers: Iterator[int], quotes: int) -> list[float]:
+def page_times(
+    page: Browser, dealers: list[View], numbers: Iterator[int], quotes: int
+) -> list[float]:
     """Of so many quotes, each of a price that none had before: the seconds from the press to the page."""
-    return [page_time(page, dealer, number) for number in islice(numbers, quotes)]
+    return [
+        page_time(page, dealers[number % len(dealers)], number)
+        for number in islice(numbers, quotes)
+    ]
 
 
 def page_time(page: Browser, dealer: View, number: int) -> float:

@@ -7,6 +7,9 @@ from selenium.webdriver.common.keys import Keys
 
 from tests.desk.browser import Browser
 from tests.desk.conftest import House
+from tests.desk.test_bonds import with_data
+from tests.desk.test_days import with_day
+from tests.desk.test_door import enter, set_reference, with_program
 
 POINT = 256
 WIDTHS, SCHEMES = (400, 1280, 2560), ("light", "dark")
@@ -45,6 +48,35 @@ for (const node of document.querySelectorAll('[tabindex]')) if (node.tabIndex > 
 return bad;
 """
 
+# Numbers that something else lies over, that leave their place, or that are broken into two lines. Before what lies over the
+# whole page on purpose, a dialog, only its own are looked at.
+COVERED = """
+const bad = [], dialog = document.querySelector('dialog[open]'), room = document.getElementById('body').getBoundingClientRect();
+const told = (node, what) => bad.push(`${node.closest('[class]').className} '${node.textContent.slice(0, 40)}' ${what}`);
+const walk = document.createTreeWalker(dialog ?? document.body, NodeFilter.SHOW_TEXT), range = document.createRange();
+while (walk.nextNode()) {
+  const text = walk.currentNode, node = text.parentElement;
+  if (!/\\d/.test(text.data) || !node.checkVisibility() || node.closest('.unseen, option, textarea, script')) continue;
+  if (getComputedStyle(node).textOverflow === 'ellipsis') continue; // the name of a bond
+  for (const {index, 0: {length}} of text.data.matchAll(/\\d{1,3}(?:,\\d{3})+|\\d+\\.\\d+|(?<![\\d-])\\d{1,3}-\\d\\d[\\d+]?(?![\\d-])/g)) {
+    range.setStart(text, index);
+    range.setEnd(text, index + length);
+    const rects = [...range.getClientRects()].filter(one => one.width > 0);
+    if (rects.length > 1) told(node, 'is broken');
+    for (const {left, right, top, bottom} of rects) {
+      const y = (top + bottom) / 2;
+      if (node.closest('#body') && (y < room.top || y > room.bottom)) continue;
+      for (const x of [left + 1, (left + right) / 2, right - 1]) {
+        const there = document.elementFromPoint(x, y);
+        if (there && !node.contains(there) && !there.contains(node)) told(node, `lies under ${there.outerHTML.slice(0, 60)}`);
+        if (there && there.contains(node) && !there.closest('td, th') !== !node.closest('td, th')) told(node, 'is out of its cell');
+      }
+    }
+  }
+}
+return bad;
+"""
+
 
 def pictures() -> Path | None:
     return Path(os.environ["PICTURES"]) if "PICTURES" in os.environ else None
@@ -60,9 +92,11 @@ def look(page: Browser, name: str) -> None:
                 "return [...document.querySelectorAll('body *')].filter(one => one.checkVisibility() && !one.closest('.unseen') && "
                 "one.getBoundingClientRect().right > innerWidth + 0.5).map(one => one.outerHTML.slice(0, 80))"
             )
-            assert (
-                wide == [] and page.script("return document.documentElement.scrollWidth") <= width
-            ), (where, wide)
+            widest = page.script(
+                "return Math.max(document.documentElement.scrollWidth, document.getElementById('body').scrollWidth)"
+            )
+            assert wide == [] and widest <= width, (where, wide)
+            assert page.script(COVERED) == [], where
             assert page.script(CONTRASTS) == [], where
             assert page.script(LABELS) == [], where
             folder = pictures()
@@ -105,6 +139,7 @@ def test_a_busy_minute(house: House) -> None:
     investor.arm("DLR1", number=0)
     look(investor, "investor")
     look(dealer, "dealer")
+    with_more_open(investor, dealer)
     house.door.kill()
     dealer.until_says("#alarm", "may still stand")
     investor.until_says("#top", "not connected")
@@ -114,6 +149,102 @@ def test_a_busy_minute(house: House) -> None:
     investor.until("the login is asked for", lambda: investor.one("#login").is_displayed())
     look(investor, "login")
     assert investor.complaints() == [] and dealer.complaints() == []
+
+
+def with_more_open(investor: Browser, dealer: Browser) -> None:
+    """The table, and what stands before the page until it is closed."""
+    dealer.press(Keys.F8)
+    dealer.until_says("#table", "Alder")
+    dealer.quote("50", 0)
+    dealer.until_says("article.card", "type OFFER to send it")
+    dealer.click("#alerts-button")
+    look(dealer, "dealer-alerts")
+    dealer.press(Keys.ESCAPE)
+    investor.press("?")
+    look(investor, "investor-help")
+    investor.press(Keys.ESCAPE)
+    investor.press(Keys.F8)
+    investor.click(".blotter button", "Ticket")
+    look(investor, "investor-paper")
+    investor.press(Keys.ESCAPE)
+
+
+# How far each live quote is off the best, where it is seen.
+OFFS = """return [...document.querySelectorAll('[data-state=open] .quotes td.off')].filter(one => one.checkVisibility())
+  .map(one => one.innerText.trim()).filter(Boolean);"""
+WHOLE_NAMES = "return [...document.querySelectorAll('.open-table button.line')].every(one => one.scrollWidth <= one.clientWidth)"
+PASTED = "Alder 4.125 03/29\tbuy\t2m\nCedar\tsell\t900m\nnothing\tbuy\t1m\n"
+
+
+def test_prices_yields_and_a_pasted_list(house: House) -> None:
+    """Beside the table and a list that is checked, live quotes have their prices, yields and distances; then the list's card,
+    and an earlier day."""
+    with_day(house, "20260105")
+    view, first = with_data(house)
+    second = house.view(house.other)
+    page = house.browser(house.investor)
+    for side in ("buy", "sell"):
+        view.ask_for(["DLR1", "DLR2"], side, 1_000_000)
+    for dealer in (first, second):
+        dealer.until("both are shown", lambda dealer=dealer: len(dealer.open_requests()) == 2)  # type: ignore[misc]
+    for at, dealer in enumerate((first, second)):
+        for shown in dealer.open_requests():
+            dealer.quote(shown["id"], 101 * POINT + 129 + at)
+    page.until("all prices are there", lambda: page.script(OFFS).count("best") == 2)
+    look(page, "investor-prices")
+    page.press(Keys.F4)
+    page.until_says("#cards", "101-16")
+    look(page, "investor-32nds")
+    page.press(Keys.F4)
+    page.press(Keys.F8)
+    page.click("#many")
+    page.driver.execute_cdp_cmd("Input.insertText", {"text": PASTED})
+    page.until_says(".ticket", "900,000,000 is above the limit")
+    for width in WIDTHS:
+        page.look(width, "light")
+        assert len(page.script(OFFS)) == 4, (width, page.script(OFFS))
+        assert width < 1280 or page.script(WHOLE_NAMES), "a name is cut off, with room beside it"
+    look(page, "investor-list")
+    view.act(do="ask list", name="Friday", seconds=600, dealers=["DLR1"], lines=LINES)
+    page.until_says("#lists", "Friday", "quoted")
+    page.click("#many")
+    look(page, "investor-listed")
+    page.one("#day").send_keys("2026-01-05")
+    page.until_says("#blotter", "2026-01-05, read-only", "2 requests, 2 done")
+    page.click(".blotter summary")
+    look(page, "investor-days")
+    assert page.complaints() == []
+
+
+LINES = [
+    {"bond": "BONDA0000001", "side": "buy", "quantity": 2_000_000},
+    {"bond": "BONDC0000003", "side": "sell", "quantity": 500_000},
+]
+
+
+def test_programs_and_limits(house: House) -> None:
+    """A dealer's page with programs that act and that are stopped, and the admin's limits with a reference."""
+    with_program(house.dealer)
+    set_reference(house, 99 * POINT + 129)
+    house.view(house.investor).ask_for(["DLR1"])
+    admin, page = house.browser(house.dealer, "ada"), house.browser(house.dealer)
+    program = enter(house.dealer)
+    program.quote(program.wait_shown(1), 99 * POINT + 129)
+    page.card_says("by the program P1")
+    look(page, "dealer-programs")
+    page.press(Keys.F9)
+    page.until_says("#programs", "stopped by tess")
+    look(page, "dealer-programs-stopped")
+    height = "return document.getElementById('top').offsetHeight"
+    low = page.script(height)
+    assert admin.script(height) == low, "the head of an admin has more lines"
+    admin.click("#limits-button")
+    admin.until_says("#limits", "99.50390625", "tess (T1)")
+    look(admin, "dealer-limits")
+    house.door.kill()
+    page.until_says("#top", "not connected")
+    assert page.script(height) == low, "the head of a page that is off has more lines"
+    assert page.complaints() == [] and admin.complaints() == []
 
 
 def test_without_colours_and_by_keys_alone(house: House) -> None:

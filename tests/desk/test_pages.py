@@ -1,32 +1,88 @@
-"""How many pages a desk has open, and for how long one that answers nothing."""
+"""How many pages a login has open, for how long one that answers nothing, and one that nobody uses."""
 
 import json
-import socket
 
 from tests.desk.conftest import House
 from tests.desk.view import View, log_in, upgrade
 from tests.gateway.wait import LONG, until
 from tests.harness.budget import Budget, seconds_of
 
-PAGES = 64  # at one time (desk/README.md)
+OF_LOGIN = 8  # pages of one login at one time (desk/README.md)
 SILENT = Budget("a page that answers nothing is disconnected", most=20, least=15)
+LOCKED = Budget("a login that nobody uses is locked", most=62, least=59)
 
 
-def test_one_page_more_than_may_be(house: House) -> None:
-    """It is refused, the others go on, and it is let in where one of them has gone."""
+def works(page: View) -> bool:
+    return page.act(do="pass", request="none") == "The request has ended."
+
+
+def test_one_page_more_than_a_login_may_have(house: House) -> None:
+    """The one that was used least lately makes room, and is told why; whoever else has pages goes on."""
+    desk = house.investor
+    colleague, ticket = house.view(desk, "tom"), log_in(desk)
+    pages = [View(desk, ticket=ticket) for _ in range(OF_LOGIN)]
+    assert works(pages[0])
+    looker = log_in(desk, "lou")
+    lookers = [View(desk, "lou", looker) for _ in range(2 * OF_LOGIN)]
+    another = View(desk, ticket=ticket)
+    assert pages[1].until_closed() == 1008
+    assert "a login may have %d pages open" % OF_LOGIN in pages[1].why
+    assert all(works(page) for page in (colleague, another, pages[0], *pages[2:]))
+    assert [page.until_closed() for page in lookers[:OF_LOGIN]] == [1008] * OF_LOGIN
+    assert all(page.closed is None for page in lookers[OF_LOGIN:])
+
+
+def test_a_cookie_without_its_token_makes_no_room(house: House) -> None:
+    """Another server of the same machine may be sent the cookie, and never the token: no page of the login goes for it."""
     desk = house.investor
     port, ticket = desk.port.number, log_in(desk)
+    pages = [View(desk, ticket=ticket) for _ in range(OF_LOGIN)]
+    links = []
+    for _ in range(2 * OF_LOGIN):
+        link, status = upgrade(port, "127.0.0.1:%d" % port, desk.origin, ticket.cookie)
+        assert status == 101
+        links.append(link)
+    assert all(works(page) for page in pages)
+    assert links[0].recv(2)[:1] == b"\x88", "the first of them made room for the others"
+    View(desk, ticket=ticket)
+    assert pages[0].until_closed() == 1008
 
-    def status() -> int:
-        return upgrade(port, "127.0.0.1:%d" % port, desk.origin, ticket.cookie)[1]
 
-    pages = [View(desk, ticket=ticket) for _ in range(PAGES)]
-    assert status() == 403
-    assert [page.act(do="pass", request="none") for page in pages] == [
-        "The request has ended."
-    ] * PAGES
-    pages[0].link.shutdown(socket.SHUT_RDWR)
-    until("one more is let in", LONG, lambda: status() == 101)
+def test_a_page_that_made_room_says_so(house: House) -> None:
+    """It does not come back by itself, and keeps its login: a reload has it again."""
+    page = house.browser(house.investor)
+    views = [house.view(house.investor) for _ in range(OF_LOGIN)]
+    page.until_says("#alarm", "This page was closed for a new one: a login may have 8 pages open")
+    page.until_says("#top", "This page is closed")
+    assert all(view.closed is None for view in views)
+    page.driver.refresh()
+    page.until_says("#top", "Venue connected")
+
+
+def test_a_login_that_nobody_uses_is_locked(house: House) -> None:
+    """After the time that the firm sets, its cookie is of no use; one whose trader is there goes on."""
+    desk = house.investor
+    desk.stop()
+    desk.page["lock_after_minutes"] = "1"
+    desk.write()
+    desk.start()
+    tom, tess = house.view(desk, "tom"), log_in(desk)
+    page = View(desk, ticket=tess)
+
+    def ended() -> None:
+        until("it is locked", LOCKED.limit, lambda: is_here(tom) and page.closed is not None)
+
+    LOCKED.hold(lambda: seconds_of(ended))
+    assert page.closed == 1008 and tom.closed is None
+    host = "127.0.0.1:%d" % desk.port.number
+    assert upgrade(desk.port.number, host, desk.origin, tess.cookie)[1] == 403
+    assert "Locked: tess, unused for 1 minute" in desk.last_words()
+
+
+def is_here(view: View) -> bool:
+    """As a page that has a key or a press."""
+    view.send({"here": True})
+    return True
 
 
 def test_a_page_that_answers_nothing(house: House) -> None:

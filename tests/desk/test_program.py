@@ -9,7 +9,7 @@ from tests.desk.desks import ROOT
 
 
 def test_the_desks_own_tests(desk_program: Path) -> None:
-    """Journal, fold, prices, pages and logins, case by case (desk/tests)."""
+    """Journal, fold, prices, pages and logins, case by case (desk/unit)."""
     tests = desk_program.parent / "desk_test"
     if not tests.exists():
         pytest.skip("desk_test is not built beside the desk")

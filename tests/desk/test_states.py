@@ -11,11 +11,13 @@ from selenium.webdriver.common.keys import Keys
 from tests.desk.conftest import House, hash_of
 from tests.desk.desks import PASSWORD
 from tests.desk.view import Json, View, ask, log_in, own, upgrade
+from tests.gateway.door import bring_to_a_stop
 from tests.gateway.wait import LONG, until
 
 POINT = 256
 ANOTHER = "another password"
 LASTS = 12 * 3600  # seconds that a login lasts
+UPDATE = 2048  # bytes of a message that tells one quote
 DELIVERED_WITHIN = 5  # seconds: what was not delivered by then never is
 
 
@@ -47,6 +49,19 @@ def test_two_windows_and_a_restart_show_the_same(house: House) -> None:
     assert again.requests == dealer.requests
     again.until("the exposure is the same", lambda: again.session["exposure"] == 2_000_000)
     assert again.live(shown) == dealer.live(shown)
+
+
+def test_an_update_has_what_changed(house: House) -> None:
+    """After sixty quotes an update of their request is as long as after the first, and leads to the same."""
+    investor, dealer, asked, shown = one_open(house)
+    for count in range(60):
+        dealer.quote(shown, 99 * POINT + count)
+    last = 99 * POINT + 59
+    investor.until("the last", lambda: investor.requests[asked]["quotes"][-1]["price"] == last)
+    for view, name in ((investor, asked), (dealer, shown)):
+        assert view.sizes["changes"] < UPDATE < len(json.dumps(view.requests[name]))
+        again = house.view(view.desk)
+        again.until("the same", lambda: again.requests == view.requests)  # noqa: B023
 
 
 def test_a_login_outlives_a_restart(house: House) -> None:
@@ -154,7 +169,7 @@ def test_what_could_not_be_delivered_never_is(house: House) -> None:
     investor.until("the quote", lambda: investor.requests[asked]["quotes"])
     gateway = house.door.process
     assert gateway is not None
-    os.kill(gateway.pid, signal.SIGSTOP)
+    bring_to_a_stop(gateway.pid)
     assert investor.hit(asked, "DLR1") == ""
     live = dealer.live(shown)
     assert live is not None
@@ -225,6 +240,57 @@ def test_a_desk_that_goes_and_comes_back_under_its_page(house: House) -> None:
     page.card_says("99", "Buy")
     page.driver.refresh()
     page.card_says("99", "Buy")
+
+
+def test_the_keys_stay_where_the_work_is(house: House) -> None:
+    """Behind a withdrawal and a decline, and when the desk comes back: on the card, in the table, or in the ticket, which says
+    no more that nothing was sent."""
+    investor, _, _, _ = one_open(house)
+    dealer, page = house.browser(house.dealer), house.browser(house.investor)
+    dealer.quote("99.5")
+    dealer.card_says("Live 99.5")
+    dealer.in_card("button.withdraw").send_keys(Keys.ENTER)
+    dealer.card_says("No live quote")
+    dealer.until("the keys are on the card", lambda: dealer.script(ON_CARD))
+    dealer.press_twice("button.decline")
+    dealer.card_says("Declined")
+    dealer.until("the keys are on the card", lambda: dealer.script(ON_CARD))
+    investor.ask_for(["DLR1"], bond="BONDC0000003")
+    dealer.card_says("Cedar")
+    dealer.press(Keys.F2)
+    page.press(Keys.F2, "cedar", Keys.ENTER)
+    for desk in (house.dealer, house.investor):
+        desk.kill()
+    for one in (dealer, page):
+        one.until_says("#top", "No connection to the desk")
+    page.ask("cedar", "buy", "1m")
+    page.until_says(".ticket", "No connection to the desk: nothing was sent.")
+    for desk in (house.dealer, house.investor):
+        desk.start()
+    for one in (dealer, page):
+        one.until_says("#top", "Venue connected")
+    dealer.until(
+        "the keys are in the price",
+        lambda: "Cedar" in dealer.focused() and dealer.focused().startswith("Offer for"),
+    )
+    page.until_silent(".ticket", "nothing was sent")
+    assert page.script("return document.getElementById('ticket').contains(document.activeElement)")
+    dealer.press(Keys.F8)
+    house.dealer.stop()
+    dealer.until_says("#top", "No connection to the desk")
+    house.dealer.start()
+    dealer.until_says("#top", "Venue connected")
+    dealer.until(
+        "the keys are in the table",
+        lambda: dealer.script(
+            "return document.getElementById('table').contains(document.activeElement)"
+        ),
+    )
+    dealer.click("#logout")
+    dealer.until_says(".login", "Desk of DLR1")
+
+
+ON_CARD = "return document.activeElement.closest('article.card') !== null && document.activeElement.checkVisibility()"
 
 
 def test_a_page_has_the_dealers_of_a_desk_that_was_started_with_more(house: House) -> None:

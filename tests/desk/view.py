@@ -78,7 +78,12 @@ def log_out(desk: Desk, ticket: Ticket) -> Answer:
 
 
 def upgrade(
-    port: int, host: str, origin: str | None, cookie: str = "", path: str = "/socket"
+    port: int,
+    host: str,
+    origin: str | None,
+    cookie: str = "",
+    path: str = "/socket",
+    authorization: str = "",
 ) -> tuple[socket.socket, int]:
     """Asks for a WebSocket: the connection, and the status of the answer."""
     link = socket.create_connection(("127.0.0.1", port), timeout=LONG)
@@ -92,6 +97,7 @@ def upgrade(
     ]
     lines += ["Origin: %s" % origin] if origin is not None else []
     lines += ["Cookie: %s" % cookie] if cookie else []
+    lines += ["Authorization: %s" % authorization] if authorization else []
     link.sendall(("\r\n".join(lines) + "\r\n\r\n").encode())
     head = b""
     while b"\r\n\r\n" not in head:
@@ -100,6 +106,10 @@ def upgrade(
             break
         head += piece
     return link, int(head.split(b" ")[1]) if head else 0
+
+
+class Refused(Exception):
+    """By the door of programs, with this status."""
 
 
 @dataclass
@@ -113,12 +123,22 @@ class View:
     said: dict[int, str] = field(default_factory=dict)
     is_whole: bool = False  # it has all requests of the day
     closed: int | None = None
+    why: str = ""  # as the desk told it before it closed the page
+    sizes: dict[str, int] = field(default_factory=dict)  # bytes of the last message of each kind
+    answers: dict[str, list[Json]] = field(default_factory=dict)  # messages that answer, by kind
+    lists: dict[str, Json] = field(default_factory=dict)  # of an investor
+    told: dict[str, Json] = field(default_factory=dict)  # the last message of each other kind
+    heard: list[Json] = field(default_factory=list)  # all messages, where `keeps`
+    keeps: bool = False
+    token: str = ""  # of a program, which has no ticket
     broken: str = ""  # why, where it is closed for NO_FRAME
     sending: threading.Lock = field(default_factory=threading.Lock)
     _count: int = 0
     _parts: bytes = b""
 
     def __post_init__(self) -> None:
+        if self.token:
+            return self.enter()
         self.ticket = self.ticket or log_in(self.desk, self.login)
         self.link, status = upgrade(
             self.desk.port.number,
@@ -129,6 +149,21 @@ class View:
         assert status == 101, status
         self.listen()
         self.send({"token": self.ticket.token})
+        self.until("the day", lambda: self.is_whole)
+
+    def enter(self) -> None:
+        """By the door of programs."""
+        host = "127.0.0.1:%d" % self.desk.port.number
+        self.link, status = upgrade(
+            self.desk.port.number,
+            host,
+            self.desk.origin,
+            path="/program",
+            authorization="Bearer " + self.token,
+        )
+        if status != 101:
+            raise Refused(status)
+        self.listen()
         self.until("the day", lambda: self.is_whole)
 
     def listen(self) -> None:
@@ -144,7 +179,10 @@ class View:
             self.broken, self.closed = repr(fault), NO_FRAME
 
     def send(self, message: Json) -> None:
-        data, mask = json.dumps(message).encode(), os.urandom(4)
+        self.send_text(json.dumps(message))
+
+    def send_text(self, text: str) -> None:
+        data, mask = text.encode(errors="replace"), os.urandom(4)
         size = (
             bytes([0x80 | len(data)])
             if len(data) < 126
@@ -186,7 +224,9 @@ class View:
                 self._parts += data
                 if first[0] & 0x80:
                     data, self._parts = self._parts, b""
-                    self.take(json.loads(data))
+                    message = json.loads(data)
+                    self.sizes[message["t"]] = len(data)
+                    self.take(message)
         except TimeoutError:
             return
         except OSError:
@@ -194,20 +234,41 @@ class View:
 
     def take(self, message: Json) -> None:
         kind = message["t"]
+        self.heard += [message] if self.keeps else []
         if kind == "hello":
-            self.hello, self.session, self.requests, self.is_whole = (
-                message,
-                message["session"],
-                {},
-                False,
-            )
+            self.hello, self.session = message, message["session"]
+            self.requests, self.lists, self.is_whole = {}, {}, False
         elif kind == "requests":
             self.requests = {**self.requests, **{one["id"]: one for one in message["requests"]}}
             self.is_whole = self.is_whole or message.get("last", False)
+        elif kind == "changes":
+            for change in message["changes"]:
+                self.change(**change)
         elif kind == "session":
             self.session = message
+        elif kind == "lists":
+            self.lists = {**self.lists, **{one["id"]: one for one in message["lists"]}}
+        elif kind == "closed":
+            self.why = message["why"]
         elif kind == "said":
             self.said[message["number"]] = message["why"]
+        elif "number" in message:
+            self.answers.setdefault(kind, []).append(message)
+            if message.get("last", True):
+                self.said[message["number"]] = ""
+        else:
+            self.told[kind] = message
+
+    def change(self, id: str, set: Json, lists: dict[str, Json]) -> None:
+        """A request is another object then: whoever looks at it sees it before or behind the change."""
+        request = {**self.requests[id], **set}
+        for key, part in lists.items():
+            items = request[key][: part["size"]]
+            items += [None] * (part["size"] - len(items))
+            for at, item in part["items"]:
+                items[at] = item
+            request[key] = items
+        self.requests = {**self.requests, id: request}
 
     def until(self, what: str, holds: Callable[[], object], seconds: float = LONG) -> None:
         end = time.monotonic() + seconds

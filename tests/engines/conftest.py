@@ -9,11 +9,13 @@ from pathlib import Path
 import pytest
 
 from tests.harness import build
+from tests.harness.build import made_once
 from tests.harness.options import ROOT
 
 HERE = Path(__file__).resolve().parent
 EXAMPLES = ROOT / "examples"
 VENUE = EXAMPLES / "three-dealers.toml"
+PROGRAM, FRAMES = "program", "frames"
 DIVIDER = re.compile(rb"(?m)^%%$")
 ENGINES = "g++ -std=c++14 -O0 -Wall -Wextra -Wno-deprecated -o {out} {sources} -lquickfix -lpthread"
 
@@ -56,23 +58,27 @@ class Printed:
 
 
 def as_one_file(words: tuple[str, ...], folder: Path) -> Path:
-    program = folder / "program"
+    program = folder / PROGRAM
     program.write_text('#!/bin/sh\nexec %s "$@"\n' % shlex.join(words))
     program.chmod(0o755)
     return program
 
 
 @pytest.fixture(scope="session")
-def printed(venue: tuple[str, ...], tmp_path_factory: pytest.TempPathFactory) -> Printed:
-    folder = tmp_path_factory.mktemp("engines")
-    (folder / "frames").mkdir()
-    program, files = as_one_file(venue, folder), []
+def printed(venue: tuple[str, ...], shared: Path) -> Printed:
+    folder = made_once(shared / "engines", lambda fresh: print_all(venue, fresh))
+    frames = [folder / FRAMES / each.name for each in inputs()]
+    return Printed(folder, folder / PROGRAM, inputs(), frames)
+
+
+def print_all(venue: tuple[str, ...], folder: Path) -> None:
+    """The frames that the venue's program prints for each input."""
+    program = as_one_file(venue, folder)
+    (folder / FRAMES).mkdir()
     for each in inputs():
         words = [str(program), each.command, "--frames"]
         done = subprocess.run(words, input=each.text, capture_output=True, check=True, timeout=600)
-        files.append(folder / "frames" / each.name)
-        files[-1].write_bytes(done.stdout)
-    return Printed(folder, program, inputs(), files)
+        (folder / FRAMES / each.name).write_bytes(done.stdout)
 
 
 @pytest.fixture(scope="session")

@@ -33,9 +33,10 @@ def lines_of(printed: Printed) -> list[bytes]:
     ]
 
 
-def test_frames_of_the_rules_of_engagement(printed: Printed) -> None:
-    """Each example frame of docs/CONNECTING.md is one that was sent, or printed, in some day."""
-    shown = set(SHOWN.findall((ROOT / "docs" / "CONNECTING.md").read_bytes()))
+def test_frames_of_the_formats(printed: Printed) -> None:
+    """Each example frame of docs/FORMATS.md is one that was sent, or printed, in some day."""
+    page = (ROOT / "docs" / "FORMATS.md").read_bytes()
+    shown = set(SHOWN.findall(page.split(b"\n### As frames\n")[1]))
     known = {frame for each in printed.inputs for frame in GIVEN.findall(each.text)} | set(
         lines_of(printed)
     )

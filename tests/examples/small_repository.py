@@ -10,12 +10,14 @@ from pathlib import Path
 ROOT = Path(__file__).resolve().parent.parent.parent
 PROGRAM = Path("crates/rfq_venue/out/rfq_venue")
 LIBRARY = Path("crates/fix_sessions_c/out/libfix_sessions_c.a")
+RECOVERY = Path("crates/session_recovery_c/out/libsession_recovery_c.a")
 
-# As in the real crates.txt: fields below all, a library of C calls over the sessions, and a crate of neither.
+# As in the real crates.txt: fields below all, libraries of C calls over the sessions, and a crate of none.
 CRATES = """\
 fields: itoa
 sessions: fields
 fix_sessions_c staticlib: fields sessions # for the gateway
+session_recovery_c staticlib: sessions
 market may_wait=9: fields
 rfq_venue may_wait=1: market
 laws: market sessions
@@ -25,6 +27,7 @@ laws: market sessions
 RT = """#!/bin/sh
 echo "rt $* in ${PWD##*/}" >>"$CALLS"
 case "$1 ${2:-}" in
+'version ') echo 'kit-1 logic 1' ;;
 'help ') echo '  rt ci NAME..   the same for these crates' ;;
 'lib ')
     [ -z "${NO_LIBRARY:-}" ] || { echo 'rt: no memory for a library'; exit 1; }
@@ -61,7 +64,7 @@ def write(path: Path, text: str, mode: int = 0o755) -> None:
 
 
 @dataclass
-class House:
+class SmallRepository:
     top: Path
 
     def __post_init__(self) -> None:
@@ -69,10 +72,11 @@ class House:
         write(self.top / "HANDLES", "Handles allowed: none.\n")
         for name in (line.split()[0].rstrip(":") for line in CRATES.splitlines()):
             write(self.top / "crates" / name / "src" / "lib.rt", "//! %s\n" % name)
-            write(self.top / "crates" / name / "must-fail" / "a.edit", "file: src/lib.rt\n")
-        for name in ("prove_venue.py", "first-run.sh"):
-            (self.top / "examples").mkdir(exist_ok=True)
-            shutil.copy2(ROOT / "examples" / name, self.top / "examples")
+        for name in ("examples/prove_venue.py", "examples/first-run.sh", "tools/proved.py"):
+            (self.top / name).parent.mkdir(exist_ok=True)
+            shutil.copy2(ROOT / name, self.top / name)
+        write(self.top / "VERSION", "1.2.0\n")
+        write(self.top / "CHANGELOG.md", "# Changes\n\n## Next\n\n## 1.2.0\n")
         write(self.top / "examples" / "gateway" / "run.sh", AUCTION)
         for name in ("tests/packages.sh", "gateway/packages.sh"):
             write(self.top / name, "#!/bin/sh\n")

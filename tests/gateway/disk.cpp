@@ -11,9 +11,14 @@
 //                         and by none where there is no such file
 //     DISK_BROKEN=FILE    a sync that begins while there is such a file fails in the end: EIO
 //     DISK_FULL=N         from the end of the Nth sync on, each write to such a file fails: ENOSPC
+//     DISK_END=FILE       from when FILE says `PROCESS N` on, that process's calls are counted which
+//                         change something outside of it, in whatever file or connection: in the
+//                         place of the Nth it ends, by SIGKILL
 #include <dlfcn.h>
 #include <fcntl.h>
-#include <sys/uio.h>
+#include <signal.h>
+#include <sys/socket.h>
+#include <sys/types.h>
 #include <time.h>
 #include <unistd.h>
 
@@ -95,8 +100,24 @@ bool is_broken() {
     return file && std::filesystem::exists(file);
 }
 
+// To be called before each call that changes something outside of the process.
+void may_end_here() {
+    static const char *const file = std::getenv("DISK_END");
+    static std::atomic<long> calls{0};
+    if (!file)
+        return;
+    const int before = errno;
+    long process = 0, last = 0;
+    if (!(std::ifstream(file) >> process >> last) || process != getpid())
+        calls = 0;
+    else if (++calls >= last)
+        kill(getpid(), SIGKILL);
+    errno = before;
+}
+
 int synced(int file, const char *call) {
     using Sync = int (*)(int);
+    may_end_here();
     const auto real = reinterpret_cast<Sync>(dlsym(RTLD_NEXT, call));
     const std::string kind = kind_of(file);
     if (kind.empty())
@@ -142,19 +163,38 @@ int fdatasync(int file) {
 
 ssize_t write(int file, const void *data, size_t size) {
     static const auto call = real<ssize_t (*)(int, const void *, size_t)>("write");
+    may_end_here();
     return is_full(file) ? -1 : call(file, data, size);
 }
 ssize_t pwrite(int file, const void *data, size_t size, off_t place) {
     static const auto call = real<ssize_t (*)(int, const void *, size_t, off_t)>("pwrite");
+    may_end_here();
     return is_full(file) ? -1 : call(file, data, size, place);
 }
 ssize_t pwrite64(int file, const void *data, size_t size, off64_t place) {
     static const auto call = real<ssize_t (*)(int, const void *, size_t, off64_t)>("pwrite64");
+    may_end_here();
     return is_full(file) ? -1 : call(file, data, size, place);
 }
 int posix_fallocate(int file, off_t place, off_t size) {
     static const auto call = real<int (*)(int, off_t, off_t)>("posix_fallocate");
+    may_end_here();
     return is_full(file) ? ENOSPC : call(file, place, size);
+}
+ssize_t send(int to, const void *data, size_t size, int flags) {
+    static const auto call = real<ssize_t (*)(int, const void *, size_t, int)>("send");
+    may_end_here();
+    return call(to, data, size, flags);
+}
+int rename(const char *from, const char *to) noexcept {
+    static const auto call = real<int (*)(const char *, const char *)>("rename");
+    may_end_here();
+    return call(from, to);
+}
+int ftruncate64(int file, off64_t size) noexcept {
+    static const auto call = real<int (*)(int, off64_t)>("ftruncate64");
+    may_end_here();
+    return call(file, size);
 }
 
 } // extern "C"

@@ -3,11 +3,13 @@
 import json
 import os
 import random
+import re
 import signal
 import socket
 import subprocess
 from dataclasses import dataclass, field
 from datetime import datetime, timezone
+from functools import cache
 from pathlib import Path
 
 from tests.gateway.firm import Identity
@@ -96,6 +98,14 @@ def seal_text(gateway: Path, folder: Path) -> str:
     return "[seal]\n" + names + 'checkpoints = "checkpoints"\n'
 
 
+@cache
+def hash_of(gateway: Path, password: str) -> str:
+    """The hash of a password, made once for all gateways of the tests: it takes as long as an attacker's guess."""
+    words, line = [str(gateway), "--hash"], password.encode() + b"\n"
+    run = subprocess.run(words, input=line, capture_output=True, check=True)
+    return run.stdout.decode().strip()
+
+
 @dataclass
 class Door:
     programs: Programs
@@ -109,6 +119,7 @@ class Door:
         default_factory=dict
     )  # of a dealer: the trader that cancels when it is gone
     postgres: PostgresLog | None = None  # the log, in the place of a file of SQLite
+    sends: tuple[str, ...] = ()  # the program that is given each checkpoint, and its words
     operators: str | None = (
         None  # the group that may use the operator's socket, none where empty; None: no socket
     )
@@ -133,7 +144,15 @@ class Door:
 
     @property
     def database(self) -> Path:
-        return self.folder / "day.db"
+        """The log of today, where it is a file."""
+        return self.folder / self.database_name.replace("{date}", today())
+
+    @property
+    def database_name(self) -> str:
+        """Each day has a log of its own, unless the venue's configuration has a date."""
+        venue = self.folder / "venue.toml"
+        is_dated = not venue.exists() or re.search("^date = ", venue.read_text(), re.MULTILINE)
+        return "day.db" if is_dated else "day-{date}.db"
 
     @property
     def told(self) -> Path:
@@ -164,10 +183,10 @@ class Door:
 
     def log_text(self) -> str:
         if self.postgres is None:
-            return 'sqlite = "day.db"\n'
+            return 'sqlite = "%s"\n' % self.database_name
         return "postgres = %s\nschema = %s\n" % (
             json.dumps(self.postgres.connection),
-            json.dumps(self.postgres.schema),
+            json.dumps(self.postgres.schema.replace(today(), "{date}")),
         )
 
     @property
@@ -180,7 +199,8 @@ class Door:
         return self.folder / "checkpoints" / ("day-%s.checkpoint" % today())
 
     def seal_text(self) -> str:
-        return seal_text(self.programs.gateway, self.folder)
+        send = "send = %s\n" % quoted(self.sends) if self.sends else ""
+        return seal_text(self.programs.gateway, self.folder) + send
 
     def write_credentials(self) -> None:
         text = ""
@@ -199,13 +219,7 @@ class Door:
         file.chmod(0o600)
 
     def hashed(self, password: str) -> str:
-        run = subprocess.run(
-            [self.programs.gateway, "--hash"],
-            input=password.encode() + b"\n",
-            capture_output=True,
-            check=True,
-        )
-        return run.stdout.decode().strip()
+        return hash_of(self.programs.gateway, password)
 
     def start(self) -> None:
         self.process = subprocess.Popen(
@@ -303,3 +317,18 @@ def is_running(pid: int) -> bool:
         return Path("/proc/%d/stat" % pid).read_text().rsplit(")", 1)[1].split()[0] != "Z"
     except (FileNotFoundError, ProcessLookupError):
         return False
+
+
+def stands_still(task: Path) -> bool:
+    """A thread (its folder below /proc) that was stopped, or is gone."""
+    try:
+        return (task / "stat").read_text().rsplit(")", 1)[1].split()[0] in "TtXZ"
+    except OSError:
+        return True
+
+
+def bring_to_a_stop(pid: int) -> None:
+    """SIGSTOP, and a wait until it has worked: on a busy machine a thread goes on for a while."""
+    os.kill(pid, signal.SIGSTOP)
+    tasks = Path("/proc/%d/task" % pid)
+    until("process %d stands still" % pid, LONG, lambda: all(map(stands_still, tasks.iterdir())))

@@ -25,7 +25,7 @@ trap 'exit 143' HUP INT TERM
 
 # The shim of the disk is loaded in front of the sanitizer's library.
 export ASAN_OPTIONS=verify_asan_link_order=0
-export TSAN_OPTIONS="halt_on_error=1 suppressions=$root/gateway/tests/tsan.suppressions"
+export TSAN_OPTIONS="halt_on_error=1 suppressions=$root/gateway/unit/tsan.suppressions"
 
 built() {
     (cd gateway && cmake --preset "$1" && cmake --build --preset "$1" -j "${JOBS:-2}") >"$work/built" 2>&1 ||

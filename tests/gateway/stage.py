@@ -201,7 +201,7 @@ class Stage:
     def ask(self, seconds: float = 600, dealers: list[Firm] | None = None) -> bytes:
         """A request to dealers, both if none are named, and the first one's name of it once all are shown it."""
         dealers = dealers or [self.dealer, self.other]
-        counts = [sum(message.kind == b"R" for message in dealer.looked()) for dealer in dealers]
+        counts = [self.shown(dealer) for dealer in dealers]
         self.ask_of(dealers, seconds)
         for dealer, count in zip(dealers, counts):
             until("%s is shown a request" % dealer.name, LONG, lambda: self.shown(dealer) > count)

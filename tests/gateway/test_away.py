@@ -8,7 +8,7 @@ import time
 from collections.abc import Callable
 from datetime import datetime, timedelta, timezone
 
-from tests.admin.desk import did
+from tests.admin.operator import did
 from tests.gateway.door import today
 from tests.gateway.held import milliseconds
 from tests.gateway.market import moment_in

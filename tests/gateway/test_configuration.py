@@ -81,7 +81,7 @@ def test_begun_with_a_wrong_key(stage: Stage) -> None:
 
 def test_password_of_a_shell(stage: Stage) -> None:
     """A password of an installation that is another where a shell, SQL or YAML has read it: it is refused, and not told."""
-    site = (ROOT / "deploy" / "site.toml").read_text()
+    site = (ROOT / "install" / "hosts" / "site.toml").read_text()
     file, folder = stage.folder / "site.toml", stage.folder / "db1"
     for odd in ("a$HOME", "it's", "a:b", "", "a b"):
         file.write_text(site.replace("change-me-1", odd))
@@ -101,5 +101,5 @@ def test_password_of_a_shell(stage: Stage) -> None:
 
 def configured(site: Path, folder: Path) -> subprocess.CompletedProcess[str]:
     """What configure.py says of a database host."""
-    words = [str(ROOT / "deploy" / "configure.py"), str(site), "db1", str(folder)]
+    words = [str(ROOT / "install" / "hosts" / "configure.py"), str(site), "db1", str(folder)]
     return subprocess.run(words, capture_output=True, text=True, timeout=LONG, check=False)

@@ -1,4 +1,4 @@
-"""Who may do what in PostgreSQL where the logs have an owner (deploy/config/database.sql): the gateway's role, a reader, and
+"""Who may do what in PostgreSQL where the logs have an owner (install/hosts/config/database.sql): the gateway's role, a reader, and
 what neither can do to a day that is written or to the next one.
 """
 
@@ -49,7 +49,7 @@ class Owned:
 
 @pytest.fixture
 def owned(postgres_database: str, place: Path) -> Owned:
-    """As deploy/ makes it, twice: a new version of it goes over the old one."""
+    """As install/hosts makes it, twice: a new version of it goes over the old one."""
     for role in ("gateway", "reader"):
         said(postgres_database, "CREATE ROLE %s LOGIN" % role)
     text = SITE.files("db1", Folders("/etc", "/var", "/run"))["database.sql"]
@@ -186,6 +186,12 @@ READER_MAY_NOT = [
     "CREATE TEMP TABLE other (x INT)",
     "SELECT * FROM take_over('reader')",
     "COPY entry TO PROGRAM 'true'",
+    "SELECT pg_current_xact_id()",
+    "SELECT txid_current()",
+    "SELECT pg_notify('x', 'y')",
+    "SET temp_file_limit = -1",
+    "SET temp_file_limit = '1TB'",
+    "SELECT pg_create_physical_replication_slot('x', true)",
 ]
 
 
@@ -217,8 +223,9 @@ def test_limits_of_a_reader(written: Owned) -> None:
         "SHOW lock_timeout",
         "SHOW idle_in_transaction_session_timeout",
         "SHOW default_transaction_read_only",
+        "SHOW temp_file_limit",
     )
-    assert shown.stdout.split() == ["10min", "5s", "10min", "on"]
+    assert shown.stdout.split() == ["10min", "5s", "10min", "on", "100MB"]
     limit = said(written.superuser, "SELECT rolconnlimit FROM pg_roles WHERE rolname = 'reader'")
     assert limit.stdout.strip() == "5"
 

@@ -6,7 +6,7 @@ import sys
 
 import pytest
 
-from tests.admin.desk import did
+from tests.admin.operator import did
 from tests.gateway.ledger import answers
 from tests.gateway.stage import DEALER, INVESTOR, Stage, check
 from tests.gateway.wait import LONG, until

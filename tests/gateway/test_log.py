@@ -109,44 +109,6 @@ def test_byte_of_an_entry(stage: Stage) -> None:
     nothing_sent(stage, lambda: stage.refused(str(place)))
 
 
-def test_byte_of_sent(stage: Stage) -> None:
-    ended_day(stage)
-    number, frame = stage.door.ledger().sent["DLR1"][1]
-    changed(
-        stage,
-        "UPDATE sent SET bytes = ? WHERE firm = 'DLR1' AND number = ?",
-        frame.replace(b"297=0", b"297=5"),
-        number,
-    )
-    nothing_sent(stage, lambda: stage.refused("DLR1", str(number)))
-
-
-def test_byte_of_outgoing(stage: Stage) -> None:
-    """A message of a session as it would be sent again."""
-    ended_day(stage)
-    number, _ = stage.door.ledger().sent["DLR1"][1]
-    other = "CAST(replace(CAST(bytes AS TEXT), '297=0', '297=5') AS BLOB)"
-    changed(
-        stage, "UPDATE outgoing SET bytes = %s WHERE firm = 'DLR1' AND sent = ?" % other, number
-    )
-    nothing_sent(stage, lambda: stage.refused("DLR1", str(number)))
-
-
-def test_outgoing_taken_out(stage: Stage) -> None:
-    ended_day(stage)
-    number, _ = stage.door.ledger().sent["DLR1"][1]
-    changed(stage, "DELETE FROM outgoing WHERE firm = 'DLR1' AND sent = ?", number)
-    nothing_sent(stage, lambda: stage.refused("DLR1", str(number)))
-
-
-def test_last_sent_taken_out(stage: Stage) -> None:
-    """The venue gives it again, and the firm would have it under a second number of the session."""
-    ended_day(stage)
-    number, _ = stage.door.ledger().sent["DLR1"][-1]
-    changed(stage, "DELETE FROM sent WHERE firm = 'DLR1' AND number = ?", number)
-    nothing_sent(stage, lambda: stage.refused("DLR1", str(number)))
-
-
 def test_another_program(stage: Stage) -> None:
     """A venue that answers otherwise than it did: the first answer that differs is named, and no firm sees it."""
     ended_day(stage)

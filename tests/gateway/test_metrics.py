@@ -1,5 +1,9 @@
 """Each metric counts what its line of help says: one that nothing moves is a fault, and so is one that no test knows."""
 
+import socket
+from contextlib import ExitStack
+from http.client import HTTPConnection
+
 from tests.gateway.stage import DEALER, Stage, check
 from tests.gateway.wait import LONG, until
 from tests.gateway.wire import Wire
@@ -28,6 +32,7 @@ IN_OTHER_FILES = {  # tests/limits: test_clock.py, test_renewal.py; tests/operat
     "mireseason_halted",
     "mireseason_halted_bonds",
     "mireseason_log_disk_free_bytes",
+    "mireseason_log_disk_reserve_bytes",
     "mireseason_log_disk_reserve_reached",
     "mireseason_venue_info",
     "mireseason_clock_doubtful",
@@ -159,6 +164,7 @@ def test_a_faulty_configuration_of_the_next_day(stage: Stage) -> None:
     file = stage.folder / "venue.toml"
     lines = file.read_text().splitlines(keepends=True)
     file.write_text("".join(line for line in lines if not line.startswith("date")))
+    stage.door.write()
     stage.open()
     counts(stage, "next_configuration_faulty", 0)
     file.write_text(file.read_text().replace("exposure", "exposre", 1))
@@ -178,13 +184,31 @@ def test_no_metric_is_unknown(stage: Stage) -> None:
     )
     none = {
         "mireseason_dropped_total",
-        "mireseason_wrong_passwords_total",
         "mireseason_certificate_expiry_timestamp_seconds",
     }
     # Some are told a second after the start.
     until("each but %s is told" % none, LONG, lambda: NAMES - told_names(stage) <= none)
     assert told_names(stage) - NAMES == set()
+    # An alert for the first wrong password needs a zero before it.
+    assert stage.counters()['mireseason_wrong_passwords_total{firm="INV1"}'] == 0
 
 
 def told_names(stage: Stage) -> set[str]:
     return {name.split("{")[0] for name in stage.counters() if name.startswith("mireseason_")}
+
+
+def test_slow_readers_blind_nobody(stage: Stage) -> None:
+    """Forty connections take every place that there is, with half a request each, or with a whole one whose answer they do not read:
+    each who comes after them is answered."""
+    stage.open()
+    whole = b"GET /metrics HTTP/1.1\r\nHost: 127.0.0.1:%d\r\n\r\n" % stage.door.metrics
+    with ExitStack() as slow:
+        for at in range(40):
+            connection = socket.create_connection(("127.0.0.1", stage.door.metrics), timeout=LONG)
+            slow.enter_context(connection)
+            connection.sendall(whole if at % 2 else whole[:20])
+        for _ in range(36):
+            page = HTTPConnection("127.0.0.1", stage.door.metrics, timeout=LONG)
+            page.request("GET", "/health")
+            check(page.getresponse().status == 200, "/health is not answered")
+            page.close()

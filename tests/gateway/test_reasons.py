@@ -3,6 +3,7 @@ fix/reasons.txt, and docs/CONNECTING.md, which has them for firms."""
 
 import re
 import shutil
+import socket
 import subprocess
 from collections.abc import Iterator
 from dataclasses import replace
@@ -16,6 +17,7 @@ from tests.gateway.ledger import PostgresLog
 from tests.gateway.market import BOND, Fields, moment_in
 from tests.gateway.midnight import wait_for_room
 from tests.gateway.stage import DEALER, INVESTOR, OTHER, Stage, Tools, check
+from tests.gateway.test_seals import audited
 from tests.gateway.wait import LONG, until
 from tests.gateway.wire import Wire
 from tests.harness.options import ROOT, SECOND
@@ -492,6 +494,12 @@ def test_another_gateway_tells_the_same(followed: tuple[Stage, Door]) -> None:
         "another gateway tells another reason",
     )
     stage.whole()
+    check(second.stop() == 0, second.last_words())
+    named = [line.split() for line in audited(stage).stdout.splitlines() if "gateway   " in line]
+    terms = [int(words[-1]) for words in named]
+    check(len(named) > 2 and terms == sorted(terms) and terms[-1] == terms[1] + 1, repr(named))
+    check(all(words[1] == socket.gethostname() for words in named[1:]), repr(named))
+    check(all("mireseason-gateway" in words for words in named), repr(named))
 
 
 def test_one_that_follows_finds_another_reason(followed: tuple[Stage, Door], noting: Tools) -> None:
@@ -502,7 +510,7 @@ def test_one_that_follows_finds_another_reason(followed: tuple[Stage, Door], not
     follow(stage, second)
     answered(stage, stage.dealer, "Z", [(298, b"5"), (117, b"as-Closed")])
     check(second.wait_end() == 1, "it goes on")
-    check("is not what message" in second.last_words(), second.last_words())
+    check("gives other messages" in second.last_words(), second.last_words())
     check(refused_cancel(stage).value(58) == table()["NothingToCancel"], "the first does not go on")
 
 

@@ -77,8 +77,8 @@ class Intruder:
     def put_seal(self, place: int) -> None:
         """A seal for it, whose bytes nobody without the secret can know."""
         self.rows(
-            "INSERT INTO seal (number, term, place, event, mac) SELECT max(number) + 1, max(term), %d, max(event), %s FROM seal"
-            % (place, self.literal(hashlib.sha256(b"guessed").digest()))
+            "INSERT INTO seal SELECT number + 1, term, %d, event, %s, hash, %s FROM seal ORDER BY number DESC LIMIT 1"
+            % (place, self.literal(b""), self.literal(hashlib.sha256(b"guessed").digest()))
         )
 
 
@@ -147,6 +147,35 @@ def test_an_entry_that_is_put_in(stage_of_log: Stage, with_seal: bool) -> None:
     check(
         found.returncode == 1
         and "entry %d: 1 entry follows the last checkpoint" % place in found.stdout,
+        found.stdout,
+    )
+
+
+FIRST_NOTES = "(SELECT min(number) FROM seal WHERE length(notes) > 0)"
+CHANGES = {
+    "taken out": ("notes = NOTHING", FIRST_NOTES),
+    "twice": ("notes = notes || notes", FIRST_NOTES),
+    "put in": ("notes = OTHERS", "(SELECT max(number) FROM seal)"),
+    "hash": ("hash = mac", "(SELECT max(number) FROM seal)"),
+}
+
+
+@pytest.mark.parametrize("change", CHANGES)
+def test_session_notes_that_are_changed(stage_of_log: Stage, change: str) -> None:
+    """What sessions did is sealed with the entries: no start takes another line, and the audit needs no key to find it."""
+    stage = stage_of_log
+    asked_and_quoted(stage)
+    intruder = Intruder(stage.door)
+    what, number = CHANGES[change]
+    line = b"DLR1 0 M 0 99 0 0 %s 00:00:00.000\n" % (b"0" * 64)
+    values = {"NOTHING": intruder.literal(b""), "OTHERS": intruder.literal(line)}
+    for word, value in values.items():
+        what = what.replace(word, value)
+    intruder.rows("UPDATE seal SET %s WHERE number = %s" % (what, number))
+    nothing_sent(stage, lambda: stage.refused("the log was changed at or before entry"))
+    found = audited(stage)
+    check(
+        found.returncode == 1 and "were changed: their hash is another" in found.stdout,
         found.stdout,
     )
 

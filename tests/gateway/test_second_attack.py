@@ -6,12 +6,11 @@ import socket
 import struct
 from collections.abc import Callable
 from concurrent.futures import ThreadPoolExecutor
-from dataclasses import dataclass
 from pathlib import Path
 
 import pytest
 
-from tests.admin.desk import answer_to, did, socket_of
+from tests.admin.operator import answer_to, did, socket_of
 from tests.admin.stream import Stream
 from tests.admin.test_orders import quoted, request_fields
 from tests.gateway.firm import Received
@@ -48,7 +47,7 @@ def test_a_hit_in_other_spellings(stage: Stage, words: tuple[str, ...]) -> None:
         asked(dealer, investor)
         quoted(dealer, b"q1")
         quote = investor.got(b"S").given(117)
-        did(stage, *words)
+        did(stage, *words, "--because", "rumours")
         for kind in (b"1", b"01", b"000000001"):
             answer = hit(investor, b"h" + kind, quote, kind)
             check(answer.kind == b"j", "694=%r is answered %r" % (kind, answer.raw))
@@ -78,7 +77,7 @@ def test_an_act_within_a_stream(stage: Stage) -> None:
     stage.door.operators = ""
     stage.open()
     with logged_on(stage, DEALER) as wire:
-        words = socket_of(stage), b"1 text cancel DLR1\n"
+        words = socket_of(stage), b"1 text cancel DLR1 --because again\n"
         with ThreadPoolExecutor(3) as operators:
             called = [operators.submit(calls, *words) for _ in range(3)]
             many = range(wire.number, wire.number + 400)
@@ -117,6 +116,26 @@ def test_nothing_stands_after_a_suspension(stage: Stage) -> None:
 
 
 # ---------------------------------------------------------------- numbers, connections
+
+
+def test_a_reset_that_leaves_nothing(stage: Stage) -> None:
+    """An operator resets a session that keeps nothing, twice; its firm logs on with 141=Y and asks for all that it was sent: the
+    gateway goes on, and so does a start."""
+    stage.door.operators = ""
+    stage.open()
+    for _ in range(2):
+        did(stage, "reset-session", "DLR1")
+    with Wire(stage.door.port) as wire:
+        wire.logon(b"DLR1", DEALER.password.encode(), more=[(141, b"Y")])
+        wire.got(b"A")
+        wire.got(b"1")
+        check(sent_again(wire) == [], "it is sent something again")
+        number = wire.number
+    check(stage.door.stop() == 0, "the gateway does not end well")
+    stage.door.start()
+    stage.door.wait_open()
+    with logged_on(stage, DEALER, number=number) as wire:
+        check(sent_again(wire) == [], "it is sent something again")
 
 
 def test_numbers_at_their_end(stage: Stage) -> None:
@@ -172,65 +191,50 @@ PUT_IN = (
     "INSERT INTO outgoing (firm, epoch, number, sent, copy, dropped, type, moment, bytes) "
     "SELECT 'INV1', 0, next, NULL, %d, 0, 'AI', '01:00:00.000', %s FROM session WHERE firm = 'INV1'"
 )
-TAKE_OUT = "DELETE FROM outgoing WHERE firm = 'INV1' AND sent IS NULL"
-COPIES = "WHERE firm = 'DLR1' AND epoch = 1"
-COUNT_FROM = "UPDATE session SET entries_from = %d"
-EPOCH = "UPDATE session SET epoch = %d WHERE firm = '%s'"
-OF_INV1 = " WHERE firm = 'INV1'"
+TRADE_NAME = b"1003=20261128-INV1-DLR1-9"
 
 
-@dataclass(frozen=True)
-class Change:
-    """What somebody does to what sessions keep, the firm whose session that is, and how it is undone."""
+def sent_again(wire: Wire) -> list[Received]:
+    """What a firm is sent again of all that it was sent, up to the answer to a question behind it."""
+    assert wire.raw(wire.message(b"2", wire.name, [(7, b"1"), (16, b"0")]))
+    assert wire.raw(wire.message(b"1", wire.name, [(112, b"behind")]))
+    got: list[Received] = []
 
-    firm: str
-    statement: str
-    undone: str
+    def is_last(message: Received) -> bool:
+        got.append(message)
+        return message.value(112) == b"behind"
 
-
-def changes(trade: str) -> list[Change]:
-    """`trade` is a trade's notice that never was, as it stands in a statement."""
-    drop = "UPDATE outgoing SET dropped = %d "
-    return [
-        Change("INV1", PUT_IN % (0, trade), TAKE_OUT),
-        Change("INV1", PUT_IN % (1, trade), TAKE_OUT),
-        Change("INV1", drop % 1 + "WHERE firm = 'INV1'", drop % 0 + "WHERE firm = 'INV1'"),
-        Change("DLR1", drop % 1 + COPIES, drop % 0 + COPIES),
-        Change(
-            "DLR1",
-            "UPDATE outgoing SET bytes = %s %s" % (trade, COPIES),
-            "UPDATE outgoing SET bytes = (SELECT bytes FROM outgoing AS given WHERE given.firm = 'DLR1' "
-            "AND given.copy = 0 AND given.sent = outgoing.sent) " + COPIES,
-        ),
-        Change(
-            "INV1", COUNT_FROM % 1_000_000 + ", expected = 2 " + OF_INV1, COUNT_FROM % 0 + OF_INV1
-        ),
-        Change("DLR1", EPOCH % (2, "DLR1"), EPOCH % (1, "DLR1")),
-        Change("INV1", EPOCH % (1, "INV1"), EPOCH % (0, "INV1")),
-    ]
+    wire.got_until(is_last)
+    return [message for message in got if message.value(43) == b"Y" and message.kind != b"4"]
 
 
-def test_what_a_start_believes(stage_of_log: Stage) -> None:
-    """What sessions keep is changed while no gateway runs, where nothing else in the log says what it has to be: no start takes it;
-    and once it is undone the day goes on."""
+def test_a_resend_asks_no_database(stage_of_log: Stage) -> None:
+    """Somebody who writes to the database of a running gateway changes what sessions keep, puts a trade there that never was, and
+    takes messages out: each firm is sent again what it was sent, and nothing else."""
     stage = stage_of_log
-    stage.door.operators = ""
-    stage.open(*stage.firms)
-    stage.quote(stage.dealer, stage.ask())
-    shown = stage.answer(stage.investor, "a quote", lambda message: message.kind == b"S")
-    stage.log_off(stage.dealer)
-    stage.hit(shown.given(117))
-    did(stage, "reset-session", "DLR1")  # the notice of the trade is copied
-    check(stage.door.stop() == 0, "the gateway does not end well")
-    intruder = Intruder(stage.door)
-    all_of_them = changes(intruder.literal(TRADE))
-    for change in all_of_them if stage.door.postgres is None else all_of_them[::4]:
-        intruder.rows(change.statement)
-        stage.refused("session")
-        check("of %s's session" % change.firm in stage.door.last_words(), stage.door.last_words())
-        intruder.rows(change.undone)
-    stage.door.start()
-    stage.door.wait_open()
+    stage.open()
+    with logged_on(stage, DEALER) as dealer, logged_on(stage, INVESTOR) as investor:
+        asked(dealer, investor)
+        quoted(dealer, b"q1")
+        hit(investor, b"h1", investor.got(b"S").given(117))
+        done = dealer.got_until(lambda message: message.value(694) == b"1")
+        before = [message.value(1181) for message in sent_again(dealer)]
+        check(done.value(1181) in before, "the trade is not sent again: %r" % before)
+        intruder = Intruder(stage.door)
+        trade = intruder.literal(TRADE)
+        intruder.rows("UPDATE outgoing SET type = 'AI', bytes = %s WHERE firm = 'DLR1'" % trade)
+        intruder.rows(PUT_IN % (0, trade))
+        intruder.rows("DELETE FROM outgoing WHERE firm = 'INV1' AND sent IS NOT NULL")
+        for wire in (dealer, investor):
+            again = sent_again(wire)
+            check(all(TRADE_NAME not in message.raw for message in again), "%r" % again)
+            own = [entry for entry in stage.door.ledger().sent[wire.name.decode()]]
+            numbers = [int(message.given(1181)) for message in again]
+            check(numbers == [number for number, _ in own], "again came %r" % numbers)
+        check(
+            [message.value(1181) for message in sent_again(dealer)] == before,
+            "the dealer is sent something else",
+        )
 
 
 def test_what_was_not_taken_is_not_asked_for(stage: Stage) -> None:
@@ -242,7 +246,7 @@ def test_what_was_not_taken_is_not_asked_for(stage: Stage) -> None:
         asked(dealer, investor)
         quoted(dealer, b"q1")
         quote = investor.got(b"S").given(117)
-        did(stage, "halt")
+        did(stage, "halt", "--because", "rumours")
         answer = hit(investor, b"h1", quote)
         check(answer.kind == b"j", "a hit during a halt is answered %r" % answer.raw)
         number = investor.number

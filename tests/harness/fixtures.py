@@ -9,7 +9,7 @@ from pathlib import Path
 
 import pytest
 
-from tests.gateway.door import Door, Programs
+from tests.gateway.door import Door, Programs, today
 from tests.gateway.firm import Identity
 from tests.gateway.ledger import PostgresLog
 from tests.gateway.midnight import wait_for_room
@@ -19,6 +19,7 @@ from tests.harness import build, lab, postgres
 from tests.harness.browser import Browser
 from tests.harness.clock import Clock
 from tests.harness.options import OPTIONS, ROOT, SECOND, Form, Options
+from tests.harness.side_by_side import is_worker
 from tests.lab.machine import Machine
 
 DICTIONARIES = (ROOT / "fix" / "FIXT11.xml", ROOT / "fix" / "MIRESEASON.xml")
@@ -87,6 +88,15 @@ def tools(gateway_program: Path, venue: tuple[str, ...], options: Options) -> To
 # ------------------------------------------------------------ a folder, a database
 
 
+@pytest.fixture(scope="session")
+def shared(tmp_path_factory: pytest.TempPathFactory, pytestconfig: pytest.Config) -> Path:
+    """A folder of all workers of this run together: `build.made_once` makes there what each would make for itself."""
+    own = tmp_path_factory.getbasetemp()
+    folder = (own.parent if is_worker(pytestconfig) else own) / "shared"
+    folder.mkdir(exist_ok=True)
+    return folder
+
+
 @pytest.fixture
 def place(request: pytest.FixtureRequest, options: Options) -> Iterator[Path]:
     """A folder of the test's own, with a short path; --keep keeps that of a test that fails."""
@@ -123,7 +133,7 @@ def log_place(request: pytest.FixtureRequest) -> PostgresLog | None:
     """Where a gateway's log is: a test that takes this runs twice, in SQLite (None) and in PostgreSQL."""
     if request.param == "sqlite":
         return None
-    return PostgresLog(request.getfixturevalue("postgres_database"), "day")
+    return PostgresLog(request.getfixturevalue("postgres_database"), "day_" + today())
 
 
 # ------------------------------------------------------------ a gateway

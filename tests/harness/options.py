@@ -19,8 +19,10 @@ SHORT_EXAMPLES, LONG_EXAMPLES = 100, 5000
 TREE = (
     str(ROOT),
     str(ROOT / "audit"),
+    str(ROOT / "common"),
     str(ROOT / "tools"),
-    str(ROOT / "deploy"),
+    str(ROOT / "keeper"),
+    str(ROOT / "install" / "hosts"),
 )  # where the tree's modules are found
 
 

@@ -26,7 +26,7 @@ class Count:
     skipped: Counter[str] = field(default_factory=Counter)
 
     def add(self, case: xml.Element) -> None:
-        name = "%s::%s" % (case.get("classname", ""), case.get("name", ""))
+        name = "%s::%s" % (case.get("classname", ""), without_group(case.get("name", "")))
         skipped = case.find("skipped")
         if is_failed(case):
             self.failed.append(name)
@@ -42,6 +42,12 @@ class Count:
         found += ["skipped %d: %s" % (times, why) for why, times in sorted(self.skipped.items())]
         found += ["failed %s" % name for name in self.failed]
         return found + ["unsteady %s" % name for name in self.unsteady]
+
+
+def without_group(name: str) -> str:
+    """A test's name without the group `@GROUP` that several workers put behind it (`side_by_side.py`)."""
+    at = name.rfind("@")
+    return name[:at] if at > name.rfind("]") else name
 
 
 def is_failed(case: xml.Element) -> bool:

@@ -12,7 +12,7 @@ import sys
 import xml.etree.ElementTree as xml
 from pathlib import Path
 
-from tests.harness.reports import FAULTS, UNSTEADY, counted, is_failed
+from tests.harness.reports import FAULTS, UNSTEADY, counted, is_failed, without_group
 
 FEW = 3  # failed tests: with more of them, something is broken
 ALONE = ("-n", "0")
@@ -27,7 +27,7 @@ def place_of(case: xml.Element) -> str:
     file = case.get("file", "")
     module = file.removesuffix(".py").replace("/", ".")
     classes = case.get("classname", "").removeprefix(module).split(".")
-    return "::".join([file, *filter(None, classes), case.get("name", "")])
+    return "::".join([file, *filter(None, classes), without_group(case.get("name", ""))])
 
 
 def options_of(words: list[str]) -> list[str]:

@@ -5,4 +5,4 @@
 #     tests/lab/one_machine.sh down FOLDER [--images FOLDER]
 set -eu
 cd "$(dirname "$0")/../.."
-PYTHONPATH=.:deploy exec /usr/bin/python3 -m tests.lab.one_machine "$@"
+PYTHONPATH=.:install/hosts exec /usr/bin/python3 -m tests.lab.one_machine "$@"

@@ -7,7 +7,7 @@ from collections import Counter
 from collections.abc import Iterator
 from contextlib import contextmanager
 
-from tests.admin.desk import did
+from tests.admin.operator import did
 from tests.admin.test_orders import quoted, request_fields
 from tests.gateway.ledger import rows
 from tests.gateway.market import moment_in

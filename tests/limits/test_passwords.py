@@ -7,6 +7,7 @@ import time
 from concurrent.futures import ThreadPoolExecutor
 from pathlib import Path
 
+from tests.gateway.door import bring_to_a_stop
 from tests.gateway.stage import DEALER, Stage, check
 from tests.gateway.wait import LONG, until
 from tests.gateway.wire import Wire
@@ -36,14 +37,6 @@ def code_of_hashes(pid: int) -> list[range]:
     return [range(int(begin, 16), int(end, 16)) for begin, end in found]
 
 
-def stands(task: Path) -> bool:
-    """A thread that was stopped, or is gone."""
-    try:
-        return (task / "stat").read_text().rsplit(")", 1)[1].split()[0] in "TtXZ"
-    except OSError:
-        return True
-
-
 def place_of(task: Path) -> int:
     """What a stopped thread was at; 0 where that was a call of the system, or can't be read."""
     try:
@@ -55,10 +48,9 @@ def place_of(task: Path) -> int:
 
 def hashing(pid: int, code: list[range]) -> int:
     """How many threads of the gateway hash a password. It stands still while they are counted: so the load does not matter."""
-    os.kill(pid, signal.SIGSTOP)
+    bring_to_a_stop(pid)
     try:
-        tasks = list(Path("/proc/%d/task" % pid).iterdir())
-        until("it stands still", LONG, lambda: all(stands(task) for task in tasks))
+        tasks = Path("/proc/%d/task" % pid).iterdir()
         places = [place_of(task) for task in tasks]
         return sum(any(place in part for part in code) for place in places)
     finally:

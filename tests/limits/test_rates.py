@@ -4,7 +4,7 @@ import time
 
 import pytest
 
-from tests.admin.desk import rows
+from tests.admin.operator import rows
 from tests.gateway.firm import Received
 from tests.gateway.stage import DEALER, Stage
 from tests.gateway.wait import LONG, until

@@ -7,7 +7,7 @@ from pathlib import Path
 
 import pytest
 
-from tests.admin.desk import audit, is_root, rows
+from tests.admin.operator import audit, is_root, rows
 from tests.admin.stream import quote_fields
 from tests.admin.test_orders import quoted, request_fields, started_again
 from tests.gateway.market import moment_in
@@ -138,8 +138,16 @@ def test_the_disk_is_full_behind_the_reserve(disk: Path, stage: Stage) -> None:
             if dealer.read_until(lambda message: message.value(117) == b"c99") is None:
                 break  # the gateway ends, or says nothing any more
     assert stage.door.wait_end() == 1
-    # SQLite says `database or disk is full`, or `disk I/O error` where it was the index of its WAL that had no room.
-    assert "the log could not be written: SQLite" in stage.door.last_words()
+    # SQLite says `database or disk is full`, or `disk I/O error` where it was the index of its WAL that had no room; or it was the
+    # spool that had none.
+    words = stage.door.last_words()
+    assert any(
+        cause in words
+        for cause in (
+            "the log could not be written: SQLite",
+            "the spool can't be written: No space left on device",
+        )
+    ), words
     make_room(disk)
     started_again(stage)
     number = 1 + max(entry.number or 0 for entry in stage.door.ledger().messages_of("DLR1"))

@@ -25,7 +25,7 @@ WRONG_ARGUMENTS = 2  # the status of a program
 LEAVES_OUT = 16  # a line in so many, so that a day that fails shrinks line by line
 
 
-@pytest.fixture(scope="module")
+@pytest.fixture(scope="session")
 def has_notes(first_program: list[str]) -> bool:
     """Whether the program has the flag --notes: one that has not calls it a wrong argument."""
     return program_answer(first_program, ["alone", "--notes"], b"")[0] != WRONG_ARGUMENTS

@@ -17,15 +17,29 @@ class Mutant:
     name: str
     what: str  # it does, in a line
     file: str  # from the top of the tree
-    test: str  # pytest's name of it
+    test: str  # pytest's name of it, or a unit test's file and case
     old: str
     new: str
+    beside: str | None = None  # what the test runs beside the part's program
+
+    @property
+    def unit(self) -> str | None:
+        """The program of unit tests that is to fail, where no test of pytest is."""
+        file = Path(self.test.partition("::")[0])
+        if file.suffix != ".cpp":
+            return None
+        return "desk_test" if self.part == "desk" else file.stem
+
+    @property
+    def case(self) -> str:
+        """The test's own name in its file."""
+        return self.test.partition("::")[2].split("::")[-1].partition("[")[0]
 
     @property
     def part(self) -> str | None:
         """The part of the tree whose program has to be built anew, if one has."""
         folder = self.file.partition("/")[0]
-        return {"gateway": "gateway", "desk": "desk", "web": "desk"}.get(folder)
+        return {"gateway": "gateway", "desk": "desk", "common": "desk"}.get(folder)
 
     def planted_in(self, text: str) -> str:
         """The file's text with the wrong body in its place."""
@@ -38,14 +52,16 @@ class Mutant:
 
 
 def read_mutant(path: Path) -> Mutant:
-    """A file of this folder: a line of words, `file:`, `test:`, and the text of old and new."""
+    """A file of this folder: a line of words, `file:`, `test:`, perhaps `beside:`, and the text of old and new."""
     head, old_found, rest = path.read_text().partition(OLD)
     old, new_found, new = rest.partition(NEW)
     what, *lines = head.splitlines()
     keys = dict(line.split(": ", 1) for line in lines)
+    beside = keys.pop("beside", None)
     if not old_found or not new_found or set(keys) != {"file", "test"} or old == new:
         raise Misfit("%s: is no mutant" % path.name)
-    return Mutant(path.name.removesuffix(ENDING), what, keys["file"], keys["test"], old, new)
+    name = path.name.removesuffix(ENDING)
+    return Mutant(name, what, keys["file"], keys["test"], old, new, beside)
 
 
 def all_mutants() -> list[Mutant]:

@@ -39,9 +39,12 @@ class Nursery:
         for name in set(files_below(self.folder)) - set(names):
             (self.folder / name).unlink()
 
-    def build(self, part: str) -> None:
-        """The program of a part of the copy, and no test of that part."""
-        cmake(self.folder / part, [PROGRAMS[part]])
+    def build(self, mutant: Mutant) -> None:
+        """The program of the mutant's part in the copy, or the unit test that it names, and nothing else of that part."""
+        if mutant.part is None:
+            return
+        wanted = [mutant.unit or PROGRAMS[mutant.part], mutant.beside]
+        cmake(self.folder / mutant.part, [target for target in wanted if target])
 
     @contextmanager
     def planted(self, mutant: Mutant) -> Iterator[None]:
@@ -49,8 +52,7 @@ class Nursery:
         text = file.read_text()
         try:
             file.write_text(mutant.planted_in(text))
-            if mutant.part is not None:
-                self.build(mutant.part)
+            self.build(mutant)
             yield
         finally:
             file.write_text(text)
@@ -59,6 +61,33 @@ class Nursery:
         """What its test says of it, and the last lines of that."""
         report = self.folder.parent / (mutant.name + ".xml")
         report.unlink(missing_ok=True)
+        own = {
+            name: value
+            for name, value in os.environ.items()
+            if name not in ("PYTHONPATH", "VENUE", "GATEWAY", "FORM", "DESK")
+        }
+        own["PATIENCE"] = PATIENCE
+        if mutant.part == "desk":
+            own["DESK"] = str(self.program("desk"))
+        done = subprocess.run(
+            self.words(mutant, report),
+            cwd=self.folder,
+            env=own,
+            stdout=subprocess.PIPE,
+            stderr=subprocess.STDOUT,
+            text=True,
+            timeout=LIMIT,
+            check=False,
+        )
+        return (counted([report]) if report.exists() else Count()), done.stdout[-3000:]
+
+    def words(self, mutant: Mutant, report: Path) -> list[str]:
+        """The command that runs its test, and reports in the form of JUnit."""
+        if mutant.part is not None and mutant.unit is not None:
+            # A comma would end the name of the case.
+            case = "--test-case=" + mutant.case.replace(",", "?")
+            program = self.folder / mutant.part / "out" / mutant.unit
+            return [str(program), case, "--reporters=junit", "--out=%s" % report]
         words = [
             sys.executable,
             "-m",
@@ -74,30 +103,11 @@ class Nursery:
             "-o",
             "junit_family=xunit1",
         ]
-        words += self.chosen(mutant)
-        own = {
-            name: value
-            for name, value in os.environ.items()
-            if name not in ("PYTHONPATH", "VENUE", "GATEWAY", "FORM", "DESK")
-        }
-        own["PATIENCE"] = PATIENCE
-        if mutant.part == "desk":
-            own["DESK"] = str(self.program("desk"))
-        done = subprocess.run(
-            words,
-            cwd=self.folder,
-            env=own,
-            stdout=subprocess.PIPE,
-            stderr=subprocess.STDOUT,
-            text=True,
-            timeout=LIMIT,
-            check=False,
-        )
-        return (counted([report]) if report.exists() else Count()), done.stdout[-3000:]
+        return words + self.chosen_for(mutant.part)
 
-    def chosen(self, mutant: Mutant) -> list[str]:
+    def chosen_for(self, part: str | None) -> list[str]:
         """The venue, and the gateway: that with the wrong body, where it is the gateway's."""
-        gateway = self.program("gateway") if mutant.part == "gateway" else self.gateway
+        gateway = self.program("gateway") if part == "gateway" else self.gateway
         words = ["--venue=" + " ".join(self.venue)]
         return words + (["--gateway=" + str(gateway)] if gateway is not None else [])
 
@@ -137,10 +147,10 @@ def copy_if_other(source: Path, target: Path) -> None:
 
 
 @contextmanager
-def nursery(venue: tuple[str, ...], gateway: Path | None) -> Iterator[Nursery]:
-    """The copy, for one process at a time."""
-    with alone(FOLDER):
-        made = Nursery(FOLDER / "tree", venue, gateway)
+def nursery(part: str, venue: tuple[str, ...], gateway: Path | None) -> Iterator[Nursery]:
+    """A part's own copy, for one process at a time."""
+    with alone(FOLDER / part):
+        made = Nursery(FOLDER / part / "tree", venue, gateway)
         made.refresh()
         try:
             yield made

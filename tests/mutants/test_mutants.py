@@ -1,7 +1,9 @@
 """Each wrong body is rejected by the test that it names: six drawn by the seed in the short form, all in the long one."""
 
 import random
-from collections.abc import Iterator
+from collections.abc import Callable, Iterator
+from contextlib import ExitStack
+from functools import cache
 from pathlib import Path
 
 import pytest
@@ -20,17 +22,28 @@ def pytest_generate_tests(metafunc: pytest.Metafunc) -> None:
     chosen, mutants = metafunc.config.stash[OPTIONS], all_mutants()
     if chosen.is_short:
         mutants = random.Random(chosen.seed).sample(mutants, min(DRAWN, len(mutants)))
-    metafunc.parametrize("mutant", mutants, ids=[mutant.name for mutant in mutants])
+    marked = [
+        pytest.param(each, id=each.name, marks=pytest.mark.xdist_group(copy_of(each)))
+        for each in mutants
+    ]
+    metafunc.parametrize("mutant", marked)
 
 
-@pytest.fixture(scope="module")
-def tree(venue: tuple[str, ...], gateway_program: Path) -> Iterator[Nursery]:
-    with nursery(venue, gateway_program) as made:
-        yield made
+def copy_of(mutant: Mutant) -> str:
+    """Mutants of one program are tried in the same copy of the tree, one after the other."""
+    return mutant.part or "scripts"
 
 
-def test_a_mutant_is_rejected(mutant: Mutant, tree: Nursery) -> None:
+@pytest.fixture(scope="session")
+def trees(venue: tuple[str, ...], gateway_program: Path) -> Iterator[Callable[[str], Nursery]]:
+    """The copy of each part, once it is asked for."""
+    with ExitStack() as opened:
+        yield cache(lambda part: opened.enter_context(nursery(part, venue, gateway_program)))
+
+
+def test_a_mutant_is_rejected(mutant: Mutant, trees: Callable[[str], Nursery]) -> None:
     """A test that fails, and not one that can't be run: its fixtures stand."""
+    tree = trees(copy_of(mutant))
     wait_for_room(mutant.name)
     with tree.planted(mutant):
         count, told = tree.tried(mutant)
@@ -42,5 +55,5 @@ def test_a_mutant_is_rejected(mutant: Mutant, tree: Nursery) -> None:
 def test_a_mutant_fits(each: Mutant) -> None:
     """The text that it changes stands once in its file, and the test that it names is there."""
     assert each.planted_in((ROOT / each.file).read_text()) != ""
-    file, _, name = each.test.partition("::")
-    assert "def %s(" % name.split("::")[-1].partition("[")[0] in (ROOT / file).read_text()
+    words = '"%s"' if each.unit else "def %s("
+    assert words % each.case in (ROOT / each.test.partition("::")[0]).read_text()

@@ -1,4 +1,4 @@
-"""A database whose logs have an owner, as deploy/ makes it for five hosts."""
+"""A database whose logs have an owner, as install/hosts makes it for five hosts."""
 
 import subprocess
 from dataclasses import dataclass

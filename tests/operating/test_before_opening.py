@@ -179,13 +179,13 @@ def test_a_day_that_has_ended_has_its_numbers(week: Week) -> None:
     week.write()
     file = stage.folder / "gateway.toml"
     text = file.read_text()
+    file.write_text(text.replace('ends = "08:55"', 'ends = "08:30"'))
     week.set_clock(week.day(0), OPENS, 1)
     stage.door.start()
     stage.door.wait_open()
     firms = start_firms(week)
     until("all are logged on", LONG, lambda: all(firm.logged_on() for firm in firms))
     stage.auction()
-    file.write_text(text.replace('ends = "08:55"', 'ends = "08:30"'))
     assert stage.door.stop() == 0
     week.set_clock(week.day(0), OPENS, 1801)
     stage.door.start()

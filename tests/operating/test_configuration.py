@@ -59,6 +59,16 @@ FAULTS = {
         '"BONDA000001"',
         "line 3: bond BONDA000001: id",
     ),
+    "an ISIN whose last digit is wrong": (
+        'currency = "USD"',
+        'isin = "US0378331006"',
+        'line 6: bond BONDA0000001: isin = "US0378331006": it has to be an ISIN, whose last digit',
+    ),
+    "a market's code in small letters": (
+        "version = 2",
+        'version = 2\nmic = "xmir"',
+        'venue.toml: line 2: mic = "xmir": it has to be four capital letters and digits',
+    ),
     "a grid in version 1": (
         "version = 2",
         "version = 1",
@@ -115,7 +125,8 @@ def test_once_it_is_right_the_day_begins(stage: Stage) -> None:
     file = write(stage, VENUE.replace("exposure", "exposre"))
     stage.door.start()
     assert stage.door.wait_end() == 1
-    file.write_text(VENUE)
+    more = VENUE.replace("currency", 'isin = "US0378331005"\ncurrency')
+    file.write_text('mic = "XMIR"\n' + more)  # which the venue ignores
     stage.open(*stage.firms)
     stage.auction()
     stage.whole()
@@ -197,6 +208,42 @@ def test_a_place_that_is_not_there_is_found(stage: Stage, part: str) -> None:
     assert (found.returncode, expected in found.stderr) == (1, True), found.stderr
 
 
+# What of the gateway's file stands by something else, and what is told of it.
+ENDS = {
+    "one port for two": ("port = {metrics}", "port = {fix}", "[fix] port is the same"),
+    "a socket's path": ('"admin.sock"', '"%s"' % ("s" * 108), "has more than 107 bytes"),
+    "a socket's folder": (
+        '"admin.sock"',
+        '"away/admin.sock"',
+        "[operator] socket: there is no folder",
+    ),
+    "a socket's place": ('"admin.sock"', '"venue.toml"', "venue.toml that is no socket"),
+    "checkpoints": ('"checkpoints"', '"venue.toml/c"', "[seal] checkpoints: there is no folder"),
+    "the program's file": (
+        "[venue]\n",
+        '[venue]\nprogram = "away/venue"\n',
+        "[venue] program: there is no file",
+    ),
+}
+
+
+@pytest.mark.parametrize("name", ENDS)
+def test_what_ends_a_start_is_found(stage: Stage, name: str) -> None:
+    """`--check` and a start find the same."""
+    stage.door.operators = ""
+    write(stage, VENUE)
+    file = stage.folder / "gateway.toml"
+    text = file.read_text()
+    ports = {"metrics": stage.door.metrics, "fix": stage.door.port}
+    was, wrong, expected = (each.format(**ports) for each in ENDS[name])
+    assert was in text
+    file.write_text(text.replace(was, wrong, 1))
+    found = told(stage)
+    assert (found.returncode, expected in found.stderr) == (1, True), found.stderr
+    stage.door.start()
+    assert stage.door.wait_end() == 1
+
+
 KINDS = {
     "listen = 127": "[fix] listen has to be a text, in quotes",
     'port = "9878"': "[fix] port has to be a whole number",
@@ -227,10 +274,10 @@ def test_files_without_a_byte(stage: Stage) -> None:
     file.write_text(file.read_text() + '[day]\nholidays = "holidays"\n')
     holidays = stage.folder / "holidays"
     found = told(stage)
-    assert (found.returncode, found.stderr) == (
-        1,
-        "mireseason-gateway: %s: can't be read\n" % holidays,
-    )
+    line = file.read_text().count("\n")
+    words = 'gateway.toml: line %d: [day] holidays = "holidays": ' % line
+    assert found.returncode == 1
+    assert found.stderr.endswith("/%s%s: can't be read\n" % (words, holidays)), found.stderr
     holidays.write_text("")
     assert told(stage).returncode == 0
     (stage.folder / "credentials.toml").write_text("")
@@ -251,12 +298,14 @@ def test_a_pipe_in_the_place_of_a_file(stage: Stage, name: str) -> None:
 
 
 def test_the_pages_have_the_defaults() -> None:
-    """The example, what the package installs as comments, and what deploy says: a key each, and the same figure."""
+    """The example, what the package installs as comments, and what the page of hosts says: a key each, and the same figure."""
     example = tomllib.loads((ROOT / "examples/gateway/gateway.toml").read_text())["limits"]
-    installed = (ROOT / "packaging/config/gateway.toml").read_text()
+    installed = (ROOT / "install/packages/config/gateway.toml").read_text()
     taken = re.sub("(?m)^# ", "", installed[installed.index("# [limits]") :])
     assert tomllib.loads(taken)["limits"] == example
-    rows = re.findall(r"(?m)^\| `(\w+)` \| ([\d,]+) \|", (ROOT / "deploy/README.md").read_text())
+    rows = re.findall(
+        r"(?m)^\| `(\w+)` \| ([\d,]+) \|", (ROOT / "install/hosts/README.md").read_text()
+    )
     assert {key: int(figure.replace(",", "")) for key, figure in rows} == example
 
 
@@ -330,3 +379,113 @@ def test_fifty_drawn_faults_are_told_with_line_and_key(stage: Stage, seed: int) 
             found.stderr,
         )
     assert is_untouched(stage)
+
+
+INSTALLED = ROOT / "install" / "packages" / "config" / "gateway.toml"
+
+
+def day_as_installed() -> str:
+    """The part [day] of a new installation, without its file of holidays."""
+    text = INSTALLED.read_text()
+    part = text[text.index("[day]") : text.index("[log]")]
+    return re.sub("(?m)^holidays .*$", "", part)
+
+
+def test_hours_that_nobody_has_chosen(stage: Stage) -> None:
+    """A new installation opens no day by itself: --check and a start ask for hours, with the line, and there is no log. Once they are
+    chosen, and in an installation that has no part [day], the day opens."""
+    write(stage, VENUE)
+    file = stage.folder / "gateway.toml"
+    before = file.read_text()
+    assert told(stage).returncode == 0
+    part = day_as_installed()
+    text = before + part
+    file.write_text(text)
+    for key, value in (("opens", "00:00"), ("ends", "24:00")):
+        asks = '%s = "ask"' % key
+        line = text[: text.index(asks)].count("\n") + 1
+        expected = "gateway.toml: line %d: [day] %s: say here when a trading day opens" % (
+            line,
+            asks,
+        )
+        found = told(stage)
+        assert (found.returncode, expected in found.stderr) == (1, True), found.stderr
+        stage.door.start()
+        assert stage.door.wait_end() == 1
+        assert is_untouched(stage)
+        text = text.replace(asks, '%s = "%s"' % (key, value))
+        file.write_text(text)
+    week = "weekdays = " + json.dumps(["Mon", "Tue", "Wed", "Thu", "Fri", "Sat", "Sun"])
+    file.write_text(re.sub("(?m)^weekdays = .*$", week, text))
+    assert told(stage).returncode == 0, told(stage).stderr
+    stage.door.start()
+    stage.door.wait_open()
+
+
+# What stands behind the gateway's file, the words that tell it, and the word whose line that is; none where the key alone is told.
+PLACES_OF_FAULTS = {
+    "a part of another name": ("[dya]\n", "line {line}: dya is no part of it", "[dya]"),
+    "no file of holidays": (
+        '[day]\nholidays = "gone"\n',
+        'line {line}: [day] holidays = "gone": ',
+        "holidays =",
+    ),
+    "a key of TLS alone": (
+        '[tls]\nkey = "gateway.toml"\n',
+        "[tls] certificate is missing: [tls] has to have certificate and key",
+        "",
+    ),
+    "no certificate": (
+        '[tls]\ncertificate = "gone.pem"\nkey = "gateway.toml"\n',
+        'line {line}: [tls] certificate = "gone.pem": No such file or directory',
+        "certificate =",
+    ),
+    "certificates of firms by nobody": (
+        '[tls]\ncertificate = "gateway.toml"\nkey = "credentials.toml"\nclient_certificates = true\n',
+        "line {line}: [tls] client_certificates needs authorities",
+        "client_certificates",
+    ),
+    "nobody's group": (
+        '[operator]\nsocket = "s"\ngroup = "nobodys"\n',
+        '[operator] group = "nobodys": the system has no group nobodys',
+        "",
+    ),
+}
+
+
+@pytest.mark.parametrize("name", PLACES_OF_FAULTS)
+def test_a_fault_of_the_gateways_file_is_told_with_its_key(stage: Stage, name: str) -> None:
+    """And with its line, where it has one."""
+    part, expected, word = PLACES_OF_FAULTS[name]
+    write(stage, VENUE)
+    file = stage.folder / "gateway.toml"
+    text = file.read_text() + part
+    file.write_text(text)
+    line = text[: text.rindex(word)].count("\n") + 1 if word else 0
+    found = told(stage)
+    assert found.returncode == 1
+    assert expected.format(line=line) in found.stderr, (expected, found.stderr)
+
+
+def test_a_program_that_is_not_there(stage: Stage) -> None:
+    """The key is told, and not what a process said that could not begin."""
+    write(stage, VENUE)
+    with_program(stage, ["/usr/bin/no-venue", "live", "--frames", "--marks"])
+    found = told(stage)
+    assert found.returncode == 1
+    assert "[venue] command: there is no program /usr/bin/no-venue" in found.stderr, found.stderr
+
+
+def test_firms_that_can_not_log_on(stage: Stage) -> None:
+    """--check names each, and why: it has no credentials, or they held to a day that is over."""
+    write(stage, VENUE)
+    credentials = stage.folder / "credentials.toml"
+    parts = re.split(r"(?m)^(?=\[)", credentials.read_text())
+    kept = [part for part in parts if not part.startswith("[DLR2]")]
+    text = "".join(kept).replace("[INV1]", '[INV1]\nends = "20200101"')
+    credentials.write_text(text)
+    found = told(stage)
+    assert found.returncode == 0, found.stderr
+    assert "DLR2 can't log on: it has no credentials\n" in found.stdout
+    assert "INV1 can't log on: its credentials held to 20200101\n" in found.stdout
+    assert "DLR1 can't log on" not in found.stdout

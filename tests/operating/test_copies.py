@@ -3,7 +3,9 @@
 import os
 import re
 import shlex
+import sqlite3
 import subprocess
+from contextlib import closing
 from datetime import datetime, time, timedelta, timezone
 from pathlib import Path
 
@@ -32,7 +34,7 @@ def week(stage: Stage, clock: Clock) -> Week:
     stage.door.write()
     file = stage.folder / "gateway.toml"
     file.write_text(
-        file.read_text().replace("day.db", "{date}.db")
+        file.read_text().replace("day-{date}.db", "{date}.db")
         + DAYS
         + '[copies]\nfolder = "copies"\nkeep = 1\n'
     )
@@ -134,8 +136,23 @@ def test_days_are_copied(week: Week) -> None:
     assert not list(copies.glob("*.part"))
 
 
+def goes_on(week: Week, ends: tuple[str, str], begins: time) -> None:
+    """The end of the first day is moved, and its gateway is killed and started again before the new one, which comes soon."""
+    week.stage.door.kill()
+    file = week.stage.folder / "gateway.toml"
+    before, after = ('ends = "%s"' % end for end in ends)
+    file.write_text(file.read_text().replace(before, after))
+    week.set_clock(week.day(1), begins)
+    since = week.told()
+    week.stage.door.start()
+    week.stage.door.wait_open()
+    week.set_clock(week.day(1), time.fromisoformat(ends[1]), -1)
+    week.wait_told("day went on after it was copied date=", since)
+
+
 def test_a_day_that_goes_on_after_its_copy(week: Week) -> None:
-    """Its end is moved and the gateway started again: it is copied anew, and what was copied before stays beside."""
+    """Its end is moved and the gateway started again: it is copied anew, and what was copied before stays beside. So is it the next
+    time."""
     stage = week.stage
     (stage.folder / "copies").mkdir()
     week.set_clock(week.day(1), time(8, 0), -30)
@@ -146,17 +163,52 @@ def test_a_day_that_goes_on_after_its_copy(week: Week) -> None:
     until("it is copied", LONG, there.exists)
     before = (there / week.log_of(week.day(1)).name).read_bytes()
 
-    stage.door.kill()
-    file = stage.folder / "gateway.toml"
-    file.write_text(file.read_text().replace('ends = "08:55"', 'ends = "09:30"'))
-    week.set_clock(week.day(1), time(9, 5))
-    stage.door.start()
-    stage.door.wait_open()
-    week.set_clock(week.day(1), time(9, 30), -1)
-    week.wait_told("day went on after it was copied date=")
-    aside = there.parent / (there.name + ".1")
-    until("it is copied again", LONG, lambda: aside.exists() and there.exists())
+    goes_on(week, ("08:55", "09:30"), time(9, 5))
+    asides = [there.parent / ("%s.%d" % (there.name, number)) for number in (1, 2)]
+    until("it is copied again", LONG, lambda: asides[0].exists() and there.exists())
     name = week.log_of(week.day(1)).name
-    assert (aside / name).read_bytes() == before
-    assert (there / name).read_bytes() == week.log_of(week.day(1)).read_bytes() != before
+    assert (asides[0] / name).read_bytes() == before
+    second = (there / name).read_bytes()
+    assert second == week.log_of(week.day(1)).read_bytes() != before
+
+    goes_on(week, ("09:30", "09:50"), time(9, 35))
+    until("it is copied a third time", LONG, lambda: asides[1].exists() and there.exists())
+    assert [(aside / name).read_bytes() for aside in asides] == [before, second]
+    assert (there / name).read_bytes() == week.log_of(week.day(1)).read_bytes() != second
     until("it is counted", LONG, lambda: stage.counters()["mireseason_days_without_copy"] == 0)
+
+
+def last_checkpoint(log: Path) -> tuple[int, int]:
+    """The number of the log's last checkpoint, and whether it ends the day."""
+    with closing(sqlite3.connect(log)) as database:
+        row = database.execute(
+            "SELECT number, is_end FROM checkpoint ORDER BY number DESC LIMIT 1"
+        ).fetchone()
+    return int(row[0]), int(row[1])
+
+
+def test_the_end_of_a_day_is_signed_late(week: Week) -> None:
+    """A gateway is killed within a day and started again on the next one: it signs where the day before has ended, in its log and
+    outside of it."""
+    stage = week.stage
+    (stage.folder / "copies").mkdir()
+    week.set_clock(week.day(1), time(8, 0), -30)
+    stage.door.start()
+    week.open_day(1)
+    stage.auction()
+    stage.door.kill()
+    for firm in stage.firms:
+        firm.kill()
+    log = week.log_of(week.day(1))
+    number, is_end = last_checkpoint(log)
+    assert not is_end, "the day that goes on has an end"
+    week.set_clock(week.day(2), time(8, 0), -30)
+    stage.door.start()
+    week.wait_told("the end of a day was signed late date=%s" % log.stem)
+    assert last_checkpoint(log) == (number + 1, 1)
+    kept = stage.folder / "checkpoints" / ("day-%s.checkpoint" % log.stem)
+    assert "\ncheckpoint %d\n" % (number + 1) in kept.read_text()
+    assert "\nend yes\n" in kept.read_text()
+    week.open_day(2)
+    week.end_day(2)
+    assert last_checkpoint(week.log_of(week.day(2)))[1] == 1

@@ -15,21 +15,8 @@ from tests.gateway.door import free_port
 from tests.gateway.firm import Firm, Identity, Places
 from tests.gateway.stage import Stage, Tools
 from tests.gateway.wait import LONG, until
-from tests.operating.test_packages import PACKAGES, VERSION, Packages, built, needs
-
-# What the packages depend on. A fresh system has these from the mirror, and nothing that builds anything.
-BELOW = (
-    "init-system-helpers systemd tzdata openssl python3 python3-jinja2 python3-cryptography python3-psycopg2 libsqlite3-0 libpqxx-6.4"
-    " libprometheus-cpp-core1.0 libspdlog1.10 libdate-tz3 libssl3 libcrypt1 curl"
-)
-MINUTES = 15  # for a fresh system, from a mirror that may be slow
-
-
-@pytest.fixture(scope="module")
-def packages(
-    gateway_program: Path, venue: tuple[str, ...], tmp_path_factory: pytest.TempPathFactory
-) -> Packages:
-    return built(gateway_program, venue, tmp_path_factory.mktemp("packages"))
+from tests.operating.built_packages import PACKAGES, Packages, needs
+from tests.operating.debian_system import fresh_debian, set_hours
 
 
 @dataclass
@@ -62,12 +49,33 @@ class System:
         )
         return done.stdout
 
+    def bring(self, packages: Packages) -> str:
+        """Puts the packages into a folder of the system; its name there."""
+        folder = self.root / "root" / packages.version
+        folder.mkdir(exist_ok=True)
+        for file in packages.all_files:
+            shutil.copy2(file, folder)
+        return "/root/" + packages.version
+
     def install(self, packages: Packages) -> None:
         """As from a folder, without a mirror: all that they need is there."""
-        for file in packages.files:
-            shutil.copy2(file, self.root / "root")
-        words = "apt-get install -y -o Dpkg::Use-Pty=0 --allow-downgrades /root/*_%s_*.deb"
-        self.run("sh", "-c", words % packages.version)
+        files = " ".join("./%s_*.deb" % name for name in PACKAGES)
+        words = "cd %s && apt-get install -y -o Dpkg::Use-Pty=0 %s"
+        self.run("sh", "-c", words % (self.bring(packages), files))
+
+    def upgrade(self, packages: Packages, word: str) -> None:
+        """By the command of docs/OPERATING.md, which is also that of a way back."""
+        words = "cd %s && apt-get install -y -o Dpkg::Use-Pty=0 --no-remove --only-upgrade %s ./mireseason*.deb"
+        self.run("sh", "-c", words % (self.bring(packages), word))
+        assert self.versions() == {name: packages.version for name in PACKAGES}
+
+    def versions(self) -> dict[str, str]:
+        """What is installed of the venue."""
+        told = self.run(
+            "dpkg-query", "-W", "-f", "${Package} ${Version} ${Status}\n", "mireseason*"
+        )
+        rows = (line.split(" ", 2) for line in told.splitlines())
+        return {name: version for name, version, status in rows if status == "install ok installed"}
 
     def start(self) -> None:
         """As the unit does: by its user, with its command."""
@@ -117,32 +125,10 @@ def mounted(proc: Path) -> Iterator[None]:
 
 @pytest.fixture
 def fresh(place: Path) -> Iterator[System]:
-    """By mmdebstrap; or a copy of one that stands in the folder FRESH_SYSTEM, for whoever tries this test often."""
-    needs("mmdebstrap", "chroot")
-    if os.geteuid() != 0:
-        pytest.skip("only root makes a system")
+    """A system that is not booted."""
+    needs("chroot")
     root = place / "system"
-    if "FRESH_SYSTEM" in os.environ:
-        subprocess.run(["cp", "-a", os.environ["FRESH_SYSTEM"], root], check=True)
-    else:
-        words = [
-            "mmdebstrap",
-            "--mode=root",
-            "--variant=minbase",
-            "--include=" + ",".join(BELOW.split()),
-            "bookworm",
-            str(root),
-        ]
-        try:
-            made = subprocess.run(
-                words, capture_output=True, text=True, timeout=60 * MINUTES, check=False
-            )
-        except subprocess.TimeoutExpired:
-            pytest.skip("mmdebstrap: not done in %d minutes" % MINUTES)
-        if made.returncode != 0:
-            pytest.skip(
-                "mmdebstrap: %s" % (made.stderr.strip().splitlines() or ["it says nothing"])[-1]
-            )
+    fresh_debian(root)
     for name, number in (("null", 3), ("zero", 5), ("random", 8), ("urandom", 9)):
         device = root / "dev" / name
         if not device.is_char_device():
@@ -170,16 +156,26 @@ def firm_of(stage: Stage, told: str, trader: str, port: int) -> Firm:
     return Firm(Places(stage.tools.player, stage.folder, stage.tools.dictionaries, port), who)
 
 
+def keeper_is_read(fresh: System) -> None:
+    """As installed it writes what the alerts wait for, to where Debian's node exporter looks."""
+    folder = ["install", "-d", "-m", "2750", "-o", "mireseason", "-g", "mireseason-keeper"]
+    fresh.run(*folder, "/srv/mireseason-copies")
+    fresh.run("sh", "-c", "cp /etc/mireseason/keys/gateway.pub /etc/mireseason-keeper/keys")
+    fresh.run("runuser", "-u", "mireseason-keeper", "mireseason-keeper")
+    told = fresh.run("cat", "/var/lib/prometheus/node-exporter/mireseason.prom")
+    assert "\nmireseason_copies_without_seal 0\n" in told
+
+
+def both_are_on(stage: Stage) -> bool:
+    return stage.dealer.logged_on() and stage.investor.logged_on()
+
+
 @pytest.mark.long
 def test_a_fresh_system(
-    fresh: System,
-    packages: Packages,
-    gateway_program: Path,
-    venue: tuple[str, ...],
-    tools: Tools,
-    place: Path,
+    fresh: System, packages: Packages, newer: Packages, tools: Tools, place: Path
 ) -> None:
-    """From the packages two firms trade in five commands; an upgrade in the midst of the day loses nothing; a purge leaves the record."""
+    """From the packages two firms trade in five commands; an upgrade of all packages in the midst of the day, and the way back,
+    lose nothing; a purge leaves the record."""
     for program in ("gcc", "g++", "cc", "rt", "make"):
         assert not shutil.which(
             program, path="%s/usr/bin:%s/usr/local/bin" % (fresh.root, fresh.root)
@@ -189,6 +185,7 @@ def test_a_fresh_system(
     assert (fresh.root / "etc/mireseason/credentials.toml").stat().st_mode & 0o7777 == 0o640
     fresh.run("sha256sum", "--check", "/usr/share/mireseason/programs")
     port, metrics = free_port(), free_port()
+    set_hours(fresh.root)
     fresh.edit("etc/mireseason/gateway.toml", "port = 9878", "port = %d" % port)
     fresh.edit("etc/mireseason/gateway.toml", "port = 9879", "port = %d" % metrics)
 
@@ -215,20 +212,16 @@ def test_a_fresh_system(
         stage.log_on(stage.dealer, stage.investor)
         stage.auction([stage.dealer])
         assert "DLR1" in fresh.run("mireseason-admin", "firms")
-        request = stage.ask(dealers=[stage.dealer])
-
-        # The package's own restart is played too.
-        newer = built(gateway_program, venue, place / "newer", version=VERSION + ".1")
         (fresh.root / "etc/mireseason/holidays").write_text("2030-01-01\n")
-        fresh.stop()
-        fresh.install(newer)
-        assert (fresh.root / "etc/mireseason/holidays").read_text() == "2030-01-01\n"
-        fresh.start()
-        until(
-            "both are back", LONG, lambda: stage.dealer.logged_on() and stage.investor.logged_on()
-        )
-        stage.quote(stage.dealer, request)
-        stage.auction([stage.dealer])
+        for other, word in ((newer, "--assume-yes"), (packages, "--allow-downgrades")):
+            request = stage.ask(dealers=[stage.dealer])
+            fresh.stop()  # the package's own restart is played too
+            fresh.upgrade(other, word)
+            assert (fresh.root / "etc/mireseason/holidays").read_text() == "2030-01-01\n"
+            fresh.start()
+            until("both are back", LONG, lambda: both_are_on(stage))
+            stage.quote(stage.dealer, request)
+            stage.auction([stage.dealer])
     finally:
         for firm in (stage.dealer, stage.investor):
             firm.kill()
@@ -241,6 +234,7 @@ def test_a_fresh_system(
         "/etc/mireseason/keys/gateway.pub",
         "/var/lib/mireseason/" + log.name,
     )
+    keeper_is_read(fresh)
 
     fresh.run("apt-get", "purge", "-y", "-o", "Dpkg::Use-Pty=0", *PACKAGES)
     assert log.exists(), "a purge took the record away"

@@ -20,7 +20,7 @@ from tests.harness.options import ROOT
 from tests.operating.owned_logs import OwnedLogs, said
 from tests.operating.test_week import ENDS, OPENS, RULES, Week
 
-PROGRAM = ROOT / "deploy" / "mireseason-keeper"
+PROGRAM = ROOT / "keeper" / "mireseason-keeper"
 AUDIT = ROOT / "audit" / "mireseason-audit"
 USUAL = {**os.environ, "PATH": "/usr/bin:/bin"}
 

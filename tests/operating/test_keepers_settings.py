@@ -59,6 +59,8 @@ FAULTS = {
     ),
     "names in one schema": ("[copies]", '[venue]\nnames = ["north"]\n[copies]', "schema has"),
     "no zone": ("[copies]", '[day]\nzone = "New York"\n[copies]', "none of the tz database"),
+    "a key of too many parts": ("[copies]", "a" + ".a" * 20000 + " = 1\n[copies]", "32 deep"),
+    "too many brackets": ("[copies]", "a = " + "[" * 100000 + "\n[copies]", "32 deep"),
     "no time": ("[copies]", '[day]\nends = "24:01"\n[copies]', "[day] ends is 24:01"),
     "no weekday": ("[copies]", '[day]\nweekdays = ["Sum"]\n[copies]', "weekdays are of Mon"),
     "a day that ends as it opens": (
@@ -175,6 +177,18 @@ def test_logs_in_files(file: Path) -> None:
     settings = read_settings(file)
     assert settings.given == file.parent / "given" and settings.sealed is None
     assert settings.log_of("", "20261127") == "day-20261127"
+
+
+def test_where_readers_read(file: Path) -> None:
+    """A connection string, of logs in PostgreSQL alone; none as a rule."""
+    file.write_text(RIGHT)
+    assert read_settings(file).readers == ""
+    readers = 'readers = "host=read1 user=keeper"\n'
+    file.write_text(RIGHT.replace(POSTGRES, POSTGRES + "\n" + readers))
+    assert read_settings(file).readers == "host=read1 user=keeper"
+    file.write_text(RIGHT.replace(POSTGRES, 'copies = "given"\n' + readers))
+    with pytest.raises(Fault, match="readers is of the other kind"):
+        read_settings(file)
 
 
 LAST = {

@@ -11,9 +11,10 @@ import pytest
 
 from tests.gateway.wait import LONG
 from tests.harness.options import ROOT
+from tests.operating.scripts import script_of
 
 # Each command of a script, of which the one that is said is never run: the script is killed there.
-COMMANDS = ("rm", "mkdir", "openssl", "mireseason-gateway", "chown", "chmod", "mv", "rmdir")
+COMMANDS = ("rm", "mkdir", "cp", "openssl", "mireseason-gateway", "chown", "chmod", "mv", "rmdir")
 WRAPPER = """#!/bin/sh
 echo >>"$PLACE/calls"
 [ "$(wc -l <"$PLACE/calls")" != "$DIES_AT" ] || { kill -9 "$PPID"; exit 1; }
@@ -24,27 +25,34 @@ CHOWN = """#!/bin/sh
 shift
 stat -c %i "$@" >>"$PLACE/owned"
 """
-MANY = 20  # more than a script has commands
+CONFIG = str(ROOT / "install" / "packages" / "config")
+MANY = 24  # more than a script has commands
 
 
 @dataclass(frozen=True)
 class Script:
     package: str
-    folder: str  # where its keys are
+    folder: str  # of its configuration
+    keys: str  # where its keys are, below that
+    secret: str  # what others may not read of the configuration
     modes: dict[str, int]
-
-    @property
-    def text(self) -> str:
-        return (ROOT / "packaging" / "debian" / (self.package + ".postinst")).read_text()
 
 
 SCRIPTS = [
     Script(
         "mireseason-gateway",
-        "/etc/mireseason/keys",
+        "/etc/mireseason",
+        "keys",
+        "credentials.toml",
         {"seal.key": 0o640, "gateway.pem": 0o640, "gateway.pub": 0o644},
     ),
-    Script("mireseason-keeper", "/etc/mireseason-keeper", {"seal.pem": 0o640, "seal.pub": 0o644}),
+    Script(
+        "mireseason-keeper",
+        "/etc/mireseason-keeper",
+        "",
+        "keeper.toml",
+        {"seal.pem": 0o640, "seal.pub": 0o644},
+    ),
 ]
 
 
@@ -56,15 +64,20 @@ class Configured:
     place: Path
 
     def __post_init__(self) -> None:
-        self.folder.mkdir()
+        self.etc.mkdir()
+        (self.etc / self.script.secret).touch(0o644)
         (self.place / "bin").mkdir()
-        (self.place / "postinst").write_text(
-            self.script.text.replace(self.script.folder, str(self.folder))
-        )
+        text = script_of(self.script.package, "postinst")
+        text = text.replace(self.script.folder, str(self.etc))
+        (self.place / "postinst").write_text(text.replace("/usr/share/mireseason/config", CONFIG))
+
+    @property
+    def etc(self) -> Path:
+        return self.place / "etc"
 
     @property
     def folder(self) -> Path:
-        return self.place / "keys"
+        return self.etc / self.script.keys
 
     def wrap(self, name: str, program: str) -> None:
         file = self.place / "bin" / name
@@ -89,10 +102,13 @@ class Configured:
         return began
 
     def check(self) -> None:
-        """All keys are there, of their owner and mode, and nothing else is."""
+        """All keys are there, of their owner and mode, and nothing else is; and nobody else reads the configuration's secrets, without
+        systemd-tmpfiles, which these tests do not run."""
         names = {path.name for path in self.folder.iterdir() if "~" not in path.name}
-        assert names == set(self.script.modes)
+        assert names - {self.script.secret} == set(self.script.modes)
         owned = (self.place / "owned").read_text().split()
+        for path, bits in ((self.etc, 0o750), (self.etc / self.script.secret, 0o640)):
+            assert path.stat().st_mode & 0o777 == bits and str(path.stat().st_ino) in owned, path
         for name, mode in self.script.modes.items():
             found = (self.folder / name).stat()
             assert found.st_mode & 0o777 == mode and str(found.st_ino) in owned, name
@@ -135,6 +151,20 @@ def test_a_script_that_is_killed_is_made_good(configure: Configure, place: Path)
     raise AssertionError("it has more commands than that")
 
 
+def test_a_gateways_own_configuration_stays(configure: Configure, place: Path) -> None:
+    """A new one has what is installed; an upgrade changes nothing of it, also where nobody has edited it."""
+    configured = configure(place / "there")
+    configured.run(0)
+    file = configured.etc / "gateway.toml"
+    if configured.script.package != "mireseason-gateway":
+        assert not file.exists()
+        return
+    assert file.read_text() == Path(CONFIG, "gateway.toml").read_text()
+    file.write_text("[venue]\n")
+    configured.run(0)
+    assert file.read_text() == "[venue]\n"
+
+
 def test_keys_that_are_there_stay(configure: Configure, place: Path) -> None:
     """A configuration makes none anew; and a public half without a secret is kept beside the new one."""
     configured = configure(place / "there")
@@ -148,3 +178,39 @@ def test_keys_that_are_there_stay(configure: Configure, place: Path) -> None:
     configured.run(0)
     configured.check()
     assert (configured.folder / (public + ".~1~")).read_bytes() == before[public]
+
+
+def fits(place: Path, program: str) -> subprocess.CompletedProcess[str]:
+    """What `service_fits` makes of this program, by a user who is nobody else here."""
+    (place / "bin").mkdir()
+    for name, text in (("runuser", '#!/bin/sh\nshift 3\nexec "$@"\n'), ("checks", program)):
+        (place / "bin" / name).write_text(text)
+        (place / "bin" / name).chmod(0o755)
+    script = (ROOT / "debian" / "service-fits.sh").read_text() + "service_fits nobody checks\n"
+    environment = {"PATH": "%s:%s" % (place / "bin", os.environ["PATH"]), "TMPDIR": str(place)}
+    return subprocess.run(
+        ["sh", "-c", script],
+        env=environment,
+        capture_output=True,
+        text=True,
+        timeout=LONG,
+        check=False,
+    )
+
+
+def test_what_a_check_leaves_behind_holds_up_no_upgrade(place: Path) -> None:
+    """It keeps what it was given to write to for as long as this test runs, in a session of its own: dpkg goes on, and waits for what was asked
+    alone."""
+    os.mkfifo(place / "ends")
+    program = '#!/bin/sh\nsetsid sh -c \'read -r line <"$0"\' "%s" &\necho right\n'
+    done = fits(place, program % (place / "ends"))
+    assert done.returncode == 0 and not done.stderr, done
+    with (place / "ends").open("w") as file:
+        file.write("now\n")
+
+
+def test_what_a_check_says_is_not_kept_whole(place: Path) -> None:
+    """A line without an end is cut, and root's files are gone again."""
+    done = fits(place, "#!/bin/sh\nyes | tr -d '\\n' | head -c 9000000\nexit 1\n")
+    assert done.returncode == 1 and len(done.stderr) <= 502, len(done.stderr)
+    assert [path.name for path in place.iterdir()] == ["bin"]

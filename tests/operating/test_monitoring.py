@@ -29,8 +29,8 @@ from tests.harness.browser import Browser
 from tests.harness.options import ROOT
 from tests.operating.test_service import asked, hanging_venue
 
-RULES = ROOT / "deploy" / "prometheus" / "mireseason.rules.yml"
-CASES = ROOT / "deploy" / "prometheus" / "mireseason.rules.test.yml"
+RULES = ROOT / "install" / "prometheus" / "mireseason.rules.yml"
+CASES = ROOT / "install" / "prometheus" / "mireseason.rules.test.yml"
 TAKEN, TIMES = 1000, 100  # answers that are asked for again so often: more than sockets hold
 
 
@@ -105,8 +105,13 @@ def test_bytes_that_a_firm_does_not_take(stage: Stage) -> None:
         ), "the last is not answered"
         wire.socket.setsockopt(socket.SOL_SOCKET, socket.SO_RCVBUF, 2048)
         again: Fields = [(7, b"1"), (16, b"0")]
-        wire.raw(b"".join(wire.message(b"2", b"DLR1", again) for _ in range(TIMES)))
-        until("bytes wait for it alone", LONG, lambda: wait_for(stage) == {"DLR1"})
+
+        def waits() -> bool:
+            """Requests that come during a resend are one with it: so the firm goes on asking until sockets hold no more."""
+            wire.raw(b"".join(wire.message(b"2", b"DLR1", again) for _ in range(TIMES)))
+            return wait_for(stage) == {"DLR1"}
+
+        until("bytes wait for it alone", LONG, waits)
     counts(stage, 'firm_waiting_bytes{firm="DLR1"}', 0)
 
 

@@ -9,8 +9,7 @@ from dataclasses import dataclass
 
 import pytest
 
-from tests.admin.desk import acts, admin, audit, is_root, said_as, socket_of
-from tests.gateway.door import today
+from tests.admin.operator import acts, admin, audit, is_root, said_as, socket_of
 from tests.gateway.market import BOND
 from tests.gateway.stage import OTHER, Stage
 from tests.gateway.wait import LONG, until
@@ -143,12 +142,9 @@ def done(stage: Stage, command: Command, words: list[str]) -> str:
 
 
 def open_day(stage: Stage) -> None:
-    """A gateway of many days, whose log of today has the name that these tests look for."""
+    """A gateway of many days."""
     (stage.folder / "venue.toml").write_text(VENUE)
     stage.door.write()
-    config = stage.folder / "gateway.toml"
-    config.write_text(config.read_text().replace('"day.db"', '"day-{date}.db"'))
-    stage.door.database.symlink_to("day-%s.db" % today())
     stage.door.start()
     stage.door.wait_open()
     stage.log_on(stage.dealer, stage.investor)
@@ -158,6 +154,8 @@ def check_all_tried(usages: list[str]) -> None:
     """Each command that the gateway has is one of these."""
     names = [re.split(r" (?:\[|--because|FIRM|TRADE)", usage)[0] for usage in usages]
     tried = [command.words + " " for command in COMMANDS]
+    names.remove("backup")  # for root alone: test_backup.py calls it
+    names.remove("admit")  # of a signed report: tests/admin/test_admissions.py calls it
     untried = [name for name in names if not any(one.startswith(name + " ") for one in tried)]
     assert not untried, "no case calls %s" % untried
 

@@ -2,111 +2,49 @@
 
 import gzip
 import hashlib
-import os
 import re
-import shutil
 import subprocess
-from dataclasses import dataclass
+from datetime import datetime, timezone
 from pathlib import Path
 
 import pytest
+from mireseason_keeper.keeper import Counts
+from mireseason_keeper.metrics import write_metrics
+from mireseason_keeper.settings import read_settings
 from page_checks.links import CODE, LINK, fault_of
 from page_checks.page import Page
 
 from tests.gateway.wait import LONG
 from tests.harness.options import ROOT
-
-PACKAGES = ("mireseason-venue", "mireseason-gateway", "mireseason-audit", "mireseason-keeper")
-DESK = "mireseason-desk"  # a package of a firm's own host, where the desk is built
-VERSION = (ROOT / "VERSION").read_text().strip()
-
-
-@dataclass(frozen=True)
-class Packages:
-    folder: Path
-    version: str
-
-    def file(self, name: str) -> Path:
-        (found,) = self.folder.glob("%s_%s_*.deb" % (name, self.version))
-        return found
-
-    @property
-    def files(self) -> list[Path]:
-        return [self.file(name) for name in PACKAGES]
-
-    def unpacked(self, name: str, folder: Path) -> Path:
-        """What the package installs, below a folder."""
-        subprocess.run(["dpkg-deb", "-x", self.file(name), folder], check=True)
-        return folder
+from tests.operating.built_packages import (
+    DESK,
+    METAPACKAGE,
+    PACKAGES,
+    VERSION,
+    Packages,
+    desk_folder,
+    needs,
+    one_file,
+    printed,
+)
 
 
-def needs(*programs: str) -> None:
-    missing = [each for each in programs if not shutil.which(each)]
-    if missing:
-        pytest.skip("not installed: %s" % " ".join(missing))
+# The second implementation in the program's place is Python, on which the proved one does not depend.
+OF_SECOND = "python3-script-but-no-python3-dep"
+# Nor is it a program whose source is missing: the line that says why there is none of the proved one has nothing to do then.
+UNUSED = "mismatched-override source-is-missing [debian/proved/rfq_venue]"
 
 
-def built(gateway: Path, venue: tuple[str, ...], folder: Path, version: str = VERSION) -> Packages:
-    """The packages of these programs; of another version from a copy of the tree's texts."""
-    needs("dpkg-buildpackage", "dh")
-    if len(venue) != 1:
-        pytest.skip("there is no proved program to put into a package")
-    if not (gateway.parent / "mireseason-admin").exists():
-        pytest.skip("mireseason-admin is not built beside the gateway")
-    root = ROOT
-    if version != VERSION:
-        root = folder / "tree"
-        for part in ("packaging", "gateway", "deploy", "docs", "fix", "audit", "desk"):
-            shutil.copytree(
-                ROOT / part, root / part, ignore=shutil.ignore_patterns("out", "__pycache__")
-            )
-        for file in ("crates.txt", "SECURITY.md"):
-            shutil.copy2(ROOT / file, root)
-        (root / "VERSION").write_text(version + "\n")
-        (root / "COMMIT").write_text("0123456789ab\n")
-        (root / "CHANGELOG.md").write_text(
-            "# Changes\n\n## %s\n\n- Nothing but its number.\n" % version
-        )
-    environment = {
-        **os.environ,
-        "VENUE": venue[0],
-        "GATEWAY": str(gateway.parent),
-        "DESK": str(desk_folder() or "none"),
-        "UNPROVED": "1",  # a tree without the kit has no proved sessions
-    }
-    words = [str(root / "packaging" / "build.sh"), str(folder / "packages")]
-    done = subprocess.run(
-        words, env=environment, capture_output=True, text=True, timeout=10 * LONG, check=False
-    )
-    assert done.returncode == 0, done.stdout + done.stderr
-    return Packages(folder / "packages", version)
-
-
-def desk_folder() -> Path | None:
-    """Where the desk is built: these tests build none."""
-    program = Path(os.environ.get("DESK", ROOT / "desk" / "out" / DESK))
-    return program.parent if program.exists() else None
-
-
-@pytest.fixture(scope="module")
-def packages(
-    gateway_program: Path, venue: tuple[str, ...], tmp_path_factory: pytest.TempPathFactory
-) -> Packages:
-    return built(gateway_program, venue, tmp_path_factory.mktemp("packages"))
-
-
-def printed(*words: str | Path) -> str:
-    return subprocess.run(
-        [str(word) for word in words], capture_output=True, text=True, check=True, timeout=LONG
-    ).stdout.strip()
-
-
-def test_lintian_finds_no_error(packages: Packages) -> None:
+def test_lintian_finds_nothing(packages: Packages, venue: tuple[str, ...]) -> None:
+    """Neither an error nor a warning, in the packages and in their source."""
     needs("lintian")
-    files = [*packages.files, *packages.folder.glob(DESK + "_*.deb")]
-    words = ["lintian", "--allow-root", "--fail-on", "error", *map(str, files)]
+    is_second = len(venue) > 1
+    words = ["lintian", "--allow-root"] + (["--suppress-tags", OF_SECOND] if is_second else [])
+    words += [str(file) for file in [*packages.all_files, *packages.folder.glob("*.dsc")]]
     done = subprocess.run(words, capture_output=True, text=True, timeout=10 * LONG, check=False)
-    assert done.returncode == 0, done.stdout + done.stderr
+    found = [line for line in done.stdout.splitlines() if line.startswith(("E: ", "W: "))]
+    assert [line for line in found if not (is_second and UNUSED in line)] == [], done.stdout
+    assert done.returncode in (0, 2) and not done.stderr, done.stderr
 
 
 def test_the_changelog_fits_a_terminal(packages: Packages, place: Path) -> None:
@@ -127,9 +65,10 @@ def test_the_program_is_the_proved_one(
     """Byte for byte; and the package says of which commit its SHA-256 is."""
     root = packages.unpacked("mireseason-venue", place / "root")
     program = root / "usr/bin/rfq_venue"
-    assert program.read_bytes() == Path(venue[0]).read_bytes()
+    given = one_file(venue, place)
+    assert program.read_bytes() == given.read_bytes()
     lines = (root / "usr/share/mireseason/programs").read_text().splitlines()
-    digest = hashlib.sha256(Path(venue[0]).read_bytes()).hexdigest()
+    digest = hashlib.sha256(given.read_bytes()).hexdigest()
     assert lines[1] == digest + "  /usr/bin/rfq_venue"
     named = re.fullmatch(
         r"# (.*): the program of mireseason %s, proved from commit ([0-9a-f]{12,40}\+?|unknown)"
@@ -159,29 +98,41 @@ def test_versions(packages: Packages, place: Path) -> None:
     assert printed(
         "/usr/bin/python3", keeper / "usr/share/mireseason/keeper/mireseason-keeper", "--version"
     ) == "mireseason-keeper %s (%s)" % (VERSION, commit)
+    for place_of in (gateway / "usr/share/mireseason/common", audit / "usr/share/mireseason/audit"):
+        module = place_of / "bounded_toml.py"  # by which their programs read TOML
+        assert module.read_bytes() == (ROOT / "common" / "bounded_toml.py").read_bytes()
     told = printed(gateway / "usr/bin/mireseason-gateway", "--version")
     # A gateway whose sessions are not the proved ones says so behind its commit.
     named = r"mireseason-gateway %s \(\S+\)(, sessions not proved: \w+)?" % re.escape(VERSION)
     assert re.fullmatch(named, told), told
     for name in PACKAGES:
         assert printed("dpkg-deb", "-f", packages.file(name), "Version") == VERSION
-    assert "## %s\n" % VERSION in (ROOT / "CHANGELOG.md").read_text()
+    dated = r"^## %s \(\d{4}-\d\d-\d\d\)$" % re.escape(VERSION)
+    assert re.search(dated, (ROOT / "CHANGELOG.md").read_text(), re.MULTILINE)
 
 
-def test_a_firms_settings_are_nobody_elses(gateway_program: Path, place: Path) -> None:
-    """They have its password, whatever the shell's umask lets others read."""
-    credentials = place / "credentials.toml"
-    credentials.write_text("")
-    path = {**os.environ, "PATH": "%s:/usr/bin:/bin" % gateway_program.parent}
-    script = ROOT / "packaging" / "sbin" / "mireseason-credentials"
-    settings = place / "dlr1.cfg"
-    with settings.open("wb") as file:
-        settings.chmod(0o644)
-        subprocess.run(
-            ["sh", script, "DLR1", credentials], env=path, stdout=file, check=True, timeout=LONG
-        )
-    assert settings.stat().st_mode & 0o777 == 0o600
-    assert "Password=" in settings.read_text() and "[DLR1]" in credentials.read_text()
+def test_the_metapackage_is_all(packages: Packages) -> None:
+    """Of one version: so an upgrade of it leaves none behind."""
+    wanted = {"%s (= %s)" % (name, VERSION) for name in PACKAGES if name != METAPACKAGE}
+    assert (
+        set(printed("dpkg-deb", "-f", packages.file(METAPACKAGE), "Depends").split(", ")) == wanted
+    )
+
+
+def test_the_keepers_metrics_are_where_prometheus_reads(packages: Packages, place: Path) -> None:
+    """As installed: the alerts wait for what the keeper's own configuration has it write, where its unit lets it write."""
+    root = packages.unpacked("mireseason-keeper", place / "keeper")
+    file = read_settings(root / "etc/mireseason-keeper/keeper.toml").metrics
+    assert file is not None and file.parts[:4] == ("/", "var", "lib", "mireseason-keeper")
+    unit = (root / "lib/systemd/system/mireseason-keeper.service").read_text()
+    assert "\nStateDirectory=mireseason-keeper\n" in unit
+    made = (root / "usr/lib/tmpfiles.d/mireseason-keeper.conf").read_text()
+    assert re.search(r"(?m)^d %s +0755 mireseason-keeper " % file.parent, made)
+    written = root / file.relative_to("/")
+    written.parent.mkdir(parents=True)
+    write_metrics(written, Counts(without_seal=3), datetime.now(timezone.utc))
+    read = root / "var/lib/prometheus/node-exporter/mireseason.prom"  # by Debian's node exporter
+    assert "\nmireseason_copies_without_seal 3\n" in read.read_text()
 
 
 UNITS = {

@@ -39,10 +39,17 @@ TELLING = '#!/bin/sh\n: >"$0.has-run"\nexec %s "$@"\n'
 def drawn(venue: tuple[str, ...], tmp_path_factory: pytest.TempPathFactory) -> Path:
     """The log of a day, as a gateway leaves it."""
     log = tmp_path_factory.mktemp("drawn") / (DATE + ".db")
-    words = ["/usr/bin/python3", "-m", "tests.audit.draw_day", str(log)]
-    words += ["--requests", "2", "--dealers", "2", "--investors", "1", "--", *venue]
-    subprocess.run(words, cwd=ROOT, check=True, timeout=LONG)
+    draw(log, 1, venue)
     return log
+
+
+def draw(log: Path, seed: int, venue: tuple[str, ...]) -> None:
+    """A day by the gateway's keys, its last checkpoint, and all that it sent."""
+    words = ["/usr/bin/python3", "-m", "tests.audit.draw_day", str(log), "--seed", str(seed)]
+    words += ["--requests", "2", "--dealers", "2", "--investors", "1"]
+    words += ["--checkpoint", str(log.with_suffix(".checkpoint"))]
+    words += ["--sent", str(log.with_suffix(".sent")), "--", *venue]
+    subprocess.run(words, cwd=ROOT, check=True, timeout=LONG)
 
 
 def write_program(file: Path, text: str, venue: tuple[str, ...]) -> None:
@@ -127,7 +134,8 @@ def kept(
     made.given.mkdir()
     shutil.copyfile(drawn, made.log)
     write_program(made.given / "rfq_venue", TELLING, venue)
-    (made.given / (DATE + ".checkpoint")).write_text("the last one\n")
+    checkpoint = drawn.with_suffix(".checkpoint")
+    (made.given / checkpoint.name).write_bytes(checkpoint.read_bytes())
     made.write_sums()
     write_program(place / "program", QUIET, venue)
     (place / "gateway.pub").write_bytes(public_key())
@@ -335,6 +343,37 @@ def test_a_log_that_was_changed(kept: Place) -> None:
     assert not kept.seal.exists() and not kept.receipt.exists()
 
 
+def has_received(kept: Place, sent: Path) -> None:
+    """The keeper has what a gateway sent of this day, by another way than its log."""
+    (kept.folder / "received").mkdir()
+    shutil.copyfile(sent, kept.folder / "received" / ("day-%s.checkpoints" % DATE))
+    file = kept.folder / "keeper.toml"
+    file.write_text(file.read_text().replace("[seal]\n", '[seal]\ncheckpoints = "received"\n'))
+
+
+def test_what_was_received_is_kept_beside_the_seal(kept: Place, drawn: Path) -> None:
+    has_received(kept, drawn.with_suffix(".sent"))
+    assert kept.run() == Counts()
+    assert (kept.copy / ("received-day-%s.checkpoints" % DATE)).exists() and kept.seal.exists()
+    assert "checked     cut-off end: " in (kept.copy / "check.txt").read_text()
+
+
+def test_a_day_that_root_made_anew(kept: Place, drawn: Path, venue: tuple[str, ...]) -> None:
+    """With the real keys, so nothing is wrong in it: the keeper has received another day, and seals
+    neither.
+    """
+    made = kept.folder / "made.db"
+    draw(made, 2, venue)
+    shutil.copyfile(made, kept.log)
+    (kept.given / (DATE + ".checkpoint")).write_bytes(made.with_suffix(".checkpoint").read_bytes())
+    kept.write_sums()
+    has_received(kept, drawn.with_suffix(".sent"))
+    assert kept.run() == Counts(without_seal=1, at_fault=1)
+    said = (kept.copy / "check.txt").read_text()
+    assert "not the one that received-day-%s.checkpoints, line 2 has signed" % DATE in said
+    assert not kept.seal.exists() and not kept.receipt.exists()
+
+
 def test_another_day_than_the_sealed_one(kept: Place) -> None:
     """Whoever makes the day anew on the gateway's host is told of, and what was sealed stays."""
     kept.run()
@@ -371,13 +410,13 @@ def test_a_day_that_does_not_come(kept: Place) -> None:
 def test_nothing_is_mounted(kept: Place) -> None:
     """The whole command: status 1, and a line that names the place."""
     (kept.folder / "given").rename(kept.folder / "away")
-    words = [ROOT / "deploy" / "mireseason-keeper", kept.folder / "keeper.toml"]
+    words = [ROOT / "keeper" / "mireseason-keeper", kept.folder / "keeper.toml"]
     done = subprocess.run(words, capture_output=True, text=True, timeout=LONG, check=False)
     assert done.returncode == 1 and "given" in done.stderr, done.stderr
 
 
 def checked(kept: Place) -> "subprocess.CompletedProcess[str]":
-    program = ROOT / "deploy" / "mireseason-keeper"
+    program = ROOT / "keeper" / "mireseason-keeper"
     words = [str(program), "--check", str(kept.folder / "keeper.toml")]
     return subprocess.run(words, capture_output=True, text=True, timeout=LONG, check=False)
 
@@ -419,7 +458,7 @@ def week(stage: Stage, clock: Clock) -> Week:
     stage.door.write()
     file = stage.folder / "gateway.toml"
     copies = '[copies]\nfolder = "copies"\nsealed = "keeper/sealed"\nkeep = 1\n'
-    file.write_text(file.read_text().replace("day.db", "{date}.db") + DAYS + copies)
+    file.write_text(file.read_text().replace("day-{date}.db", "{date}.db") + DAYS + copies)
     (stage.folder / "copies").mkdir()
     keeper = stage.folder / "keeper"
     keeper.mkdir()
@@ -443,7 +482,7 @@ def test_no_log_goes_before_it_is_sealed(week: Week) -> None:
     week.wait_told('log is not removed date=%s cause="another log was sealed' % first.stem)
     until("both are copied", LONG, lambda: copy_of(week, 2).exists() and copy_of(week, 1).exists())
 
-    words = [str(ROOT / "deploy" / "mireseason-keeper"), str(keeper / "keeper.toml")]
+    words = [str(ROOT / "keeper" / "mireseason-keeper"), str(keeper / "keeper.toml")]
     environment = {**os.environ, **week.clock.environment}
     done = subprocess.run(
         words, env=environment, capture_output=True, text=True, timeout=LONG, check=False

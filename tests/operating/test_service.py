@@ -192,6 +192,52 @@ def test_a_change_for_tomorrow(stage_of_log: Stage) -> None:
     assert b"BONDB0000002" not in stage.door.ledger().entries[0].line
 
 
+YESTERDAY = (datetime.now(timezone.utc) - timedelta(days=1)).strftime("%Y%m%d")
+
+
+def becomes_a_folder(file: Path) -> None:
+    file.unlink()
+    file.mkdir()
+
+
+FILES_OF_TOMORROW: dict[str, Callable[[Path], object]] = {
+    "missing": Path.unlink,
+    "a folder": becomes_a_folder,
+    "of yesterday": lambda file: file.write_text('date = "%s"\n%s' % (YESTERDAY, VENUE)),
+    "without a firm": lambda file: file.write_text(VENUE.replace("INV1", "INV9")),
+}
+
+
+@pytest.mark.parametrize("which", FILES_OF_TOMORROW)
+def test_a_file_for_tomorrow_keeps_nobody_from_today(stage: Stage, which: str) -> None:
+    """A gateway that is killed comes back with what entry 0 has, whatever venue.toml is by now: also where a firm was taken out of it
+    whose credentials are still there."""
+    file = stage.folder / "venue.toml"
+    file.write_text(VENUE)
+    stage.open(*stage.firms)
+    stage.auction()
+    stage.door.kill()
+    FILES_OF_TOMORROW[which](file)
+    stage.door.start()
+    stage.door.wait_open()
+    until("all are back", LONG, lambda: all(firm.logged_on() for firm in stage.firms))
+    stage.auction()
+
+
+def test_each_day_needs_a_log_of_its_own(stage: Stage) -> None:
+    """A log's name without {date} is a fault at the first look, and no log is begun. With a date in venue.toml there is that day
+    alone, and the name will do."""
+    (stage.folder / "venue.toml").write_text(VENUE)
+    stage.door.write()
+    file = stage.folder / "gateway.toml"
+    file.write_text(file.read_text().replace("day-{date}.db", "day.db"))
+    stage.door.start()
+    assert stage.door.wait_end() == 1
+    words = stage.door.last_words()
+    assert "gateway.toml: line" in words and "sqlite" in words and "has no {date}" in words, words
+    assert not (stage.folder / "day.db").exists()
+
+
 def test_a_fault_for_tomorrow(stage_of_log: Stage) -> None:
     """It keeps nobody from today: a gateway that is killed comes back, tells the fault, and takes the file once it is right."""
     stage = stage_of_log
@@ -232,9 +278,11 @@ def credentials_that_others_read(folder: Path) -> Callable[[], object]:
 
 
 def log_that_others_read(folder: Path) -> Callable[[], object]:
-    file = folder / "day.db"
+    tomorrow = datetime.now(timezone.utc) + timedelta(days=1)
+    file = folder / tomorrow.strftime("day-%Y%m%d.db")
+    file.touch()
     file.chmod(0o644)
-    return lambda: file.chmod(0o640)
+    return file.unlink
 
 
 def key_that_is_away(folder: Path) -> Callable[[], object]:
@@ -250,7 +298,7 @@ FAULTS_OF_FILES: dict[str, tuple[Fault, str]] = {
         'gateway.toml: line %d: [day] zone = "Amerika": the tz database has no such zone',
     ),
     "credentials": (credentials_that_others_read, "credentials.toml: has the mode 0644"),
-    "log": (log_that_others_read, "day.db: has the mode 0644"),
+    "log": (log_that_others_read, ".db: has the mode 0644"),
     "key": (key_that_is_away, "keys/seal.key: No such file or directory"),
 }
 

@@ -12,7 +12,7 @@ from zoneinfo import ZoneInfo
 
 import pytest
 
-from tests.admin.desk import did, rows
+from tests.admin.operator import did, rows
 from tests.gateway.door import Programs
 from tests.gateway.firm import Firm
 from tests.gateway.ledger import read_ledger
@@ -55,7 +55,7 @@ class Week:
         (self.stage.folder / "venue.toml").write_text(VENUE)
         self.stage.door.write()
         file = self.stage.folder / "gateway.toml"
-        file.write_text(file.read_text().replace("day.db", "{date}.db") + RULES)
+        file.write_text(file.read_text().replace("day-{date}.db", "{date}.db") + RULES)
         (self.stage.folder / "holidays").write_text("%s  # of the test\n" % self.day(3).isoformat())
 
     def set_clock(self, day: date, at: time, seconds: float = 0) -> None:

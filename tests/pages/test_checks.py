@@ -10,9 +10,9 @@ import unittest
 from pathlib import Path
 
 from promises import FileReader
-from reading_list import cited_by, lines_of
+from reading_list import Declared, cited_by, declared_in, lines_of
 
-from page_checks.clauses import BEGIN, END, HEAD, check_clauses
+from page_checks.clauses import HEAD, check_clauses
 from page_checks.commands import check_commands
 from page_checks.links import check_links
 from page_checks.names import check_names
@@ -122,7 +122,7 @@ class Checks(unittest.TestCase):
 class Clauses(unittest.TestCase):
     """The table of clauses names what there is."""
 
-    def found(self, *carried: str) -> list[str]:
+    def found(self, *carried: str, head: str = HEAD) -> list[str]:
         """What is found of rows that say what carries them, over a crate of one law and one type."""
         source = (
             "pub fn prices_rise()\n    ensures twice { true }\n{}\n\nimpl Desk {\n"
@@ -138,7 +138,7 @@ class Clauses(unittest.TestCase):
             )
             (root / "crates/desk/src/desk.rt").write_text(source, encoding="utf-8")
             rows = [f"| prices rise | {words} |" for words in carried]
-            page = "\n".join([BEGIN, "", HEAD, "|---|---|", *rows, "", END, ""])
+            page = "\n".join(["# Laws", "", head, "|---|---|", *rows, "", "| no row |", ""])
             (root / "docs/PROOFS.md").write_text(page, encoding="utf-8")
             return [finding.text for finding in check_clauses(root).findings]
 
@@ -156,6 +156,27 @@ class Clauses(unittest.TestCase):
         self.assertEqual(self.found("`desk::Desk::ask`"), ["desk::Desk::ask ensures nothing"])
         self.assertEqual(self.found("`room::prices_rise`"), ["there is no crate room"])
         self.assertEqual(self.found(""), ["nothing carries this sentence"])
+        self.assertEqual(self.found(" | at days"), ["nothing carries this sentence"])
+
+    def test_all_functions_that_begin_so(self) -> None:
+        """A star: each function has the clause, and there is one."""
+        self.assertEqual(self.found("`desk::prices_*` (`twice`)"), [])
+        self.assertEqual(self.found("`desk::Desk::*`"), ["desk::Desk::ask ensures nothing"])
+        self.assertEqual(
+            self.found("`desk::prices_*` (`once`)"), ["desk::prices_rise has no clause once"]
+        )
+        self.assertEqual(self.found("`desk::no*`"), ["desk gives out no no*"])
+
+    def test_other_tables(self) -> None:
+        """A further column, and a table with another head: its clauses are looked at, too."""
+        further = HEAD + " where it ends |"
+        found = self.found("`desk::prices_rise` | at `desk::x`", head=further)
+        self.assertEqual(found, ["desk gives out no x"])
+        self.assertEqual(self.found("", head="| file | has |"), [])
+        self.assertEqual(
+            self.found("`desk::prices_rise` (`once`)", head="| file | has |"),
+            ["desk::prices_rise has no clause once"],
+        )
 
 
 class Written(unittest.TestCase):
@@ -189,6 +210,14 @@ class Written(unittest.TestCase):
         )
         self.assertEqual(cited_by(text, "(row : ℕ) → row"), [])
         self.assertEqual(lines_of("-- a comment\nuse A.{b}\n\nabbrev pub one : ℕ\none = 1\n"), 2)
+        spec = (
+            "use Rattle.low.specs.declared.rows.Row.{Row}\n"
+            "use Rattle.low.specs.declared.rows.Row.TheVariants as rows\n"
+            "use Rattle.low.specs.declared.limits.TheConstants.Rows.{MOST}\n"
+        )
+        self.assertEqual(
+            declared_in([spec]), {Declared("low", "rows", "Row"), Declared("low", "limits", "MOST")}
+        )
 
 
 if __name__ == "__main__":

@@ -1,4 +1,5 @@
-"""What tests/run.sh counts: passed, failed, skipped with the reason, and unsteady, of reports as pytest and ctest write them."""
+"""What tests/run.sh counts: passed, failed, skipped with the reason, and unsteady, of reports as pytest and ctest write them;
+and which of several workers tries what."""
 
 import os
 import subprocess
@@ -10,6 +11,7 @@ import pytest
 
 from tests.harness.options import ROOT
 from tests.harness.reports import counted
+from tests.harness.side_by_side import longest_first
 
 PYTEST = """<testsuites><testsuite>
 <testcase classname="a" name="good"/>
@@ -45,6 +47,11 @@ ALWAYS = "def test_always():\n    assert False\n"
 GOOD = "def test_good():\n    assert True\n"
 
 
+# All tests of a file in one group, whose name the workers' plugin puts behind theirs.
+GROUP = "import pytest\npytestmark = pytest.mark.xdist_group('together')\n"
+SIDE_BY_SIDE = ("-n", "2", "--dist", "loadgroup")
+
+
 def first(name: str) -> str:
     return FIRST % (name, name, name)
 
@@ -69,16 +76,66 @@ def of_a_class(test: str) -> str:
 )  # fmt: skip
 def test_who_fails_once(place: Path, tests: str, status: int, lines: list[str]) -> None:
     """A few tests that fail are tried once more; where all of them pass then, they are unsteady, and else failed."""
+    assert tried_twice(place, tests) == (status, lines)
+
+
+def test_who_fails_once_among_others(place: Path) -> None:
+    """What failed on one of several workers, in a group, is tried again under its own name."""
+    tests = GROUP + first("a") + of_a_class(first("b"))
+    unsteady = ["unsteady test_drawn.TestIt::test_b", "unsteady test_drawn::test_a"]
+    assert tried_twice(place, tests, *SIDE_BY_SIDE) == (0, ["0 0", *unsteady])
+
+
+def tried_twice(place: Path, tests: str, *workers: str) -> tuple[int, list[str]]:
+    """The status of twice.py, and what is counted of its report."""
     (place / "test_drawn.py").write_text(tests)
-    words = ["test_drawn.py", "-c", os.devnull, "--rootdir", str(place), "-p", "no:cacheprovider"]
     report = place / "report.xml"
-    done = subprocess.run(
-        [sys.executable, "-m", "tests.harness.twice", *words]
-        + ["--junitxml", str(report), "-o", "junit_family=xunit1"],
+    done = run(place, "tests.harness.twice", "--junitxml", str(report), *workers)
+    print(done.stdout)
+    count, *lines = counted([report]).lines()
+    return done.returncode, [count, *sorted(lines)]
+
+
+def run(place: Path, module: str, *words: str) -> "subprocess.CompletedProcess[str]":
+    """Tries test_drawn.py, without the settings of this tree."""
+    usual = ["-c", os.devnull, "--rootdir", str(place), "-p", "no:cacheprovider"]
+    return subprocess.run(
+        [sys.executable, "-m", module, "test_drawn.py", *usual, *words]
+        + ["-o", "junit_family=xunit1"],
         cwd=place,
         env={**os.environ, "PYTHONPATH": str(ROOT)},
         stdout=subprocess.PIPE,
         stderr=subprocess.STDOUT,
+        text=True,
         check=False,
     )
-    assert (done.returncode, counted([report]).lines()) == (status, lines), done.stdout.decode()
+
+
+MADE = """
+import os, pytest
+
+@pytest.fixture(scope="%s")
+def made():
+    open("made", "a").write("made\\n")
+
+@pytest.mark.parametrize("number", range(6))
+def test_it(made, number):
+    assert "PYTEST_XDIST_WORKER" in os.environ
+"""
+
+
+@pytest.mark.parametrize(("scope", "times"), [("module", 1), ("session", 2)])
+def test_a_fixture_of_a_module_is_made_once(place: Path, scope: str, times: int) -> None:
+    """Its tests stay on one worker; those that take a fixture of the session are on all."""
+    (place / "test_drawn.py").write_text(MADE % scope)
+    done = run(place, "pytest", *SIDE_BY_SIDE, "-p", "tests.harness.side_by_side")
+    assert "6 passed" in done.stdout, done.stdout
+    assert (place / "made").read_text().count("made") == times
+
+
+def test_the_longest_is_begun_first(request: pytest.FixtureRequest) -> None:
+    """None is lost, and of the others each stays where it was."""
+    items = request.session.items
+    found = longest_first(items, {request.node.nodeid: 1e6})
+    assert found[0] is request.node
+    assert sorted(map(id, found)) == sorted(map(id, items))

@@ -151,6 +151,9 @@ def test_postgres(machine: Machine) -> None:
         if role != "reader":
             told = connected(machine, ATTACKER, words + " sslmode=require", secret)
             assert "requires a valid client certificate" in told, told
+        else:  # only a host for readers lets one in
+            told = connected(machine, ATTACKER, words + " sslmode=require", secret)
+            assert "no pg_hba.conf entry" in told, told
     folder = machine.folder / "db2" / "tls"
     own = "sslmode=verify-full sslrootcert=%s sslcert=%s sslkey=%s" % (
         folder / "authority.pem",
@@ -181,7 +184,7 @@ def test_the_keeper(machine: Machine, place: Path) -> None:
         (folder / name).touch()
     with (folder / "keeper.toml").open("a") as file:
         file.write('[audit]\ncommand = ["%s"]\n' % (ROOT / "audit" / "mireseason-audit"))
-    words = [str(ROOT / "deploy" / "mireseason-keeper"), str(folder / "keeper.toml")]
+    words = [str(ROOT / "keeper" / "mireseason-keeper"), str(folder / "keeper.toml")]
     checked = on(machine, COPIES.name, *words, "--check")
     assert checked.returncode == 0, checked.stdout + checked.stderr
     done = on(machine, COPIES.name, *words)

@@ -1,4 +1,4 @@
-"""What an operator does to database hosts, as deploy/README.md says it: one is taken out and in,
+"""What an operator does to database hosts, as install/hosts/README.md says it: one is taken out and in,
 the primary by a switch to its standby, and one whose disk is lost is replaced.
 """
 

@@ -1,4 +1,4 @@
-"""The second implementation's calls, as gateway/session/fix_sessions.h has them."""
+"""The second implementation's calls, as gateway/src/session/fix_sessions.h has them."""
 
 import ctypes
 from dataclasses import dataclass
@@ -6,7 +6,7 @@ from pathlib import Path
 
 MOST_OUT = 3 * 4096  # bytes of a turn
 FIRM, VENUE, DATE = b"DLR1", b"VENUE", b"20250314"
-ORDERS = ("open", "close", "suspend", "release", "reset")
+ORDERS = ("open", "close", "suspend", "resume", "release", "reset")
 
 
 def numbers(names: str) -> list[tuple[str, type[ctypes.c_uint64]]]:

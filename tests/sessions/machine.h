@@ -45,7 +45,7 @@ struct Question {
 
 class Machine {
   public:
-    enum class Order : std::uint32_t { Open, Close, Suspend, Release, Reset };
+    enum class Order : std::uint32_t { Open, Close, Suspend, Resume, Release, Reset };
 
     explicit Machine(const Names &names = Names());
 

@@ -98,7 +98,7 @@ class Day {
             venue.open();
         }
         if (venue.is_suspended() && now() >= suspended_until_) {
-            venue.release();
+            venue.resume();
         }
         happen(world_.draw(1000));
         if (now() >= frozen_until_) {
@@ -162,7 +162,7 @@ class Day {
     std::string end() {
         world_.settle_down();
         world_.venue().open();
-        world_.venue().release();
+        world_.venue().resume();
         world_.run(120000);
         for (int i = 0; i < 5 && !(world_.venue().is_idle() && world_.firm().is_logged_on()); ++i) {
             world_.run(7000);

@@ -11,11 +11,10 @@ from tests.harness.options import ROOT
 from tests.sessions.case_file import cases_of
 from tests.sessions.crossing import REFUSED, Crossing
 from tests.sessions.desk import Desk
+from tests.sessions.second import HEADER, model_sources
 
 CASES = ROOT / "crates" / "session_cases" / "data"
 WIRE_CASES = ROOT / "crates" / "wire_cases" / "data"
-HEADER = ROOT / "gateway" / "session"
-MODEL = ROOT / "gateway" / "session_model"
 FORM = (
     "g++ -std=c++20 -O1 -Wall -Wextra -Werror -DSESSION_PREFIX=model_ -I %s -shared -fPIC"
     " -o {out} {sources}" % HEADER
@@ -26,7 +25,7 @@ FORM = (
 def library() -> Path:
     """The second implementation, as a library that a program opens."""
     header = hashlib.sha256((HEADER / "fix_sessions.h").read_bytes()).hexdigest()[:16]
-    return build.compiled("session-model-%s.so" % header, FORM, sorted(MODEL.glob("*.cpp")))
+    return build.compiled("session-model-%s.so" % header, FORM, model_sources())
 
 
 @pytest.mark.parametrize("name", sorted(path.stem for path in CASES.glob("*.cases")))

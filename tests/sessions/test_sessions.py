@@ -9,10 +9,9 @@ import pytest
 
 from tests.harness import build
 from tests.harness.options import ROOT, Form
+from tests.sessions.second import HEADER, model_sources
 
 HERE = Path(__file__).resolve().parent
-HEADER = ROOT / "gateway" / "session"
-MODEL = ROOT / "gateway" / "session_model"
 LIBRARY = ROOT / "crates" / "fix_sessions_c" / "out" / "libfix_sessions_c.a"
 KINDS: dict[str, list[str]] = {
     "plain": [],
@@ -61,7 +60,7 @@ def part(name: str, form: str, sources: list[Path]) -> Path:
 
 def program(name: str, own: Path, libraries: str) -> Path:
     """A program over the second implementation, and over the proved library where it is built."""
-    model = part("model", MODEL_PART, sorted(MODEL.glob("*.cpp")))
+    model = part("model", MODEL_PART, model_sources())
     proved, define = "", ""
     if has_proved():
         name = "%s-%s" % (name, hashlib.sha256(LIBRARY.read_bytes()).hexdigest()[:16])

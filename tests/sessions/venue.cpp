@@ -250,8 +250,8 @@ void Venue::suspend() {
     act(machine_.ordered(Machine::Order::Suspend), true);
 }
 
-void Venue::release() {
-    act(machine_.ordered(Machine::Order::Release), true);
+void Venue::resume() {
+    act(machine_.ordered(Machine::Order::Resume), true);
 }
 
 void Venue::log_out() {

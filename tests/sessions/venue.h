@@ -72,7 +72,7 @@ class Venue {
 
     void open();
     void suspend();
-    void release();
+    void resume();
     // The gateway logs the firm out.
     void log_out();
     // An operator's reset: what the firm is not known to have gets new numbers.

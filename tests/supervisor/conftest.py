@@ -8,12 +8,14 @@ from pathlib import Path
 import pytest
 
 from tests.audit.common import Ran, audit
+from tests.harness.build import made_once
 from tests.supervisor.exported import Exported, read_export
 from tests.supervisor.sheet import Sheet, read_sheet
 
 HERE = Path(__file__).resolve().parent
 STORED = HERE.parent / "audit" / "stored" / "day.db"
 DRAWN_REQUESTS = 2000
+LOG = "day.db"
 
 Audit = Callable[..., Ran]
 
@@ -35,27 +37,28 @@ def sheet() -> Sheet:
 
 
 @pytest.fixture(scope="session")
-def stored(run: Audit, tmp_path_factory: pytest.TempPathFactory) -> Exported:
+def stored(run: Audit, shared: Path) -> Exported:
     """The export of the stored day."""
-    return exported(run, STORED, tmp_path_factory.mktemp("stored"), "csv")
+    return csv_once(run, STORED, shared / "stored")
 
 
 @pytest.fixture(scope="session")
-def drawn_log(venue: tuple[str, ...], seed: int, tmp_path_factory: pytest.TempPathFactory) -> Path:
+def drawn_log(venue: tuple[str, ...], seed: int, shared: Path) -> Path:
     """The log of a drawn day of 2,000 requests."""
-    return draw(tmp_path_factory.mktemp("drawn") / "day.db", DRAWN_REQUESTS, seed, venue)
+    place = shared / "drawn"
+    return made_once(place, lambda fresh: draw(fresh / LOG, DRAWN_REQUESTS, seed, venue)) / LOG
 
 
 @pytest.fixture(scope="session")
-def short_log(venue: tuple[str, ...], seed: int, tmp_path_factory: pytest.TempPathFactory) -> Path:
+def short_log(venue: tuple[str, ...], seed: int, shared: Path) -> Path:
     """The log of a drawn day of 60 requests."""
-    return draw(tmp_path_factory.mktemp("short") / "day.db", 60, seed, venue)
+    return made_once(shared / "short", lambda fresh: draw(fresh / LOG, 60, seed, venue)) / LOG
 
 
 @pytest.fixture(scope="session")
-def drawn(run: Audit, drawn_log: Path, tmp_path_factory: pytest.TempPathFactory) -> Exported:
+def drawn(run: Audit, drawn_log: Path, shared: Path) -> Exported:
     """The export of the drawn day."""
-    return exported(run, drawn_log, tmp_path_factory.mktemp("drawn-export"), "csv")
+    return csv_once(run, drawn_log, shared / "drawn-export")
 
 
 def draw(path: Path, requests: int, seed: int, venue: tuple[str, ...], *more: str) -> Path:
@@ -66,8 +69,18 @@ def draw(path: Path, requests: int, seed: int, venue: tuple[str, ...], *more: st
     return path
 
 
+def write_export(run: Audit, log: Path, folder: Path, form: str) -> None:
+    ran = run("export", log, folder, "--" + form)
+    assert ran.status == 0, ran.text
+
+
 def exported(run: Audit, log: Path, place: Path, form: str) -> Exported:
     """An export, read back."""
-    ran = run("export", log, place / form, "--" + form)
-    assert ran.status == 0, ran.text
+    write_export(run, log, place / form, form)
     return read_export(place / form, form)
+
+
+def csv_once(run: Audit, log: Path, place: Path) -> Exported:
+    """An export that is made once for all workers, read back."""
+    made_once(place, lambda fresh: write_export(run, log, fresh / "csv", "csv"))
+    return read_export(place / "csv", "csv")

@@ -12,7 +12,7 @@ import pytest
 from hypothesis import example, given, settings
 from hypothesis import strategies as st
 
-from mireseason_audit.tables import Column, Form, Table, cell_of, table_text
+from mireseason_audit.tables import Column, Form, Table, cell_of, table_text, text_in
 from tests.audit.witness import Witness
 from tests.supervisor.conftest import STORED, Audit, exported
 from tests.supervisor.exported import Exported, read_csv
@@ -190,7 +190,8 @@ def test_a_log_that_was_changed_is_not_exported(
         ran = run(*words)
         assert ran.status == 1, ran.text
         assert "ALPHA: entry" in ran.out and "verdict: " in ran.out
-        assert "trades" not in ran.out
+        # The verdict has a line of that name; a day's trades may not stand behind it.
+        assert "trades" not in ran.out.replace("reasons and trades", "")
     assert not list((tmp_path / "csv").iterdir()) and not list((tmp_path / "own").iterdir())
 
 
@@ -250,7 +251,7 @@ def test_no_cell_is_a_formula(tmp_path_factory: pytest.TempPathFactory, texts: l
     path.write_text(table_text(WORDS, texts, Form.CSV), encoding="utf-8", newline="")
     with path.open(newline="", encoding="utf-8") as file:
         cells = [row["text"] for row in csv.DictReader(file)]
-    assert [cell.removeprefix("'") for cell in cells if cell] == [text for text in texts if text]
+    assert [text_in(cell) for cell in cells if cell] == [text for text in texts if text]
     assert not [cell for cell in cells if cell.startswith(BEGINNINGS)]
 
 

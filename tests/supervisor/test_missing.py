@@ -6,7 +6,7 @@ from pathlib import Path
 
 import pytest
 
-from tests.audit.common import AUDIT, audit
+from tests.audit.common import AUDIT, audit, keys
 from tests.supervisor.conftest import STORED
 
 WITHOUT = 'raise ModuleNotFoundError("No module named %r", name=%r)\n'
@@ -42,12 +42,14 @@ def test_a_package(
         (["page", STORED, "DIR", "--sign", "nothing.pem"], "nothing.pem"),
         (["record", STORED, "DIR"], "say which record: --rts24"),
         (["record", STORED, "DIR", "--rts24", "--parties", "no.toml"], "name a file by --parties"),
-        (["stats", STORED, "--key", "nothing.pub"], "day.db.seal"),
+        (["stats", STORED, "--key", "nothing.pub"], "the public key nothing.pub"),
+        (["stats", STORED, "--key", "KEY"], "day.db.seal"),
     ],
 )
 def test_a_word_or_a_file(tmp_path: Path, words: list[object], told: str) -> None:
-    named = [str(tmp_path / "DIR" if word == "DIR" else word) for word in words]
-    command = [str(AUDIT), *named]
+    _, key = keys(tmp_path)
+    places: dict[object, object] = {"DIR": tmp_path / "DIR", "KEY": key}
+    command = [str(AUDIT), *[str(places.get(word, word)) for word in words]]
     done = subprocess.run(command, capture_output=True, text=True, check=False, cwd=tmp_path)
     assert (done.returncode, done.stdout, done.stderr.count("\n")) == (2, "", 1), done.stderr
     assert told in done.stderr

@@ -2,11 +2,13 @@
 
 import json
 import re
+from collections.abc import Iterator
 from html import unescape
 from pathlib import Path
 
 import pytest
 
+from tests.audit.draw_day import BONDS, name_of
 from tests.audit.pages import Element, read_page, rows_of, table_behind
 from tests.audit.witness import thirty_seconds
 from tests.harness.browser import Browser
@@ -148,12 +150,31 @@ def test_a_request_names_its_trade_and_a_lapsed_cover(pages: Path, sheet: Sheet)
         assert ("cover was %s" % trade.cover in outcome) == bool(trade.cover)
 
 
-@pytest.mark.parametrize("more", [(), ("--in-32nds",)])
+MESSAGES = ("code", "pre", "article")  # what a firm or the venue said, as it was
+
+
+def unnamed_in(element: Element) -> Iterator[str]:
+    """Each text with a bond's identifier and not its name beside it. A plot's rows have no room."""
+    own = "".join(child for child in element.children if isinstance(child, str))
+    for bond in BONDS:
+        if bond in own and bond + " " + name_of(bond) not in element.text:
+            yield element.text
+    for child in element.children:
+        if isinstance(child, Element) and child.name not in (*MESSAGES, "svg", "script"):
+            yield from unnamed_in(child)
+
+
+@pytest.mark.parametrize("more", [("--named",), ("--in-32nds",)])
 def test_32nds_are_shown_of_bonds_that_are_quoted_so(
     run: Audit, venue: tuple[str, ...], seed: int, tmp_path: Path, more: tuple[str, ...]
 ) -> None:
+    """And the names of those that have one, on each page beside the identifier."""
     log = draw(tmp_path / "day.db", 12, seed, venue, *more)
     assert run("page", log, tmp_path / "pages").status == 0
+    if more == ("--named",):
+        for path in (tmp_path / "pages").rglob("*.html"):
+            assert not list(unnamed_in(read_page(path))), path
+        more = ()
     shown = [
         one
         for path in (tmp_path / "pages" / "requests").iterdir()

@@ -16,6 +16,7 @@ from tests.supervisor.exported import Exported
 from tests.supervisor.figures import Figures, Tally, read_figures
 from tests.supervisor.second_way import SecondWay, differing
 from tests.supervisor.sheet import Sheet
+from tests.supervisor.sheet_of_day import differences, read_day
 
 DATE = "20261125"
 
@@ -105,6 +106,25 @@ def test_a_drawn_day_has_the_same_figures_by_sql(
     for name in ("requests", "silent", "covers_lapsed", "not_best", "fades", "lapsed"):
         value = day[name]
         assert value is not None and value > 0, name
+
+
+def test_the_script_reads_what_a_person_read(sheet: Sheet) -> None:
+    """The script by which other days are read, on the day that was read by hand."""
+    fades = sorted(read_day(STORED, DATE).sheet.fades, key=lambda fade: fade.entry)
+    assert fades == sheet.fades  # the person noted them by their entries
+    one, other = Tally(read_day(STORED, DATE).sheet, DATE), Tally(sheet, DATE)
+    assert {key: one.figures(key) for key in other.keys()} == {
+        key: other.figures(key) for key in other.keys()
+    }
+
+
+@pytest.mark.draws(short=2, long=50)
+def test_a_day_has_the_figures_of_its_messages(
+    run: Audit, venue: tuple[str, ...], tmp_path: Path, drawn: int
+) -> None:
+    """Each figure of `stats`, by a script that reads the messages alone."""
+    log = draw(tmp_path / "day.db", 50, drawn, venue)
+    assert not differences(read_day(log, DATE), figures_of(run, log))
 
 
 def test_currencies_are_not_added(

@@ -99,7 +99,7 @@ def test_an_investors_own_file(run: Audit, tmp_path: Path, sheet: Sheet) -> None
     """Request 8 of the sheet: FJORD hit 99.47265625 where 99.49609375 stood, in entry 65."""
     ran = run("export", STORED, tmp_path / "own", "--json", "--for", "FJORD")
     assert ran.status == 0, ran.text
-    (path,) = (tmp_path / "own").iterdir()
+    path = tmp_path / "own" / "best-execution.json"
     rows = json.loads(path.read_text())
     eighth = [row for row in rows if row["request"] == "F-050"]
     columns = ("dealer", "answer", "quote", "price", "gone", "hit", "from_best", "from_cover")

@@ -218,9 +218,9 @@ void EventDay::hand_anything() {
 
 void EventDay::order() {
     const Machine::Order order =
-        draw_.one_of({Machine::Order::Open, Machine::Order::Open, Machine::Order::Release,
-                      Machine::Order::Release, Machine::Order::Close, Machine::Order::Suspend,
-                      Machine::Order::Reset});
+        draw_.one_of({Machine::Order::Open, Machine::Order::Open, Machine::Order::Resume,
+                      Machine::Order::Resume, Machine::Order::Release, Machine::Order::Release,
+                      Machine::Order::Close, Machine::Order::Suspend, Machine::Order::Reset});
     std::uint64_t copies = 0;
     if (order == Machine::Order::Reset) {
         std::map<std::uint64_t, Kept> left;

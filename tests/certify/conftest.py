@@ -1,0 +1,30 @@
+"""The programs that stand behind a certification."""
+
+import os
+from pathlib import Path
+
+import pytest
+from mireseason_certify.own_venue import Programs
+
+from tests.harness.build import built
+from tests.harness.options import Form
+
+
+@pytest.fixture(scope="session")
+def programs(gateway_program: Path, venue: tuple[str, ...]) -> Programs:
+    """The gateway and the operator's command beside it, and the venue's program."""
+    admin = gateway_program.with_name("mireseason-admin")
+    assert admin.exists(), "there is no %s beside the gateway" % admin
+    return Programs(gateway_program.resolve(), admin.resolve(), venue)
+
+
+@pytest.fixture
+def is_long(form: Form) -> bool:
+    """Whether each wrong desk is tried with every case."""
+    return form is Form.LONG
+
+
+@pytest.fixture(scope="session")
+def desk_program() -> Path:
+    """The desk that DESK names, or that of desk/out, built as it stands there."""
+    return Path(os.environ["DESK"]) if "DESK" in os.environ else built("desk", "mireseason-desk")

@@ -1,0 +1,70 @@
+"""What a firm asks for first holds of the model on drawn days, and a wrong venue is found by its law."""
+
+import itertools
+
+import pytest
+
+from tests.model.days import Day, Draw
+from tests.model.firm_laws import broken
+from tests.model.presence import pair_of, told_apart
+from tests.model.wrong_venues import WRONG, planted
+
+MOST_DAYS = 300
+PRESENCE = "full_books_close_later"  # it breaks no law of one day: two have to be compared
+
+# Each wrong venue, the law that finds it, and a day on which it did.
+FOUND = [
+    ("drops_say_withdrawn", "withdrawn", 8),
+    ("refused_hits_are_not_answered", "responses", 0),
+    ("passes_are_not_answered", "responses", 6),
+    ("posts_are_not_relayed", "quotes", 0),
+    ("sweeps_leave_rooms_open", "overdue", 86),
+    ("investors_count_all_trades", "names", 2),
+    ("answers_are_late", "times", 2),
+    ("cancels_of_all_take_one_quote", "messages", 6),
+    ("expiries_are_told_twice", "quotes", 0),
+    ("declines_are_not_told", "quotes", 2),
+]
+
+
+@pytest.mark.draws(short=40, long=1000)
+def test_laws_hold(drawn: int) -> None:
+    assert not broken(Day(Draw(drawn)))
+
+
+@pytest.mark.parametrize(("wrong", "law", "first"), FOUND, ids=[wrong for wrong, _, _ in FOUND])
+def test_wrong_venues_are_found(wrong: str, law: str, first: int) -> None:
+    """On the day that is named, or on another one where the draws have changed."""
+    with planted(wrong):
+        for seed in itertools.chain([first], range(MOST_DAYS)):
+            if law in broken(Day(Draw(seed))):
+                return
+    pytest.fail("no day of %d breaks the law" % MOST_DAYS)
+
+
+@pytest.mark.draws(short=40, long=1000)
+def test_presence_is_not_told(drawn: int) -> None:
+    """What the other dealers do, with the same hits awarded, tells a dealer nothing but the cover."""
+    found = pair_of(drawn)
+    if found is not None:
+        assert told_apart(*found) is None
+
+
+def test_drawn_days_make_pairs() -> None:
+    """Or the test above would look at nothing."""
+    found = [pair_of(seed) for seed in range(20)]
+    assert any(pair is not None and pair[1][0].awards for pair in found)
+
+
+def test_told_presence_is_found() -> None:
+    """A venue whose notices are later where more quotes stood is told apart."""
+    with planted(PRESENCE):
+        for seed in itertools.chain([84], range(MOST_DAYS)):
+            found = pair_of(seed)
+            if found is not None and told_apart(*found):
+                return
+    pytest.fail("no pair of %d is told apart" % MOST_DAYS)
+
+
+def test_each_wrong_venue_has_its_law() -> None:
+    assert {wrong for wrong, _, _ in FOUND} | {PRESENCE} == set(WRONG)

@@ -1,0 +1,176 @@
+"""Wrong programs that keep the laws of isolation and of a trade's two sides: each tells a firm a lie, nothing, or too much.
+
+Each is planted in the model for the time of a `with`.
+"""
+
+from __future__ import annotations
+
+from collections.abc import Callable, Iterator
+from contextlib import contextmanager
+from typing import Any
+
+from .dealer import DealerDesk
+from .desk import Desk, Duty, Trade
+from .investor import InvestorDesk
+from .replay import Venue
+from .room import Room
+from .watched import WatchedVenue
+
+Planted = tuple[type, str, Callable[..., Any]]
+
+
+def drops_say_withdrawn() -> Planted:
+    """A drop that finds its quote lifted says that it is withdrawn."""
+
+    def drop(desk: DealerDesk, last: int, moment: int) -> list[Duty]:
+        quotes = [quote for quote in desk.quotes if quote.is_droppable() and quote.q <= last]
+        if not quotes:
+            return []
+        lifted = desk.found_lifted(quotes[0], "withdrawn")
+        desk.send(moment, b"AI", [(117, quotes[0].id), (297, b"17")])
+        duties: list[Duty] = []
+        if not lifted:
+            duties.append(("Unpost", quotes[0].request.room, quotes[0].q, moment))
+        return duties + ([("Drop", last, moment)] if len(quotes) > 1 else [])
+
+    return DealerDesk, "drop", drop
+
+
+def refused_hits_are_not_answered() -> Planted:
+    """A hit that is refused leads to nothing."""
+    right = WatchedVenue.do_hit
+
+    def do_hit(venue: WatchedVenue, *hit: Any) -> list[Duty]:
+        duties = right(venue, *hit)
+        return duties if len(duties) > 1 else []
+
+    return WatchedVenue, "do_hit", do_hit
+
+
+def passes_are_not_answered() -> Planted:
+    right = Venue.do_pass
+
+    def do_pass(venue: Venue, *response: Any) -> list[Duty]:
+        return [duty for duty in right(venue, *response) if duty[0] != "Answer"]
+
+    return Venue, "do_pass", do_pass
+
+
+def posts_are_not_relayed() -> Planted:
+    """A quote stands in its room, and its investor is not shown it."""
+    right = Venue.do_post
+
+    def do_post(venue: Venue, *post: Any) -> list[Duty]:
+        right(venue, *post)
+        return []
+
+    return Venue, "do_post", do_post
+
+
+def sweeps_leave_rooms_open() -> Planted:
+    """A sweep passes over a room with more than one quote."""
+    right = Room.expire
+
+    def expire(room: Room, moment: int) -> bool:
+        return len(room.book) < 2 and right(room, moment)
+
+    return Room, "expire", expire
+
+
+def investors_count_all_trades() -> Planted:
+    """An investor's count in a trade's name runs over all dealers."""
+
+    def note_line(desk: Desk, number: int) -> bytes | None:
+        note = desk.notes[number - 1]
+        if not isinstance(note, Trade):
+            return None
+        k = sum(isinstance(other, Trade) for other in desk.notes[:number])
+        name = b"-".join([desk.date, *desk.sides(note.other), b"%d" % k])
+        return b"trade %s %d %s" % (desk.row.name, number, name)
+
+    return InvestorDesk, "note_line", note_line
+
+
+def answers_are_late() -> Planted:
+    """An answer bears another moment than the notice of its trade."""
+    right = Venue.do_answer
+
+    def do_answer(
+        venue: Venue, investor: int, room: Any, response: Any, reply: str, moment: int
+    ) -> None:
+        right(venue, investor, room, response, reply, moment + 1)
+
+    return Venue, "do_answer", do_answer
+
+
+def full_books_close_later() -> Planted:
+    """A closing notice bears a later moment where more than three quotes stood in the book."""
+    right = Venue.notices
+
+    def notices(venue: Venue, room: tuple[int, int], moment: int) -> list[Duty]:
+        return right(venue, room, moment + (len(venue.room(room).book) > 3))
+
+    return Venue, "notices", notices
+
+
+def cancels_of_all_take_one_quote() -> Planted:
+    """A cancel of all stops behind its first quote."""
+    right = DealerDesk.drop
+
+    def drop(desk: DealerDesk, last: int, moment: int) -> list[Duty]:
+        return [duty for duty in right(desk, last, moment) if duty[0] != "Drop"]
+
+    return DealerDesk, "drop", drop
+
+
+def expiries_are_told_twice() -> Planted:
+    right = Venue.do_close
+
+    def do_close(venue: Venue, *close: Any) -> None:
+        right(venue, *close)
+        right(venue, *close)
+
+    return Venue, "do_close", do_close
+
+
+def declines_are_not_told() -> Planted:
+    """A decline is noted in its room, and its investor is not told."""
+
+    def do_decline(_venue: Venue, *_decline: Any) -> list[Duty]:
+        return []
+
+    return Venue, "do_decline", do_decline
+
+
+WRONG: dict[str, Callable[[], Planted]] = {
+    make.__name__: make
+    for make in (
+        drops_say_withdrawn,
+        refused_hits_are_not_answered,
+        passes_are_not_answered,
+        posts_are_not_relayed,
+        sweeps_leave_rooms_open,
+        investors_count_all_trades,
+        answers_are_late,
+        full_books_close_later,
+        cancels_of_all_take_one_quote,
+        expiries_are_told_twice,
+        declines_are_not_told,
+    )
+}
+
+
+@contextmanager
+def planted(name: str) -> Iterator[None]:
+    """The wrong program of this name stands in the model's place."""
+    owner, method, wrong = WRONG[name]()
+    had = method in owner.__dict__
+    right = getattr(owner, method)
+    setattr(owner, method, wrong)
+    try:
+        yield
+    finally:
+        if had:
+            setattr(owner, method, right)
+        else:
+            delattr(owner, method)

@@ -1,0 +1,38 @@
+"""Which changes are not drawn, and which passed every test and are no mistake: left_out.toml has them with reasons."""
+
+import re
+import tomllib
+from dataclasses import dataclass
+from pathlib import Path
+
+from tests.mutants.drawn.change import Change
+
+FILE = Path(__file__).with_name("left_out.toml")
+
+
+@dataclass(frozen=True)
+class LeftOut:
+    """The two lists."""
+
+    lines: list[re.Pattern[str]]
+    equal: frozenset[tuple[str, str, str]]  # a file, what stood there, and what stands there then
+
+    def has(self, change: Change, text: bytes) -> bool:
+        line = text.splitlines()[change.line - 1].decode(errors="replace")
+        return any(pattern.search(line) for pattern in self.lines)
+
+    def is_equal(self, change: Change, text: bytes) -> bool:
+        old = " ".join(text[change.start : change.end].decode().split())
+        return (change.file, old, " ".join(change.new.split())) in self.equal
+
+
+def read_left_out(file: Path = FILE) -> LeftOut:
+    """Each entry has its reason, else KeyError."""
+    told = tomllib.loads(file.read_text())
+    for entry in [*told.get("line", []), *told.get("equal", [])]:
+        assert entry["why"], entry
+    lines = [re.compile(entry["has"]) for entry in told.get("line", [])]
+    equal = frozenset(
+        (entry["file"], entry["old"], entry["new"]) for entry in told.get("equal", [])
+    )
+    return LeftOut(lines, equal)

@@ -1,0 +1,115 @@
+"""The parts of the tree in which mistakes are made, and the tests that may see them."""
+
+import json
+import shlex
+from dataclasses import dataclass
+from pathlib import Path
+
+from tests.harness.options import ROOT
+from tests.mutants.drawn.change import Change
+from tests.mutants.drawn.cpp_changes import cpp_changes
+from tests.mutants.drawn.javascript_changes import javascript_changes
+from tests.mutants.drawn.python_changes import python_changes
+from tests.mutants.drawn.shell_changes import shell_changes
+
+
+@dataclass(frozen=True)
+class Part:
+    """Files that are read in one language, and what is run where nothing is known of lines."""
+
+    name: str
+    files: tuple[str, ...]  # globs from the top of the tree
+    tests: tuple[str, ...]  # globs of folders or files of pytest
+    build: str | None = None  # the folder that cmake builds
+
+    def paths(self, root: Path = ROOT) -> list[str]:
+        found = {path for glob in self.files for path in root.glob(glob) if path.is_file()}
+        return sorted(str(path.relative_to(root)) for path in found)
+
+    def modules(self, root: Path = ROOT) -> list[str]:
+        """The files of tests, by name."""
+        found = {path for glob in self.tests for path in root.glob(glob)}
+        return sorted(str(path.relative_to(root)) for path in found)
+
+
+IN_GATEWAY = (
+    "tests/gateway/test_*.py",
+    "tests/admin/test_*.py",
+    "tests/limits/test_*.py",
+    "tests/operating/test_*.py",
+    "tests/conformance/test_*.py",
+)
+PARTS = (
+    Part("gateway", ("gateway/src/**/*.cpp",), IN_GATEWAY, "gateway"),
+    Part("session_model", ("gateway/session_model/*.cpp",), IN_GATEWAY, "gateway"),
+    Part("desk", ("desk/src/*.cpp",), ("tests/desk/test_*.py",), "desk"),
+    Part("page", ("desk/page/*.js",), ("tests/desk/test_*.py",)),
+    Part("common", ("common/*.cpp", "common/web/*.cpp"), ("tests/desk/test_*.py",), "desk"),
+    Part("audit", ("audit/**/*.py",), ("tests/audit/test_*.py", "tests/supervisor/test_*.py")),
+    Part(
+        "keeper",
+        ("keeper/**/*.py",),
+        (
+            "tests/operating/test_keeper*.py",
+            "tests/operating/test_sealed_copies.py",
+            "tests/operating/test_monitoring.py",
+            "tests/gateway/test_readers.py",
+        ),
+    ),
+    Part("certify", ("certify/**/*.py",), ("tests/certify/test_*.py",)),
+    Part(
+        "install",
+        ("install/**/*.py", "install/packages/sbin/*", "install/*.sh"),
+        ("tests/operating/test_*.py",),
+    ),
+    Part(
+        "scripts",
+        ("debian/*.p*inst", "debian/*.p*rm", "debian/*.sh"),
+        ("tests/operating/test_*.py",),
+    ),
+)
+
+
+def changes_of(file: str, build: str | None, root: Path = ROOT) -> list[Change]:
+    """All changes of a file; of one in C++ its folder has been built, so that it is known how it is compiled."""
+    path = root / file
+    text = path.read_bytes()
+    if path.suffix == ".cpp":
+        assert build is not None
+        return cpp_changes(file, str(path), compiled_with(path, root / build / "out"))
+    if path.suffix == ".js":
+        return javascript_changes(file, str(path))
+    if path.suffix == ".py" or text.startswith(b"#!/usr/bin/python3"):
+        return python_changes(file, text)
+    return shell_changes(file, text)
+
+
+# What clang does not know of the words for another compiler, or does not need.
+WITH_VALUE = {"-o", "-include"}
+UNKNOWN = (
+    "-Winvalid-pch",
+    "-Werror",
+    "-fcf-protection",
+    "-fstack-clash",
+    "-fprofile",
+    "--coverage",
+)
+
+
+def compiled_with(path: Path, out: Path) -> list[str]:
+    """The words with which a file is compiled, but for the compiler's own ones."""
+    for entry in json.loads((out / "compile_commands.json").read_text()):
+        if entry["file"] == str(path):
+            return list(words_for_clang(shlex.split(entry["command"])[1:], str(path)))
+    raise KeyError("%s is compiled by nothing in %s" % (path, out))
+
+
+def words_for_clang(words: list[str], path: str) -> list[str]:
+    kept: list[str] = []
+    rest = iter(words)
+    for word in rest:
+        if word in WITH_VALUE:
+            next(rest)
+        elif word not in ("-c", path) and not word.startswith(UNKNOWN):
+            kept.append(word)
+    return kept

@@ -1,0 +1,142 @@
+"""Which tests pass through a line, and how long each takes: from one run of a part's tests that records it."""
+
+import json
+import os
+import shutil
+import subprocess
+import sys
+import xml.etree.ElementTree as xml
+from collections import defaultdict
+from collections.abc import Iterable, Iterator
+from dataclasses import dataclass, field
+from pathlib import Path
+
+import coverage
+
+from tests.harness.build import cmake
+from tests.harness.options import ROOT
+from tests.harness.reports import is_failed, without_group
+from tests.mutants.drawn.counters import COUNTERS, FLAGS, name_of, passed_lines, run_unit, units
+
+FOLDER = ROOT / "tests" / "out" / "mutants" / "passes"
+LIMIT = 4 * 3600  # seconds of one run
+SETTINGS = ("-DCMAKE_BUILD_TYPE=Debug", "-DCMAKE_CXX_FLAGS=" + FLAGS)
+Lines = dict[str, dict[int, set[str]]]  # of a file, a line: the names of tests
+
+
+@dataclass
+class Passes:
+    """Of each line the tests, and of each test its seconds. One that failed while it was recorded is in neither."""
+
+    lines: Lines = field(default_factory=dict)
+    seconds: dict[str, float] = field(default_factory=dict)
+
+    def through(self, file: str, line: int) -> list[str]:
+        """The tests that pass through a line, the fastest first."""
+        names = self.lines.get(file, {}).get(line, set())
+        known = [name for name in names if name in self.seconds]
+        return sorted(known, key=lambda name: (self.seconds[name], name))
+
+    def write(self, path: Path) -> None:
+        lines = {
+            file: {str(line): sorted(names) for line, names in of_file.items()}
+            for file, of_file in self.lines.items()
+        }
+        path.write_text(json.dumps({"lines": lines, "seconds": self.seconds}))
+
+
+def read_passes(path: Path) -> Passes:
+    told = json.loads(path.read_text())
+    lines = {
+        file: {int(line): set(names) for line, names in of_file.items()}
+        for file, of_file in told["lines"].items()
+    }
+    return Passes(lines, told["seconds"])
+
+
+def record(name: str, files: Iterable[str], modules: list[str], words: list[str]) -> Passes:
+    """Runs these files of tests, and reads what they passed through of these files of Python."""
+    folder = emptied(FOLDER / name)
+    listed = "\n    ".join(str(ROOT / file) for file in files)
+    (folder / "coverage.ini").write_text(
+        "[run]\nparallel = true\nsigterm = true\ncontext = ${RECORDED_TEST-none}\n"
+        "data_file = %s\ninclude =\n    %s\n" % (folder / ".coverage", listed)
+    )
+    seconds = dict(seconds_of(run_recorded(ROOT, folder, modules, words)))
+    return Passes(python_lines(folder), seconds)
+
+
+def record_built(name: str, tree: Path, build: str, modules: list[str], words: list[str]) -> Passes:
+    """The same of C++, in a copy that is built with counters. A program of unit tests is one test here, and a file of pytest's."""
+    folder = emptied(FOLDER / name)
+    out = cmake(tree / build, settings=SETTINGS)
+    seconds = of_units(out, folder / COUNTERS)
+    for test, taken in seconds_of(run_recorded(tree, folder, modules, words)):
+        module = test.partition("::")[0]
+        seconds[module] = seconds.get(module, 0.0) + taken
+    return Passes(of_counters(folder / COUNTERS, tree), seconds)
+
+
+def run_recorded(tree: Path, folder: Path, modules: list[str], words: list[str]) -> Path:
+    """Runs these files of tests with the recorder, and gives pytest's report."""
+    report = folder / "report.xml"
+    recorded = ["-p", "tests.mutants.drawn.recorder", "--record", str(folder)]
+    reported = ["--junitxml", str(report), "-o", "junit_family=xunit1", "-q"]
+    command = [sys.executable, "-m", "pytest", *modules, *recorded, *reported, *words]
+    subprocess.run(command, cwd=tree, timeout=LIMIT, check=False, stdout=subprocess.DEVNULL)
+    return report
+
+
+def emptied(folder: Path) -> Path:
+    shutil.rmtree(folder, ignore_errors=True)
+    folder.mkdir(parents=True)
+    return folder
+
+
+def of_counters(counters: Path, root: Path) -> Lines:
+    """What programs in C++ passed through, by the folder of counters that each run has."""
+    lines: dict[str, dict[int, set[str]]] = defaultdict(lambda: defaultdict(set))
+    for run in sorted(counters.iterdir()):
+        for file, line in passed_lines(run, root):
+            lines[file][line].add(name_of(run))
+    return {file: dict(of_file) for file, of_file in lines.items()}
+
+
+def of_units(out: Path, counters: Path) -> dict[str, float]:
+    """Runs each program of unit tests, and gives the seconds of those that pass."""
+    found = {unit.name: run_unit(unit, out, counters) for unit in units(out)}
+    return {name: seconds for name, seconds in found.items() if seconds is not None}
+
+
+def python_lines(folder: Path) -> Lines:
+    """What coverage.py kept in that folder, by the files' names from the top of the tree."""
+    whole = coverage.Coverage(config_file=str(folder / "coverage.ini"))
+    whole.combine([str(folder)], keep=True)
+    data, found = whole.get_data(), Lines()
+    for file in data.measured_files():
+        contexts = data.contexts_by_lineno(file)
+        found[os.path.relpath(file, ROOT)] = {
+            line: {name for name in names if "::" in name} for line, names in contexts.items()
+        }
+    return found
+
+
+def seconds_of(report: Path) -> Iterator[tuple[str, float]]:
+    """Each test that passed, by pytest's name of it."""
+    for case in xml.parse(report).getroot().iter("testcase"):
+        if is_failed(case) or case.find("skipped") is not None:
+            continue
+        yield node_of(case), float(case.get("time", "0"))
+
+
+def node_of(case: xml.Element) -> str:
+    """`tests.audit.test_x.TestY` and `test_z` in a report are `tests/audit/test_x.py::TestY::test_z`."""
+    file, line = case.get("file"), case.get("classname", "")
+    name = without_group(case.get("name", ""))
+    if file is None:
+        parts = line.split(".")
+        at = next(index for index, part in enumerate(parts) if part.startswith("test_"))
+        file, classes = "/".join(parts[: at + 1]) + ".py", parts[at + 1 :]
+    else:
+        classes = line.split(".")[len(file.removesuffix(".py").split("/")) :]
+    return "::".join([file, *classes, name])

@@ -1,0 +1,147 @@
+"""One change in a copy of the tree: built, and held against the tests that pass through its line, until one fails."""
+
+import os
+import subprocess
+import sys
+import time
+from collections.abc import Iterator
+from dataclasses import dataclass
+from enum import Enum
+from itertools import islice
+from pathlib import Path
+
+from tests.harness.build import NotBuilt, cmake
+from tests.mutants.drawn.change import Change
+from tests.mutants.drawn.counters import UNIT, Unit, run_unit
+from tests.mutants.drawn.parts import Part
+from tests.mutants.drawn.passes import Passes
+from tests.mutants.nursery import PATIENCE, PROGRAMS, Nursery
+
+AT_ONCE = 20  # tests of one run of pytest, so that the first that fails ends it soon
+UNKNOWN = 5.0  # seconds of a file of tests of which nothing is known
+
+
+class Verdict(Enum):
+    """What became of a change."""
+
+    REFUSED = "refused"  # by a test, or by the compiler
+    EQUAL = "equal"  # it changes nothing that anybody could see
+    HANGS = "hangs"  # no test ended within the limit: that is seen, too
+    PASSED = "passed"  # every test that passes through its line passes
+    UNSEEN = "unseen"  # no test passes through its line
+    OUT_OF_TIME = "out of time"  # some of its tests were not run
+
+    @property
+    def is_good(self) -> bool:
+        return self in (Verdict.REFUSED, Verdict.EQUAL, Verdict.HANGS)
+
+
+@dataclass(frozen=True)
+class Tried:
+    """A change, what became of it, and which test or compiler said so."""
+
+    part: str
+    change: Change
+    told: str  # what was changed, in lines
+    verdict: Verdict
+    by: str
+    seconds: float
+
+
+@dataclass(frozen=True)
+class Trial:
+    """Tries the changes of one part in one copy."""
+
+    part: Part
+    tree: Nursery
+    passes: Passes
+    limit: float  # seconds of one change
+    options: tuple[str, ...]
+
+    def tests(self, change: Change) -> list[str]:
+        """Those that pass through its line; all of the part's files where no line is recorded."""
+        if change.file in self.passes.lines:
+            return self.passes.through(change.file, change.line)
+        modules = self.part.modules(self.tree.folder)
+        return sorted(modules, key=lambda name: self.passes.seconds.get(name, UNKNOWN))
+
+    def tried(self, change: Change) -> Tried:
+        """The copy is as it was afterwards."""
+        file = self.tree.folder / change.file
+        text, began = file.read_bytes(), time.monotonic()
+        try:
+            file.write_bytes(change.applied(text))
+            verdict, by = self.judged(change, began)
+        finally:
+            file.write_bytes(text)
+        seconds = time.monotonic() - began
+        return Tried(self.part.name, change, change.told(text), verdict, by, seconds)
+
+    def judged(self, change: Change, began: float) -> tuple[Verdict, str]:
+        """Unit tests first: they are the fastest."""
+        names = self.tests(change)
+        units = [name.removeprefix(UNIT) for name in names if name.startswith(UNIT)]
+        if self.part.build is not None:
+            try:
+                out = cmake(self.tree.folder / self.part.build, [PROGRAMS[self.part.build], *units])
+            except NotBuilt:
+                return Verdict.REFUSED, "the compiler"
+            for unit in units:
+                if run_unit(Unit(unit, [str(out / unit)]), out, self.tree.folder) is None:
+                    return Verdict.REFUSED, unit
+        if not names:
+            return Verdict.UNSEEN, ""
+        return self.by_pytest([name for name in names if not name.startswith(UNIT)], began)
+
+    def by_pytest(self, names: list[str], began: float) -> tuple[Verdict, str]:
+        """Some at a time, the fastest first, within the limit of one change."""
+        for batch in batches(names):
+            left = self.limit - (time.monotonic() - began)
+            if left <= 0:
+                return Verdict.OUT_OF_TIME, batch[0]
+            try:
+                failed = self.first_failed(batch, left)
+            except subprocess.TimeoutExpired:
+                return Verdict.HANGS, batch[0]
+            if failed is not None:
+                return Verdict.REFUSED, failed
+        return Verdict.PASSED, "%d tests" % len(names)
+
+    def first_failed(self, names: list[str], limit: float) -> str | None:
+        """Runs these tests, until one fails."""
+        words = [sys.executable, "-m", "pytest", *names, "-x", "-q", *self.options]
+        place = ["-c", str(self.tree.folder / "pyproject.toml"), "--rootdir", str(self.tree.folder)]
+        done = subprocess.run(
+            [*words, *place, *self.tree.chosen_for(self.part.build)],
+            cwd=self.tree.folder,
+            env=self.environment(),
+            stdout=subprocess.PIPE,
+            stderr=subprocess.STDOUT,
+            text=True,
+            timeout=limit,
+            check=False,
+        )
+        if done.returncode == 0:
+            return None
+        lines = [line for line in done.stdout.splitlines() if line.startswith(("FAILED", "ERROR"))]
+        return lines[0] if lines else "pytest ended with status %d" % done.returncode
+
+    def environment(self) -> dict[str, str]:
+        """Nothing of the tree that is no copy; a wrong body may wait for what never comes."""
+        own = {name: value for name, value in os.environ.items() if name != "PYTHONPATH"}
+        own["PATIENCE"] = PATIENCE
+        if self.part.build == "desk":
+            own["DESK"] = str(self.tree.program("desk"))
+        if self.part.name == "page":
+            own["DESK_PAGES"] = str(self.tree.folder / "desk" / "page")
+        return own
+
+
+def batches(names: list[str]) -> Iterator[list[str]]:
+    rest = iter(names)
+    while batch := list(islice(rest, AT_ONCE)):
+        yield batch
+
+
+def passes_file(folder: Path, part: str) -> Path:
+    return folder / part / "passes.json"

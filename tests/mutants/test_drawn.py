@@ -1,0 +1,178 @@
+"""What the mutator changes in each language, what it leaves out, and that it draws the same by the same seed."""
+
+import subprocess
+from pathlib import Path
+
+import pytest
+
+from tests.mutants.drawn.__main__ import draw
+from tests.mutants.drawn.change import Change, Kind
+from tests.mutants.drawn.counters import FLAGS, Unit, run_unit
+from tests.mutants.drawn.cpp_changes import cpp_changes
+from tests.mutants.drawn.javascript_changes import javascript_changes
+from tests.mutants.drawn.left_out import FILE, read_left_out
+from tests.mutants.drawn.parts import PARTS, words_for_clang
+from tests.mutants.drawn.passes import of_counters
+from tests.mutants.drawn.python_changes import python_changes
+from tests.mutants.drawn.shell_changes import shell_changes
+
+# A text, a kind of mistake, and each text that it makes of it.
+PYTHON = [
+    ("if a:\n    b()\n", Kind.NEGATED, ["if not (a):\n    b()\n"]),
+    ("if a:\n    b()\n", Kind.CALL_DROPPED, ["if a:\n    pass\n"]),
+    ("x = a and b\n", Kind.CONDITION_DROPPED, ["x = True and b\n", "x = a and True\n"]),
+    ("x = a or b\n", Kind.CONDITION_DROPPED, ["x = False or b\n", "x = a or False\n"]),
+    ("x = a < b <= c\n", Kind.BOUND, ["x = a <= b <= c\n", "x = a < b < c\n"]),
+    ("x = y[2]\n", Kind.BOUND, ["x = y[3]\n"]),
+    ("x = True\n", Kind.BOUND, []),
+    ("x = y[0]\n", Kind.OPPOSITE, ["x = y[-1]\n"]),
+    ("x = min(a)\n", Kind.OPPOSITE, ["x = max(a)\n"]),
+    ("f(a, b, 1)\n", Kind.ARGUMENTS, ["f(b, a, 1)\n"]),
+    ("raise A\n", Kind.STATEMENT_DROPPED, ["pass\n"]),
+    ("a.b = c\n", Kind.STATEMENT_DROPPED, ["pass\n"]),
+    ("a = c\n", Kind.STATEMENT_DROPPED, []),
+    ("x = [a, b]\n", Kind.ENTRY, ["x = [b]\n", "x = [a]\n"]),
+    ("x = [a]\n", Kind.ENTRY, []),
+    (
+        "def f() -> None:\n    a()\n    if b:\n        c()\n",
+        Kind.EARLY,
+        ["def f() -> None:\n    a()\n    return\n    if b:\n        c()\n"],
+    ),
+    (
+        "class A:\n    b: int\n    c: int\n    d: str\n    def e(self) -> int:\n        return self.b\n",
+        Kind.MEMBER,
+        [
+            "class A:\n    b: int\n    c: int\n    d: str\n    def e(self) -> int:\n        return self.c\n"
+        ],
+    ),
+    ("größe = [ä, ö]\n", Kind.ENTRY, ["größe = [ö]\n", "größe = [ä]\n"]),
+]
+CPP_HEAD = "struct A { int b; int c; bool d; void e(int, int); bool f() const; };\n"
+CPP = [
+    ("void g(A& a) { if (a.f()) a.e(1, 2); }", Kind.NEGATED, ["if (!(a.f())) a.e(1, 2);"]),
+    ("void g(A& a) { a.e(a.b, a.c); }", Kind.CALL_DROPPED, ["{ ; }"]),
+    ("void g(A& a) { a.e(a.b, a.c); }", Kind.ARGUMENTS, ["a.e(a.c, a.b)"]),
+    (
+        "void g(A& a) { a.b = 0; a.c = 0; }",
+        Kind.STATEMENT_DROPPED,
+        ["{ ; a.c = 0; }", "{ a.b = 0; ; }"],
+    ),
+    ("void g(A& a) { a.b = 0; a.c = 0; }", Kind.EARLY, ["a.b = 0; return; a.c = 0;"]),
+    ("bool g(A& a) { return a.b < a.c; }", Kind.BOUND, ["a.b <= a.c"]),
+    (
+        "bool g(A& a) { return a.d && a.f(); }",
+        Kind.CONDITION_DROPPED,
+        ["true && a.f()", "a.d && true"],
+    ),
+    ("int g(A& a) { return a.b; }", Kind.MEMBER, ["a.c"]),
+    ("int g(A& a) { return a.b + 2; }", Kind.BOUND, ["a.b + 3"]),
+]
+JAVASCRIPT = [
+    ("if (a) b();", Kind.NEGATED, ["if (!(a)) b();"]),
+    ("if (a) b();", Kind.CALL_DROPPED, ["if (a) ;"]),
+    ("x = a && b;", Kind.CONDITION_DROPPED, ["x = true && b;", "x = a && true;"]),
+    ("x = a < b;", Kind.BOUND, ["x = a <= b;"]),
+    ("x = f(a, b);", Kind.ARGUMENTS, ["x = f(b, a);"]),
+    ("x = [a, b];", Kind.ENTRY, ["x = [b];", "x = [a];"]),
+    ("x = Math.max(a);", Kind.OPPOSITE, ["x = Math.min(a);"]),
+    ("'ä'; x = 7;", Kind.BOUND, ["'ä'; x = 8;"]),
+    ("function f() { a(); b(); }", Kind.EARLY, ["function f() { a(); return; b(); }"]),
+    ("function f() { a(); return b; }", Kind.EARLY, []),
+]
+SHELL = [
+    ("if a; then\n    b\nfi\n", Kind.NEGATED, ["if ! a; then\n    b\nfi\n"]),
+    ("if ! a; then\n    b\nfi\n", Kind.NEGATED, ["if a; then\n    b\nfi\n"]),
+    ("a || b\n", Kind.NEGATED, ["a && b\n"]),
+    ("f() {\n    a b\n}\n", Kind.CALL_DROPPED, ["f() {\n    :\n}\n"]),
+    ("a \\\n    b c\n", Kind.CALL_DROPPED, []),
+    ("[ a -lt b ]\n", Kind.BOUND, ["[ a -le b ]\n"]),
+]
+
+
+def made(changes: list[Change], text: bytes, kind: Kind) -> list[str]:
+    return [change.applied(text).decode() for change in changes if change.kind is kind]
+
+
+@pytest.mark.parametrize("text, kind, wanted", PYTHON)
+def test_python(text: str, kind: Kind, wanted: list[str]) -> None:
+    assert made(python_changes("x.py", text.encode()), text.encode(), kind) == wanted
+
+
+@pytest.mark.parametrize("body, kind, wanted", CPP)
+def test_cpp(body: str, kind: Kind, wanted: list[str], place: Path) -> None:
+    """Each mutant has the text that is wanted in the body's place."""
+    file = place / "x.cpp"
+    text = (CPP_HEAD + body + "\n").encode()
+    file.write_bytes(text)
+    found = made(cpp_changes("x.cpp", str(file), ["-std=c++20"]), text, kind)
+    found = [mutant for mutant in found if mutant.startswith(CPP_HEAD)]
+    assert len(found) == len(wanted)
+    assert all(any(words in mutant for mutant in found) for words in wanted), found
+
+
+@pytest.mark.parametrize("text, kind, wanted", JAVASCRIPT)
+def test_javascript(text: str, kind: Kind, wanted: list[str], place: Path) -> None:
+    file = place / "x.js"
+    file.write_text(text)
+    assert made(javascript_changes("x.js", str(file)), text.encode(), kind) == wanted
+
+
+@pytest.mark.parametrize("text, kind, wanted", SHELL)
+def test_shell(text: str, kind: Kind, wanted: list[str]) -> None:
+    assert made(shell_changes("x.sh", text.encode()), text.encode(), kind) == wanted
+
+
+def test_what_nobody_sees_is_left_out(place: Path) -> None:
+    """By the line that a change begins on; what was shown to be equal is known whatever line it moves to."""
+    file = place / "left_out.toml"
+    file.write_text(
+        "[[line]]\nhas = 'reserve'\nwhy = 'memory'\n"
+        "[[equal]]\nfile = 'x.py'\nold = 'a'\nnew = 'not (a)'\nwhy = 'it is asked again'\n"
+    )
+    text = b"# a line\nif a:\n    b.reserve(2)\n"
+    left_out, changes = read_left_out(file), python_changes("x.py", text)
+    gone = [change for change in changes if left_out.has(change, text)]
+    assert {change.line for change in gone} == {3}
+    assert [change.kind for change in changes if left_out.is_equal(change, text)] == [Kind.NEGATED]
+
+
+def test_each_entry_has_its_reason(place: Path) -> None:
+    assert read_left_out(FILE).lines
+    file = place / "left_out.toml"
+    file.write_text("[[line]]\nhas = 'reserve'\nwhy = ''\n")
+    with pytest.raises(AssertionError):
+        read_left_out(file)
+
+
+def test_the_seed_decides() -> None:
+    """The same seed draws the same; another one others; each once."""
+    parts = [part for part in PARTS if part.name in ("audit", "keeper", "scripts")]
+    first, again, other = (list(draw(parts, 12, seed, None)) for seed in (1, 1, 2))
+    assert first == again and first != other
+    assert len({one.change for one in first}) == 12
+    assert list(draw(parts, 12, 1, set())) == []
+
+
+def test_every_part_has_files_and_tests() -> None:
+    for part in PARTS:
+        assert part.paths() and part.modules(), part.name
+
+
+def test_lines_of_cpp_are_recorded_run_by_run(place: Path) -> None:
+    """A program with two ways: each run passes through one of them."""
+    source, program, counters = place / "x.cpp", place / "x", place / "counters"
+    source.write_text(
+        "int main(int n, char**) {\n    if (n > 1)\n        return 0;\n    return 0;\n}\n"
+    )
+    words = ["g++", *FLAGS.split(), "-o", str(program), str(source)]
+    subprocess.run(words, cwd=place, check=True, timeout=120)
+    for unit in (Unit("tests/a/test_b.py", [str(program), "x"]), Unit("unit c", [str(program)])):
+        assert run_unit(unit, place, counters) is not None
+    found = of_counters(counters, place)["x.cpp"]
+    assert found[2] == {"tests/a/test_b.py", "unit c"}
+    assert (found[3], found[4]) == ({"tests/a/test_b.py"}, {"unit c"})
+
+
+def test_what_another_compiler_needs_is_not_told_to_clang() -> None:
+    words = ["-O2", "-Werror", "-include", "pch.hxx", "-Isrc", "-o", "x.o", "-c", "x.cpp"]
+    assert words_for_clang(words, "x.cpp") == ["-O2", "-Isrc"]

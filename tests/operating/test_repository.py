@@ -1,0 +1,257 @@
+"""The signed repository: what apt takes from it, and what gets nothing signed."""
+
+import os
+import shutil
+import subprocess
+from dataclasses import dataclass
+from pathlib import Path
+
+import pytest
+
+from tests.gateway.wait import LONG
+from tests.harness.options import ROOT
+from tests.operating.built_packages import needs
+
+NAMES = ("mireseason", "mireseason-venue", "mireseason-gateway")
+CONTROL = """Package: %s
+Version: %s
+Architecture: %s
+Maintainer: nobody <nobody@example.org>
+Description: a stand-in
+"""
+PROGRAMS = "# rfq_venue %s: the program of mireseason %s, proved from commit %s\n"
+TRIAL_COMMITS = ("0123456789ab+", "unknown")
+
+
+@dataclass
+class Builder:
+    """Who makes releases: a folder of packages, and a key of gpg."""
+
+    place: Path
+
+    def __post_init__(self) -> None:
+        self.home.mkdir(mode=0o700)
+        self.make_key("builder")
+
+    @property
+    def home(self) -> Path:
+        return self.place / "gnupg"
+
+    @property
+    def repository(self) -> Path:
+        return self.place / "repository"
+
+    @property
+    def environment(self) -> dict[str, str]:
+        return {**os.environ, "GNUPGHOME": str(self.home), "UNPROVED": "0", "URL": ""}
+
+    def make_key(self, name: str) -> None:
+        words = ["gpg", "--batch", "--quiet", "--passphrase", "", "--quick-generate-key"]
+        subprocess.run([*words, name, "ed25519", "sign", "never"], env=self.environment, check=True)
+
+    def package(self, version: str, commit: str = "0123456789ab", text: str = "") -> Path:
+        """Stand-ins of a version's packages, which are told apart by a text."""
+        folder = self.place / ("packages-%s%s%s" % (version, commit[12:], text))
+        for name in NAMES:
+            tree = folder / "trees" / name
+            (tree / "DEBIAN").mkdir(parents=True)
+            kind = "all" if name == NAMES[0] else "amd64"
+            (tree / "DEBIAN/control").write_text(CONTROL % (name, version, kind))
+            (tree / "usr/share/mireseason").mkdir(parents=True)
+            (tree / "usr/bin").mkdir()
+            (tree / "usr/share/mireseason" / "programs").write_text(
+                PROGRAMS % (version, version, commit)
+            )
+            (tree / "usr/bin" / name).write_text(text or "a program")
+            words = ["dpkg-deb", "--root-owner-group", "-b", str(tree), str(folder)]
+            subprocess.run(words, check=True, capture_output=True)
+        return folder
+
+    def release(
+        self, packages: Path, key: str = "builder", **more: str
+    ) -> "subprocess.CompletedProcess[str]":
+        script = ROOT / "install" / "repository.sh"
+        words = [str(script), key, str(self.repository), str(packages)]
+        environment = {**self.environment, **more}
+        return subprocess.run(
+            words, env=environment, capture_output=True, text=True, timeout=LONG, check=False
+        )
+
+    def released(self, packages: Path, by: str = "builder", **more: str) -> None:
+        done = self.release(packages, by, **more)
+        assert done.returncode == 0, done.stderr
+
+
+@dataclass
+class Host:
+    """An apt of its own, which knows that repository alone."""
+
+    place: Path
+
+    def __post_init__(self) -> None:
+        for folder in ("etc/sources", "lists/partial", "cache/archives/partial"):
+            (self.place / folder).mkdir(parents=True)
+        (self.place / "status").touch()
+
+    def trust(self, sources: Path) -> None:
+        shutil.copy2(sources, self.place / "etc/sources/mireseason.sources")
+
+    def apt(self, *words: str, by: str = "apt-get") -> "subprocess.CompletedProcess[str]":
+        options = {
+            "Dir::Etc::sourcelist": "/dev/null",
+            "Dir::Etc::sourceparts": self.place / "etc/sources",
+            "Dir::Etc::trusted": "/dev/null",
+            "Dir::Etc::trustedparts": "/dev/null",
+            "Dir::State::lists": self.place / "lists",
+            "Dir::State::status": self.place / "status",
+            "Dir::Cache": self.place / "cache",
+            "APT::Sandbox::User": "root",
+            "APT::Update::Error-Mode": "any",
+        }
+        command = [by, *("-o%s=%s" % option for option in options.items()), *words]
+        return subprocess.run(
+            command, cwd=self.place, capture_output=True, text=True, timeout=LONG, check=False
+        )
+
+    def update(self) -> bool:
+        return self.apt("update").returncode == 0
+
+
+@pytest.fixture
+def builder(place: Path) -> Builder:
+    needs("apt-ftparchive", "apt-get", "dpkg-deb", "gpg", "gpgv", "xz")
+    return Builder(place)
+
+
+@pytest.fixture
+def host(builder: Builder, place: Path) -> Host:
+    """One that trusts a repository with a release in it."""
+    builder.released(builder.package("1.0"))
+    host = Host(place / "host")
+    host.trust(builder.repository / "mireseason.sources")
+    assert host.update()
+    return host
+
+
+def versions(host: Host) -> list[str]:
+    """All versions of the metapackage that can be had."""
+    told = host.apt("madison", "mireseason", by="apt-cache").stdout
+    return [line.split("|")[1].strip() for line in told.splitlines()]
+
+
+def test_apt_takes_a_release_and_the_one_before(builder: Builder, host: Host) -> None:
+    """A second release stands beside the first, so that a host can go back; each is had byte for byte."""
+    newer = builder.package("1.1")
+    builder.released(newer)
+    builder.released(newer)  # once more changes nothing
+    assert host.update() and sorted(versions(host)) == ["1.0", "1.1"]
+    for version in ("1.0", "1.1"):
+        done = host.apt("download", "mireseason-venue=" + version)
+        assert done.returncode == 0, done.stderr
+        file = "mireseason-venue_%s_amd64.deb" % version
+        original = builder.place / ("packages-" + version) / file
+        assert (host.place / file).read_bytes() == original.read_bytes()
+
+
+def test_where_hosts_find_it(builder: Builder) -> None:
+    builder.released(builder.package("1.0"), URL="https://venue.example/apt")
+    text = (builder.repository / "mireseason.sources").read_text()
+    assert "\nURIs: https://venue.example/apt\n" in text
+    assert "\n -----BEGIN PGP PUBLIC KEY BLOCK-----\n .\n" in text
+
+
+def test_another_key_is_not_trusted(builder: Builder, host: Host, place: Path) -> None:
+    """Who signs the same packages by a key of its own reaches no host, and nobody goes on with a repository of another's."""
+    builder.make_key("intruder")
+    done = builder.release(builder.package("1.1"), key="intruder")
+    assert done.returncode == 1 and "InRelease is not signed by" in done.stderr
+    other = place / "other"
+    shutil.move(builder.repository, other)
+    builder.released(builder.package("1.2"), by="intruder")
+    assert not host.update()
+    assert versions(host) == ["1.0"]
+
+
+TAMPERED = {
+    "the index": "dists/stable/main/binary-amd64/Packages",
+    "what is signed": "dists/stable/InRelease",
+}
+
+
+@pytest.mark.parametrize("what", TAMPERED)
+def test_what_somebody_wrote_into_it_is_not_signed(builder: Builder, host: Host, what: str) -> None:
+    """Not by the next release either: it ends, and says what is wrong."""
+    file = builder.repository / TAMPERED[what]
+    file.write_text(
+        file.read_text().replace("mireseason", "mireseas0n").replace("stable", "stab1e")
+    )
+    done = builder.release(builder.package("1.1"))
+    assert done.returncode == 1, done.stdout
+    assert "not what" in done.stderr or "is not signed by" in done.stderr
+
+
+def test_a_package_that_was_exchanged(builder: Builder, host: Host) -> None:
+    """No host takes it, also after the next release, which has its sum from what was signed and not from the file."""
+    other = builder.package("1.0", text="another program")
+    name = "mireseason-gateway_1.0_amd64.deb"
+    shutil.copy2(other / name, builder.repository / "pool" / name)
+    builder.released(builder.package("1.1"))
+    assert host.update()
+    done = host.apt("download", "mireseason-gateway=1.0")
+    assert done.returncode != 0 and not (host.place / name).exists()
+    assert host.apt("download", "mireseason-gateway=1.1").returncode == 0
+
+
+LINKS = (
+    "pool/mireseason_1.1_all.deb",
+    "dists/stable/InRelease.part",
+    "mireseason.sources.part",
+    "mireseason.sources",
+)
+
+
+@pytest.mark.parametrize("name", LINKS)
+def test_a_link_in_it_is_not_followed(builder: Builder, host: Host, name: str) -> None:
+    """Whoever else writes there has nothing of the builder's written over."""
+    kept = builder.place / "kept"
+    kept.write_text("the builder's own")
+    place = builder.repository / name
+    place.unlink(missing_ok=True)
+    place.symlink_to(kept)
+    builder.released(builder.package("1.1"))
+    assert kept.read_text() == "the builder's own"
+    assert host.update() and sorted(versions(host)) == ["1.0", "1.1"]
+
+
+def test_a_version_never_changes(builder: Builder, host: Host) -> None:
+    done = builder.release(builder.package("1.0", text="another program"))
+    assert done.returncode == 1 and "a version never changes" in done.stderr
+    assert "pool/mireseason-gateway_1.0_amd64.deb" in done.stderr
+
+
+@pytest.mark.parametrize("commit", TRIAL_COMMITS)
+def test_trials_are_refused(builder: Builder, commit: str) -> None:
+    """Of a tree with changes, or of no commit; unless the caller says that it is a trial."""
+    packages = builder.package("1.0", commit)
+    done = builder.release(packages)
+    assert done.returncode == 1 and "is for trials alone" in done.stderr
+    assert not (builder.repository / "dists/stable/InRelease").exists()
+    builder.released(packages, UNPROVED="1")
+
+
+def test_sessions_that_are_not_proved_are_refused(builder: Builder) -> None:
+    packages = builder.package(
+        "1.0", text="mireseason-gateway 1.0 (0123), sessions not proved: model"
+    )
+    done = builder.release(packages)
+    assert done.returncode == 1 and "mireseason-gateway_1.0_amd64.deb is for trials" in done.stderr
+
+
+def test_wrong_words(builder: Builder) -> None:
+    """A key that gpg does not have, or has twice; a folder without packages."""
+    packages = builder.package("1.0")
+    assert "has not one secret key" in builder.release(packages, key="nobody").stderr
+    (builder.place / "empty").mkdir()
+    assert "build them first" in builder.release(builder.place / "empty").stderr
+    builder.make_key("builder's second")
+    assert "has not one secret key" in builder.release(packages, key="builder").stderr
