@@ -3,8 +3,9 @@
 usage: twice.py WORDS ..    pytest's words, `--junitxml FILE` among them
 
 A test that fails among others and passes alone depends on what else the machine does. It is a defect, of the test or of
-what it tests, and is named so; but a change that has nothing to do with it can land. Where more than FEW tests fail,
-or one fails twice, the first report stands.
+what it tests, and is named so; but a change that has nothing to do with it can land. One bad moment of the machine
+breaks the test that each worker runs then, so that as many may fail as there are workers. Where more fail, or one fails
+twice, the first report stands.
 """
 
 import subprocess
@@ -14,7 +15,7 @@ from pathlib import Path
 
 from tests.harness.reports import FAULTS, UNSTEADY, counted, is_failed, without_group
 
-FEW = 3  # failed tests: with more of them, something is broken
+FEW = 3  # failed tests that are tried again, whatever the number of workers
 ALONE = ("-n", "0")
 
 
@@ -36,6 +37,12 @@ def options_of(words: list[str]) -> list[str]:
     return words[first:]
 
 
+def few_of(words: list[str]) -> int:
+    """How many tests may fail at one moment; with more, something is broken. Of several `-n` pytest takes the last."""
+    workers = [int(count) for word, count in zip(words, words[1:]) if word == "-n"]
+    return max([FEW, *workers[-1:]])
+
+
 def named_unsteady(case: xml.Element) -> None:
     """What the first run said of the test stays in the report."""
     for fault in FAULTS:
@@ -50,7 +57,7 @@ def main(words: list[str]) -> int:
         return status
     tree = xml.parse(report)
     failed = [case for case in tree.getroot().iter("testcase") if is_failed(case)]
-    if not 0 < len(failed) <= FEW:
+    if not 0 < len(failed) <= few_of(words):
         return status
     again = report.with_suffix(".again.xml")
     options = options_of(words)

@@ -86,6 +86,18 @@ def test_who_fails_once_among_others(place: Path) -> None:
     assert tried_twice(place, tests, *SIDE_BY_SIDE) == (0, ["0 0", *unsteady])
 
 
+@pytest.mark.parametrize(("names", "status"), [("abcd", 0), ("abcde", 1)])
+def test_one_moment_breaks_a_test_of_each_worker(place: Path, names: str, status: int) -> None:
+    """As many as there are workers are tried again."""
+    tests = "".join(first(name) for name in names)
+    ends, lines = tried_twice(place, tests, "-n", "2", "-n", "4", "--dist", "loadgroup")
+    word = "failed" if status else "unsteady"
+    assert (ends, lines[1:]) == (
+        status,
+        ["%s test_drawn::test_%s" % (word, name) for name in names],
+    )
+
+
 def tried_twice(place: Path, tests: str, *workers: str) -> tuple[int, list[str]]:
     """The status of twice.py, and what is counted of its report."""
     (place / "test_drawn.py").write_text(tests)
