@@ -4,7 +4,6 @@ from __future__ import annotations
 
 import json
 import secrets
-import socket
 import subprocess
 import time
 from collections.abc import Sequence
@@ -12,8 +11,12 @@ from dataclasses import dataclass, field
 from pathlib import Path
 
 from .played import Identity
+from .ports import HOST, Port
 
-START = 60.0  # seconds until the gateway takes connections
+START = 60.0  # seconds until the gateway is ready
+READY = " ready address=%s:%d "  # its event
+LOOK = 0.05  # seconds between two looks at what it says
+MOST_TOLD = 1000  # characters of it, where it does not start
 END = 30.0  # seconds in which it ends
 DEALER_ROW = "quotes = 4096\nexposure = %d\n"
 INVESTOR_ROW = "requests = 1024\nopen = 64\nquantity = %d\n"
@@ -66,21 +69,19 @@ def said_by(words: Sequence[str]) -> str:
     return (run.stdout.strip().splitlines() or ["unknown"])[0]
 
 
-def free_port() -> int:
-    with socket.socket() as probe:
-        probe.bind(("127.0.0.1", 0))
-        return int(probe.getsockname()[1])
-
-
 @dataclass
 class OwnVenue:
-    """One gateway with its day, started and ended by the cases."""
+    """One gateway with its day, started and ended by the cases. Its port is held until it is closed."""
 
     programs: Programs
     folder: Path
     cast: Cast
-    port: int = field(default_factory=free_port)
+    _port: Port = field(default_factory=Port)
     _process: subprocess.Popen[bytes] | None = None
+
+    @property
+    def port(self) -> int:
+        return self._port.number
 
     def write(self) -> None:
         """All its files. The passwords' hashes are made by the gateway."""
@@ -93,18 +94,20 @@ class OwnVenue:
         credentials.write_text("".join(map(self._credentials_of, self._firms())))
 
     def start(self) -> None:
-        """Returns once it takes connections."""
-        told = (self.folder / "gateway.told").open("ab")
+        """Returns once the gateway says that it is ready: at its port somebody else might answer."""
         words = [self.programs.gateway, self.folder / "gateway.toml"]
-        self._process = subprocess.Popen(
-            words, stdin=subprocess.DEVNULL, stdout=told, stderr=subprocess.STDOUT
-        )
-        told.close()
-        until = time.monotonic() + START
-        while not self._takes_connections():
+        with self._told.open("ab") as told:
+            place = told.tell()
+            self._process = subprocess.Popen(
+                words, stdin=subprocess.DEVNULL, stdout=told, stderr=subprocess.STDOUT
+            )
+        until, ready = time.monotonic() + START, READY % (HOST, self.port)
+        while ready not in self._told_since(place):
             if self._process.poll() is not None or time.monotonic() > until:
-                raise NoVenue("the gateway does not start: %s" % self._last_words())
-            time.sleep(0.05)
+                self.kill()
+                text = "the gateway does not start: %s"
+                raise NoVenue(text % self._told_since(place)[-MOST_TOLD:])
+            time.sleep(LOOK)
 
     def kill(self) -> None:
         """As a power cut ends it."""
@@ -123,6 +126,11 @@ class OwnVenue:
                 self.kill()
             self._process = None
 
+    def close(self) -> None:
+        """Ends it for good, with its port."""
+        self.stop()
+        self._port.close()
+
     def order(self, *words: str) -> str:
         """What an operator's command answers."""
         socket_path = self.folder / "admin.sock"
@@ -139,8 +147,8 @@ class OwnVenue:
             '[log]\nsqlite = "day-{date}.db"\n'
             '[seal]\nkey = "keys/seal.key"\nsigning_key = "keys/gateway.pem"\n'
             'gateways = ["keys/gateway.pub"]\ncheckpoints = "checkpoints"\n'
-            '[fix]\nlisten = "127.0.0.1"\nport = %d\ncredentials = "credentials.toml"\n'
-            '[operator]\nsocket = "admin.sock"\n' % (command, self.port)
+            '[fix]\nlisten = "%s"\nport = %d\ncredentials = "credentials.toml"\n'
+            '[operator]\nsocket = "admin.sock"\n' % (command, HOST, self.port)
         )
 
     def _venue_text(self) -> str:
@@ -160,12 +168,13 @@ class OwnVenue:
         hashed = run([self.programs.gateway, "--hash"], "the gateway makes no hash", line)
         return '[%s]\nusername = "%s"\npassword = "%s"\n' % (who.name, who.name, hashed.strip())
 
-    def _takes_connections(self) -> bool:
-        with socket.socket() as probe:
-            return probe.connect_ex(("127.0.0.1", self.port)) == 0
+    @property
+    def _told(self) -> Path:
+        """What the gateway wrote, of all its starts."""
+        return self.folder / "gateway.told"
 
-    def _last_words(self) -> str:
-        return (self.folder / "gateway.told").read_text(errors="replace")[-1000:]
+    def _told_since(self, place: int) -> str:
+        return self._told.read_bytes()[place:].decode(errors="replace")
 
 
 def row(kind: str, who: Identity) -> str:

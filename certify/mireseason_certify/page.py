@@ -10,6 +10,7 @@ from urllib.parse import parse_qs, urlsplit
 
 import jinja2
 
+from .ports import HOST, Port
 from .telling import Telling
 
 TEMPLATES = Path(__file__).resolve().parent / "templates"
@@ -35,15 +36,20 @@ class Page:
             shown = telling
             page = template
 
-        self._server = ThreadingHTTPServer(("127.0.0.1", port), Handler)
+        self._port = Port(port)
+        self._server = ThreadingHTTPServer((HOST, self._port.number), Handler)
         self._server.daemon_threads = True
-        self.port: int = self._server.server_port
         Handler.port = self.port
         threading.Thread(target=self._server.serve_forever, daemon=True).start()
+
+    @property
+    def port(self) -> int:
+        return self._port.number
 
     def close(self) -> None:
         self._server.shutdown()
         self._server.server_close()
+        self._port.close()
 
 
 class Answers(BaseHTTPRequestHandler):

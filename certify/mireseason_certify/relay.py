@@ -14,6 +14,7 @@ from dataclasses import dataclass, field
 from enum import Enum
 
 from .frames import FrameStream, Message, NoFrame
+from .ports import HOST, Port
 
 READ = 1 << 16  # bytes at once
 MOST_LINES = 16  # connections of a desk at one time
@@ -76,8 +77,8 @@ class Relay:
 
     def __init__(self, port: int, gateway: int) -> None:
         self._gateway = gateway
-        self._listener = socket.create_server(("127.0.0.1", port))
-        self.port: int = self._listener.getsockname()[1]
+        self._port = Port(port)
+        self._listener = socket.create_server((HOST, self._port.number))
         self._lines: list[Line] = []
         self._count = 0
         self._seen: list[Seen] = []
@@ -91,10 +92,15 @@ class Relay:
         self._thread = threading.Thread(target=self._run, name="relay", daemon=True)
         self._thread.start()
 
+    @property
+    def port(self) -> int:
+        return self._port.number
+
     def close(self) -> None:
         self._ends = True
         self._thread.join()
         self._listener.close()
+        self._port.close()
 
     # What a case asks.
 
@@ -199,7 +205,7 @@ class Relay:
             desk.close()
             return
         try:
-            venue = socket.create_connection(("127.0.0.1", self._gateway), STALLED)
+            venue = socket.create_connection((HOST, self._gateway), STALLED)
         except OSError:  # the gateway is being started again
             desk.close()
             return

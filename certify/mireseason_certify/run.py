@@ -4,6 +4,7 @@ from __future__ import annotations
 
 import time
 from collections.abc import Callable, Sequence
+from contextlib import closing
 from dataclasses import dataclass, field
 from pathlib import Path
 
@@ -100,17 +101,11 @@ class Trial:
         """All cases. The venue is there only meanwhile."""
         cases = chosen(self.role, self.draw, self.only, self.clock is not None)
         cast = self.draw.cast(self.desk, self.role)
-        venue = OwnVenue(self.programs, self.folder, cast)
-        venue.write()
-        venue.start()
-        try:
-            relay = Relay(self.port, venue.port)
-            try:
+        with closing(OwnVenue(self.programs, self.folder, cast)) as venue:
+            venue.write()
+            venue.start()
+            with closing(Relay(self.port, venue.port)) as relay:
                 return self._with(relay, venue, cases, is_ready)
-            finally:
-                relay.close()
-        finally:
-            venue.stop()
 
     def _with(
         self, relay: Relay, venue: OwnVenue, cases: Sequence[Case], is_ready: Callable[[], None]

@@ -81,10 +81,12 @@ class Desk:
             thread.start()
 
     def close(self) -> None:
+        """Also where it was never started: what kept it from that is told, and no fault of this."""
         self._ends.set()
         self.drop()
         for thread in self._threads:
-            thread.join(20)
+            if thread.ident:
+                thread.join(20)
 
     # What wrong desks change.
 

@@ -2,12 +2,14 @@
 
 import re
 from collections.abc import Callable
+from contextlib import closing
 from pathlib import Path
 
 import pytest
 from mireseason_certify.draw import Draw
 from mireseason_certify.own_venue import Programs
 from mireseason_certify.page import Page
+from mireseason_certify.ports import Port
 from mireseason_certify.run import FAILED, PASSED, UNREACHABLE, Outcome, Trial, cases_of
 from mireseason_certify.telling import Telling
 
@@ -33,14 +35,14 @@ def certified(
 
     def run(kind: type[Desk], role: str, only: list[str]) -> dict[str, Outcome]:
         telling = Telling(quiet=True)
-        page = Page(0, telling)
-        desk = kind(page.port)
-        trial = Trial(programs, tmp_path, "TESTDESK", role, Draw(seed), telling, 0, PATIENCE, only)
-        try:
+        with (
+            closing(Port()) as port,  # the desk tries it longer than the relay stands
+            closing(Page(0, telling)) as page,
+            closing(kind(page.port)) as desk,
+        ):
+            words = ("TESTDESK", role, Draw(seed), telling, port.number, PATIENCE, only)
+            trial = Trial(programs, tmp_path, *words)
             return {one.name: one for one in trial.run(desk.start)}
-        finally:
-            desk.close()
-            page.close()
 
     return run
 
@@ -94,16 +96,15 @@ def test_the_desk_of_this_repository_passes(
     programs: Programs, desk_program: Path, tmp_path: Path, seed: int, role: str
 ) -> None:
     telling = Telling(quiet=True)
-    page = Page(0, telling)
     folders = [tmp_path / name for name in ("venue", "desk")]
     for folder in folders:
         folder.mkdir()
-    desk = OwnDesk(desk_program, folders[1], role, page.port)
-    words = ("OWNDESK", role, Draw(seed), telling, 0, PATIENCE_OF_OWN)
-    try:
-        outcomes = Trial(programs, folders[0], *words).run(desk.start)
-    finally:
-        fault = desk.close()
-        page.close()
+    with closing(Port()) as port, closing(Page(0, telling)) as page:
+        desk = OwnDesk(desk_program, folders[1], role, page.port)
+        words = ("OWNDESK", role, Draw(seed), telling, port.number, PATIENCE_OF_OWN)
+        try:
+            outcomes = Trial(programs, folders[0], *words).run(desk.start)
+        finally:
+            fault = desk.close()
     assert {one.name: one.why for one in outcomes if one.outcome != PASSED} == {}, fault
     assert fault == ""

@@ -11,6 +11,7 @@ from dataclasses import dataclass
 from pathlib import Path
 
 import pytest
+from mireseason_certify.ports import Port
 
 from tests.certify.own_desk import OwnDesk
 from tests.gateway.stage import Tools
@@ -58,11 +59,13 @@ class Tool:
 
 @pytest.fixture
 def start(tools: Tools, tmp_path: Path) -> Iterator[Callable[[str, int], Tool]]:
-    """start(role, patience)"""
+    """start(role, patience). A desk asks for the tool's ports longer than the tool stands, which has to have them alone."""
     started: list[Tool] = []
+    relay, page = Port(), Port()
 
     def run(role: str, patience: int) -> Tool:
         words = ["--role", role, "--only", "next-day", "--patience", str(patience)]
+        words += ["--port", str(relay.number), "--page", str(page.number)]
         words += ["--out", str(tmp_path), "--clock", str(tools.shim)]
         words += ["--gateway", str(tools.programs.gateway.parent)]
         words += ["--venue", *tools.programs.venue]
@@ -77,6 +80,8 @@ def start(tools: Tools, tmp_path: Path) -> Iterator[Callable[[str, int], Tool]]:
     for tool in started:
         tool.process.terminate()
         tool.process.wait(LONG)
+    for port in (relay, page):
+        port.close()
 
 
 @contextmanager

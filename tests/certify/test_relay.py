@@ -3,10 +3,12 @@
 import socket
 import time
 from collections.abc import Callable, Iterator
+from contextlib import closing
 from dataclasses import dataclass
 
 import pytest
 from mireseason_certify.frames import FrameStream, NoFrame, message_of, written
+from mireseason_certify.ports import HOST, Port
 from mireseason_certify.relay import By, Relay
 
 LIMIT = 10.0  # seconds
@@ -25,10 +27,10 @@ class Ends:
 
 @pytest.fixture
 def ends() -> Iterator[Ends]:
-    with socket.create_server(("127.0.0.1", 0)) as server:
+    with closing(Port()) as port, socket.create_server((HOST, port.number)) as server:
         server.settimeout(LIMIT)
-        relay = Relay(0, server.getsockname()[1])
-        desk = socket.create_connection(("127.0.0.1", relay.port), LIMIT)
+        relay = Relay(0, port.number)
+        desk = socket.create_connection((HOST, relay.port), LIMIT)
         gateway, _ = server.accept()
         gateway.settimeout(LIMIT)
         wait_for(relay.has_line)
@@ -103,7 +105,7 @@ def test_a_line_that_ends(ends: Ends) -> None:
 
 def test_a_line_that_is_refused(ends: Ends) -> None:
     ends.relay.refuse(True)
-    with socket.create_connection(("127.0.0.1", ends.relay.port), LIMIT) as second:
+    with socket.create_connection((HOST, ends.relay.port), LIMIT) as second:
         assert second.recv(1) == b""
 
 
