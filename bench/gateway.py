@@ -19,7 +19,7 @@ from collections.abc import Iterator, Sequence
 from dataclasses import dataclass, replace
 from pathlib import Path
 
-from tests.gateway.door import Door, Programs, free_port, programs_of
+from tests.gateway.door import Door, Port, Programs, programs_of
 from tests.gateway.firm import Identity, Places, settings_text
 from tests.gateway.market import moment_in
 
@@ -66,11 +66,11 @@ class Bench:
 
     def echo(self) -> Figures:
         with tempfile.TemporaryDirectory() as name:
-            folder, port = Path(name), free_port()
+            folder, port = Path(name), Port()
             settings = folder / "echo.cfg"
-            settings.write_text(echo_settings(folder, port))
+            settings.write_text(echo_settings(folder, port.number))
             with started([self.load, "echo", settings, folder / "echo.log"], "ready"):
-                return self.measured(folder, port, "R1")
+                return self.measured(folder, port.number, "R1")
 
     def gateway(self) -> Figures:
         return self.through_gateway().figures

@@ -15,7 +15,7 @@ import tempfile
 from dataclasses import dataclass
 from pathlib import Path
 
-from tests.gateway.door import Programs, free_port, programs_of, quoted, seal_text, venue_text
+from tests.gateway.door import Port, Programs, programs_of, quoted, seal_text, venue_text
 from tests.gateway.firm import Identity, Places, settings_text
 from tests.gateway.market import moment_in
 
@@ -79,7 +79,8 @@ class Bench:
 
     def run(self, count: int) -> float:
         """The quotes a second of all venues together."""
-        names, port = ["v%d" % number for number in range(count)], free_port()
+        names, held = ["v%d" % number for number in range(count)], Port()
+        port = held.number
         with contextlib.ExitStack() as stack:
             told = stack.enter_context((self.folder / "told").open("w+"))
             gateway = subprocess.Popen(

@@ -11,8 +11,8 @@
 # crates/fix_sessions_c/out (examples/prove_venue.py makes both); else second implementations, and the
 # pages say so. All that it writes is in FOLDER (examples/venue/out). GATEWAY and DESK name folders of
 # programs that are built already (gateway/out and desk/out); where one is missing, all are built in
-# examples/venue/out/built, to be had soon, not to be fast. PORTS names three ports: of the gateway, of INV1's
-# page and of DLR3's (8101 and 8102, or others where these are taken).
+# examples/venue/out/built, to be had soon, not to be fast. PORTS names four ports: of the gateway, and of
+# the pages of INV1, of DLR3 and of the operator (8101 to 8103, or others where these are taken).
 set -eu
 root=$(cd "$(dirname "$0")/.." && pwd)
 here=$root/examples/venue

@@ -28,18 +28,21 @@ end() {
 trap end EXIT
 trap 'exit 143' HUP INT TERM
 
-# free USUAL: this port of the loopback, or another one where it is taken.
+# free USUAL: this port of the loopback, or another one where it is taken: below those that the kernel gives to each
+# connection, of which one may be somebody else's again when the gateway begins.
 free() {
-    python3 -c 'import socket, sys
-probe = socket.socket()
-probe.setsockopt(socket.SOL_SOCKET, socket.SO_REUSEADDR, 1)
-try:
-    probe.bind(("127.0.0.1", int(sys.argv[1])))
-    probe.listen()
-except OSError:
-    probe = socket.socket()
-    probe.bind(("127.0.0.1", 0))
-print(probe.getsockname()[1])' "$1"
+    python3 -c 'import random, socket, sys
+port = int(sys.argv[1])
+while True:
+    with socket.socket() as probe:
+        probe.setsockopt(socket.SOL_SOCKET, socket.SO_REUSEADDR, 1)
+        try:
+            probe.bind(("127.0.0.1", port))
+            probe.listen()
+            break
+        except OSError:
+            port = random.SystemRandom().randrange(10000, 32768)
+print(port)' "$1"
 }
 # told COUNT EVENT PROCESS ..: waits until the gateway has told an event so often; not behind the end of a process.
 told() {

@@ -4,8 +4,10 @@ VENUE is the command line of the venue's program. What stands in the folder and 
 that a venue that was stopped goes on with its day.
 """
 
+import itertools
 import json
 import os
+import random
 import re
 import secrets
 import shlex
@@ -24,6 +26,8 @@ Row = dict[str, Any]
 
 # The firms that have a desk: firm, login, password, the page's port if it is free.
 DESKS = [("INV1", "ines", "investor-1", 8101), ("DLR3", "dora", "dealer-3", 8102)]
+OPERATORS_PAGE = 8103  # its port if it is free
+TRIES = 1000  # of a port
 LONGEST_SOCKET = 107  # bytes of the name of a socket
 SAMPLES = ["DLR1", "DLR2", "INV2"]  # those that trade by themselves
 
@@ -38,25 +42,29 @@ def write(path: Path, text: str) -> None:
     path.chmod(0o600)
 
 
-def free_port(usual: int) -> int:
-    """This port of the loopback, or another one where it is taken."""
-    for port in (usual, 0):
+def free_port(*usual: int) -> int:
+    """This port of the loopback, or another one where it is taken: below those that the kernel gives to each connection,
+    of which one may be somebody else's again when the gateway begins.
+    """
+    drawn = (random.SystemRandom().randrange(10_000, 32_768) for _ in range(TRIES))
+    for port in itertools.chain(usual, drawn):
         with socket.socket() as probe:
             probe.setsockopt(socket.SOL_SOCKET, socket.SO_REUSEADDR, 1)
             try:
                 probe.bind(("127.0.0.1", port))
             except OSError:
                 continue
-            return int(probe.getsockname()[1])
+            return port
     raise SystemExit("there is no free port")
 
 
 def ports() -> list[int]:
-    """Of the gateway, and of the page of each desk: those that PORTS names, or free ones."""
+    """Of the gateway, of the page of each desk, and of the operator's page: those that PORTS names, or free ones."""
+    usual = [desk[3] for desk in DESKS] + [OPERATORS_PAGE]
     named = [int(word) for word in os.environ.get("PORTS", "").split()]
-    if len(named) not in (0, 1 + len(DESKS)):
-        raise SystemExit(f"PORTS has {len(named)} ports, and {1 + len(DESKS)} are needed")
-    return named or [free_port(usual) for usual in (0, *(desk[3] for desk in DESKS))]
+    if len(named) not in (0, 1 + len(usual)):
+        raise SystemExit(f"PORTS has {len(named)} ports, and {1 + len(usual)} are needed")
+    return named or [free_port(), *map(free_port, usual)]
 
 
 def role_of(venue: Row, firm: str) -> str:
@@ -103,13 +111,12 @@ def fix_part(folder: Path, firm: str, port: int) -> list[str]:
     ]
 
 
-def operator_part(folder: Path) -> list[str]:
+def operator_part(folder: Path, page: int) -> list[str]:
     """The operator's socket, where the kernel can name it; and the page, which is told to whoever starts the venue."""
-    metrics = free_port(8103)
-    write(folder / "page", f"http://127.0.0.1:{metrics}/\n")
+    write(folder / "page", f"http://127.0.0.1:{page}/\n")
     has_room = len(os.fsencode(folder.resolve() / "admin.sock")) <= LONGEST_SOCKET
     socket_lines = ["[operator]", *toml({"socket": "admin.sock"})] if has_room else []
-    return [*socket_lines, "[metrics]", *toml({"port": metrics})]
+    return [*socket_lines, "[metrics]", *toml({"port": page})]
 
 
 def write_admin(folder: Path, gateway: str) -> None:
@@ -120,7 +127,7 @@ def write_admin(folder: Path, gateway: str) -> None:
     (folder / "admin").chmod(0o700)
 
 
-def write_gateway(folder: Path, port: int, command: list[str]) -> None:
+def write_gateway(folder: Path, port: int, page: int, command: list[str]) -> None:
     words = [str(Path(word).resolve()) if Path(word).is_file() else word for word in command]
     lines = [
         "[venue]",
@@ -138,7 +145,7 @@ def write_gateway(folder: Path, port: int, command: list[str]) -> None:
                 "checkpoints": "checkpoints",
             }
         ),
-        *operator_part(folder),
+        *operator_part(folder, page),
     ]
     write(folder / "gateway.toml", "\n".join(lines) + "\n")
 
@@ -219,7 +226,7 @@ def main() -> None:
     text = re.sub(r"(?m)^date = .*\n", "", (HERE / "venue.toml").read_text())
     venue = tomllib.loads(text)
     write(folder / "venue.toml", text)
-    fix_port, *page_ports = ports()
+    fix_port, *page_ports, operators_page = ports()
     firms = [row["name"] for row in venue["dealer"] + venue["investor"]]
     for firm in firms:
         write(folder / f"{firm}.market.toml", market_of(venue, firm))
@@ -227,7 +234,7 @@ def main() -> None:
         subprocess.run(
             [gateway, "--make-keys", folder / "keys"], stdout=subprocess.DEVNULL, check=True
         )
-    write_gateway(folder, fix_port, command)
+    write_gateway(folder, fix_port, operators_page, command)
     write_admin(folder, gateway)
     write_credentials(folder, gateway, firms)
     for firm in SAMPLES:

@@ -134,8 +134,8 @@ def is_link_to(link: Path, folder: Path) -> bool:
 
 @pytest.fixture
 def ports() -> list[Port]:
-    """Of the gateway and of two pages: nobody else is given these while the test runs."""
-    return [Port() for _ in range(3)]
+    """Of the gateway and of three pages: nobody else is given these while the test runs."""
+    return [Port() for _ in range(4)]
 
 
 def test_a_venue_whose_script_was_killed(

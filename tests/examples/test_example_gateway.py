@@ -12,7 +12,7 @@ from pathlib import Path
 
 import pytest
 
-from tests.gateway.door import free_port, today
+from tests.gateway.door import Port, today
 from tests.gateway.stage import Tools
 from tests.gateway.wait import LONG, until
 from tests.gateway.wire import Wire
@@ -43,12 +43,13 @@ def example(tools: Tools, place: Path) -> Iterator[Example]:
     for name in ("gateway.toml", "venue.toml", "credentials.toml"):
         shutil.copy(EXAMPLE / name, place / name)
     (place / "credentials.toml").chmod(0o600)
-    made = Example(place, tools.programs.gateway, free_port())
+    port, metrics = Port(), Port()
+    made = Example(place, tools.programs.gateway, port.number)
     command = json.dumps([*tools.programs.venue, "live", "--frames", "--marks"])
     file = place / "gateway.toml"
     text = re.sub("(?m)^command = .*", lambda _: "command = " + command, file.read_text())
     text = text.replace("port = 9878", "port = %d" % made.port)
-    file.write_text(text.replace("port = 9879", "port = %d" % free_port()))
+    file.write_text(text.replace("port = 9879", "port = %d" % metrics.number))
     file = place / "venue.toml"
     file.write_text(re.sub("(?m)^date = .*", 'date = "%s"' % today(), file.read_text()))
     keys = [str(made.gateway), "--make-keys", str(place / "keys")]
@@ -62,6 +63,8 @@ def example(tools: Tools, place: Path) -> Iterator[Example]:
     finally:
         process.terminate()
         process.wait(LONG)
+        port.close()
+        metrics.close()
 
 
 def is_let_in(example: Example, number: int) -> bool:

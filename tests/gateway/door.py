@@ -56,17 +56,16 @@ class Port:
         # After bind(), so that no other socket shares it: now one with the same option, as a server's, may have it too.
         self._held.setsockopt(socket.SOL_SOCKET, socket.SO_REUSEADDR, 1)
 
+    def close(self) -> None:
+        """Others may be given it from now on. As an object that is gone: hold it as long as a program has the port."""
+        self._held.close()
+
     def _is_had(self, number: int) -> bool:
         try:
             self._held.bind(("127.0.0.1", number))
         except OSError:
             return False
         return True
-
-
-def free_port() -> int:
-    """A port that is free now."""
-    return Port().number
 
 
 def venue_text(dealers: list[Identity], investors: list[Identity]) -> str:

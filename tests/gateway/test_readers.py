@@ -18,7 +18,7 @@ from parts.certificates import make_certificates, make_reader
 from parts.site import Folders
 
 from tests.admin.test_orders import quoted
-from tests.gateway.door import Door, free_port, today
+from tests.gateway.door import Door, Port, today
 from tests.gateway.firm import Identity
 from tests.gateway.ledger import PostgresLog
 from tests.gateway.stage import DEALER, INVESTOR
@@ -174,7 +174,8 @@ def servers() -> Iterator[Servers]:
     with tempfile.TemporaryDirectory(prefix="mrt") as folder:
         place = Path(folder)
         place.chmod(0o755)
-        made = Servers(place, programs, free_port())
+        port = Port()  # until the servers are ended: they are ended and started
+        made = Servers(place, programs, port.number)
         try:
             made.make_primary()
             OwnedLogs(made.at("primary", postgres.USER), place).make()
@@ -185,6 +186,7 @@ def servers() -> Iterator[Servers]:
             yield made
         finally:
             made.close()
+            port.close()
 
 
 def on_primary(servers: Servers, *statements: str) -> str:

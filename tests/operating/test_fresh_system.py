@@ -11,7 +11,7 @@ from pathlib import Path
 
 import pytest
 
-from tests.gateway.door import free_port
+from tests.gateway.door import Port
 from tests.gateway.firm import Firm, Identity, Places
 from tests.gateway.stage import Stage, Tools
 from tests.gateway.wait import LONG, until
@@ -184,7 +184,8 @@ def test_a_fresh_system(
     assert (fresh.root / "etc/mireseason").stat().st_mode & 0o7777 == 0o750
     assert (fresh.root / "etc/mireseason/credentials.toml").stat().st_mode & 0o7777 == 0o640
     fresh.run("sha256sum", "--check", "/usr/share/mireseason/programs")
-    port, metrics = free_port(), free_port()
+    sessions, page = Port(), Port()  # held to the end: the gateway is ended and started
+    port, metrics = sessions.number, page.number
     set_hours(fresh.root)
     fresh.edit("etc/mireseason/gateway.toml", "port = 9878", "port = %d" % port)
     fresh.edit("etc/mireseason/gateway.toml", "port = 9879", "port = %d" % metrics)

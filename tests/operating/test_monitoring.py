@@ -18,7 +18,7 @@ import pytest
 from mireseason_keeper.keeper import Counts
 from mireseason_keeper.metrics import text_of
 
-from tests.gateway.door import free_port
+from tests.gateway.door import Port
 from tests.gateway.market import BOND
 from tests.gateway.stage import DEALER, INVESTOR, OTHER, Stage
 from tests.gateway.test_logon import certificate, with_tls
@@ -208,7 +208,7 @@ def test_rules_know_the_metrics(stage: Stage) -> None:
 @contextmanager
 def prometheus(stage: Stage) -> Iterator[int]:
     """Debian's, which looks at the gateway each second, with the rules of this repository; its port."""
-    port, folder = free_port(), stage.folder
+    port, folder = Port(), stage.folder
     (folder / "prometheus.yml").write_text(
         "global: {scrape_interval: 1s, evaluation_interval: 1s}\nrule_files: [%s]\n"
         % json.dumps(str(RULES))
@@ -219,15 +219,16 @@ def prometheus(stage: Stage) -> Iterator[int]:
         "prometheus",
         "--config.file=prometheus.yml",
         "--storage.tsdb.path=prometheus",
-        "--web.listen-address=127.0.0.1:%d" % port,
+        "--web.listen-address=127.0.0.1:%d" % port.number,
     ]
     with (folder / "prometheus.told").open("wb") as told:
         process = subprocess.Popen(words, cwd=folder, stdout=told, stderr=subprocess.STDOUT)
     try:
-        yield port
+        yield port.number
     finally:
         process.terminate()
         process.wait()
+        port.close()
 
 
 def firing(port: int) -> set[str]:
