@@ -1,0 +1,376 @@
+"""What one look of the keeper does with the days in PostgreSQL, moment by moment, over stand-ins of the database and of copies.
+
+`test_keeper.py` has a database, a gateway and the audit in their place.
+"""
+
+import fcntl
+import os
+from collections.abc import Callable, Iterator
+from contextlib import contextmanager
+from dataclasses import dataclass, field
+from datetime import datetime, timedelta, timezone
+from pathlib import Path
+
+import pytest
+from mireseason_keeper import keeper as keepers
+from mireseason_keeper import main
+from mireseason_keeper.copies import DayCopy
+from mireseason_keeper.database import Column, End, Table
+from mireseason_keeper.day_file import digest_of_log
+from mireseason_keeper.faults import Fault
+from mireseason_keeper.keeper import Counts, Keeper
+from mireseason_keeper.metrics import write_metrics
+from mireseason_keeper.settings import Settings, read_settings
+
+FIRST, SECOND, TODAY, NEXT = ("day_202611%d" % day for day in (25, 26, 27, 28))
+NOON = datetime(2026, 11, 27, 12, tzinfo=timezone.utc)
+MIDNIGHT = NOON.replace(hour=0)  # the end of SECOND
+ENTRY = Table("entry", (Column("place", "integer", True, True),))
+CONFIGURATION = """[log]
+postgres = "primary"
+readers = "standby"
+[copies]
+folder = "copies"
+[seal]
+key = "seal.pem"
+gateways = ["gateway.pub"]
+[metrics]
+file = "keeper.prom"
+"""
+
+
+@dataclass
+class Day:
+    """A log."""
+
+    entries: tuple[bytes, ...] = (b"entry 0",)
+    how: End = End(True, True)
+
+    def first_line(self) -> bytes | None:
+        return self.entries[0] if self.entries else None
+
+    def end(self) -> End:
+        return self.how
+
+    def tables(self) -> list[Table]:
+        return [ENTRY]
+
+    def rows(self, _: Table) -> Iterator[tuple[bytes, ...]]:
+        return ((entry,) for entry in self.entries)
+
+
+@dataclass
+class Around:
+    """All that the keeper has to do with, and what it did there."""
+
+    days: dict[str, Day] = field(default_factory=dict)
+    sealed: set[str] = field(default_factory=set)
+    refused: set[str] = field(default_factory=set)  # logs, and servers, that answer nothing
+    others: set[str] = field(default_factory=set)  # logs that a gateway makes at the same moment
+    long_readers: int = 0
+    has_program: bool = True
+    done: list[str] = field(default_factory=list)
+
+    def refuse(self, name: str) -> None:
+        if name in self.refused:
+            raise Fault("%s does not answer" % name)
+
+
+@dataclass
+class Database:
+    """Stands for a server of the logs."""
+
+    around: Around
+    connection: str
+
+    def logs(self) -> list[str]:
+        return sorted(self.around.days)
+
+    def make(self, schema: str) -> None:
+        if schema in self.around.others:
+            self.around.days[schema] = Day()
+            raise Fault("%s is there" % schema)
+        self.around.refuse(schema)
+        self.around.days[schema] = Day(())
+        self.around.done.append("make " + schema)
+
+    def remove(self, schema: str) -> None:
+        del self.around.days[schema]
+        self.around.done.append("remove " + schema)
+
+    def end_long(self, role: str, longest: timedelta) -> int:
+        self.around.refuse(self.connection)
+        minutes = longest / timedelta(minutes=1)
+        self.around.done.append("end %s of %s after %d" % (role, self.connection, minutes))
+        return self.around.long_readers
+
+    @contextmanager
+    def reading(self, schema: str) -> Iterator[Day]:
+        self.around.refuse(schema)
+        yield self.around.days[schema]
+
+
+@dataclass
+class Copies:
+    """Stands for the copies: a folder for each."""
+
+    around: Around
+
+    def begin(self, log: Day, schema: str, folder: Path) -> None:
+        assert log is self.around.days[schema]
+        self.around.done.append("begin %s at %s" % (schema, folder.name))
+
+    def finish(self, schema: str, venue: str, day: str, folder: Path) -> DayCopy:
+        folder.mkdir()
+        self.around.done.append("finish %s of [%s] %s" % (schema, venue, day))
+        return DayCopy(self.around.has_program, "verdict: it is good")
+
+    def is_sealed(self, schema: str, folder: Path) -> bool:
+        assert folder.exists()
+        return schema in self.around.sealed
+
+    def check_anew(self, digest: str, schema: str, folder: Path, words: list[str]) -> None:
+        assert digest == digest_of_log(self.around.days[schema])  # type: ignore[arg-type]
+        self.around.refuse(folder.name)
+        self.around.done.append("check %s with %s" % (folder.name, " ".join(words)))
+
+
+@dataclass
+class Stood:
+    """A keeper among stand-ins."""
+
+    around: Around
+    file: Path
+    said: Callable[[], str]
+
+    @property
+    def settings(self) -> Settings:
+        return read_settings(self.file)
+
+    def has_copies(self, *dates: str) -> None:
+        for date in dates:
+            (self.settings.folder / date).mkdir()
+
+    def looks(self, now: datetime = NOON) -> tuple[list[str], list[str], Counts]:
+        """What it did, but for readers and what is said of tables, what it said, and what it counted."""
+        self.around.done.clear()
+        counts = Keeper(self.settings, lambda: now).run()
+        done = [line for line in self.around.done if not line.startswith("end ")]
+        return done, self.said().splitlines(), counts
+
+
+@pytest.fixture
+def stood(
+    place: Path, monkeypatch: pytest.MonkeyPatch, capsys: pytest.CaptureFixture[str]
+) -> Stood:
+    around = Around({TODAY: Day(), NEXT: Day(())})
+    monkeypatch.setattr(keepers, "Database", lambda connection: Database(around, connection))
+    monkeypatch.setattr(keepers, "Copies", lambda settings: Copies(around))
+    (place / "copies").mkdir()
+    (place / "keeper.toml").write_text(CONFIGURATION)
+    return Stood(around, place / "keeper.toml", lambda: capsys.readouterr().err)
+
+
+def test_tables_of_the_days_that_are_next(stood: Stood) -> None:
+    """Of the day that goes on and the one behind it; a day that has its tables is left alone."""
+    assert stood.looks() == ([], [], Counts())
+    del stood.around.days[NEXT]
+    assert stood.looks() == (["make " + NEXT], ["tables made log=" + NEXT], Counts())
+    stood.around.days.clear()
+    assert stood.looks()[0] == ["make " + TODAY, "make " + NEXT]
+
+
+def test_tables_that_are_not_made(stood: Stood) -> None:
+    """A fault, unless a gateway has made them meanwhile; and the other day has its own all the same."""
+    stood.around.days.clear()
+    stood.around.refused.add(TODAY)
+    told = 'tables are not made log=%s cause="%s does not answer"' % (TODAY, TODAY)
+    done, said, counts = stood.looks()
+    assert (done, said[0]) == (["make " + NEXT], told)
+    assert counts == Counts(without_tables=1, at_fault=1)
+    stood.around.others.add(TODAY)
+    assert stood.looks() == ([], [], Counts())
+
+
+LATE, CLOSED, OPEN = timedelta(minutes=10), End(True, True), End(True, False)
+A_SECOND = timedelta(seconds=1)
+# How the day before ends, how long after it somebody looks, and what is said; a copy is made where it is the first.
+ENDS = {
+    "it is closed": (CLOSED, timedelta(0), "day copied"),
+    "it is not closed": (OPEN, LATE - A_SECOND, "day is not closed yet"),
+    "it is never closed": (OPEN, LATE, "day copied"),
+    "somebody writes there": (End(False, False), LATE, "day is still written"),
+    "somebody closes it": (End(False, True), LATE, "day is still written"),
+}
+
+
+@pytest.mark.parametrize("name", ENDS)
+def test_when_a_day_is_copied(stood: Stood, name: str) -> None:
+    """Once its gateway has closed it, or ten minutes later, if it has ended; what waits is no fault."""
+    end, later, expected = ENDS[name]
+    stood.around.days[SECOND] = Day(how=end)
+    stood.around.sealed.add(SECOND)
+    done, said, counts = stood.looks(MIDNIGHT + later)
+    assert said[0].startswith("%s log=%s" % (expected, SECOND))
+    if expected != "day copied":
+        assert (done, len(said), counts) == ([], 1, Counts(without_copy=1))
+        return
+    folder = stood.settings.folder / "20261126"
+    assert done == ["begin %s at 20261126" % SECOND, "finish %s of [] 20261126" % SECOND]
+    assert said == ['day copied log=%s to=%s audit="verdict: it is good"' % (SECOND, folder)]
+    assert counts == Counts() and stood.looks(MIDNIGHT + later) == ([], [], Counts())
+
+
+def test_a_day_that_has_not_ended_is_not_copied(stood: Stood) -> None:
+    stood.around.days[SECOND] = Day()
+    assert stood.looks(MIDNIGHT - A_SECOND)[0] == []
+
+
+def test_a_copy_without_its_program(stood: Stood) -> None:
+    stood.around.days[SECOND] = Day()
+    stood.around.sealed.add(SECOND)
+    stood.around.has_program = False
+    done, said, counts = stood.looks()
+    assert said[1:] == ["day is copied without its program log=" + SECOND]
+    assert len(done) == 2 and counts == Counts()
+
+
+def test_a_copy_without_a_seal(stood: Stood) -> None:
+    """Each look tells where to look, and its log stays."""
+    stood.around.days |= {FIRST: Day(), SECOND: Day()}
+    stood.has_copies("20261125", "20261126")
+    stood.around.sealed.add(SECOND)
+    stood.file.write_text(CONFIGURATION.replace("[seal]", "keep = 1\n[seal]"))
+    report = stood.settings.folder / "20261125" / "check.txt"
+    told = "copy has no seal log=%s: look at %s" % (FIRST, report)
+    assert stood.looks() == ([], [told], Counts(without_seal=1, at_fault=1))
+    assert FIRST in stood.around.days
+
+
+def test_which_days_go(stood: Stood) -> None:
+    """The oldest, where so many are to stay: each after its copy was checked anew."""
+    stood.around.days |= {FIRST: Day(), SECOND: Day()}
+    stood.around.sealed |= {FIRST, SECOND}
+    stood.has_copies("20261125", "20261126")
+    assert stood.looks() == ([], [], Counts())
+    stood.file.write_text(CONFIGURATION.replace("[seal]", "keep = 2\n[seal]"))
+    assert stood.looks() == ([], [], Counts())
+    stood.file.write_text(CONFIGURATION.replace("[seal]", "keep = 1\n[seal]"))
+    stood.around.refused.add("20261125")
+    told = 'log is not removed log=%s cause="20261125 does not answer"' % FIRST
+    assert stood.looks() == ([], [told], Counts(at_fault=1))
+    stood.around.refused.clear()
+    checked = "check 20261125 with --date 20261125 --venue-name -"
+    told = "log removed log=%s copy=%s" % (FIRST, stood.settings.folder / "20261125")
+    assert stood.looks() == ([checked, "remove " + FIRST], [told], Counts())
+
+
+def test_a_day_that_nobody_began(stood: Stood) -> None:
+    """Its tables go, it needs no copy, and it counts for none of those that are to stay."""
+    stood.around.days |= {FIRST: Day(), SECOND: Day(())}
+    stood.around.sealed.add(FIRST)
+    stood.has_copies("20261125")
+    stood.file.write_text(CONFIGURATION.replace("[seal]", "keep = 1\n[seal]"))
+    told = "tables of no day removed log=" + SECOND
+    assert stood.looks() == (["remove " + SECOND], [told], Counts())
+    assert sorted(stood.around.days) == [FIRST, TODAY, NEXT]
+
+
+def test_a_day_that_can_not_be_read(stood: Stood) -> None:
+    """It keeps no other from being copied, and stays."""
+    stood.around.days |= {FIRST: Day(), SECOND: Day()}
+    stood.around.sealed |= {FIRST, SECOND}
+    stood.around.refused.add(FIRST)
+    done, said, counts = stood.looks()
+    assert said[0] == 'log is not read log=%s cause="%s does not answer"' % (FIRST, FIRST)
+    assert len(done) == 2 and SECOND in done[1] and counts == Counts(at_fault=1)
+
+
+def test_a_place_of_copies_that_is_away(stood: Stood) -> None:
+    stood.around.days[SECOND] = Day()
+    stood.settings.folder.rmdir()
+    _, said, counts = stood.looks()
+    assert said[0].startswith('day is not copied log=%s cause="[Errno 2]' % SECOND)
+    assert counts == Counts(without_copy=1, at_fault=1)
+
+
+def test_readers_that_take_long(stood: Stood) -> None:
+    """On both servers, after ten minutes; one that does not answer keeps the other from nothing."""
+    stood.looks()
+    ended = ["end reader of %s after 10" % server for server in ("primary", "standby")]
+    assert stood.around.done == ended
+    stood.around.refused.add("primary")
+    stood.around.long_readers = 3
+    _, said, counts = stood.looks()
+    assert said[0] == 'readers are not looked at cause="primary does not answer"'
+    assert said[1].startswith("readers ended count=3") and counts == Counts(at_fault=1)
+    stood.file.write_text(CONFIGURATION.replace('readers = "standby"\n', ""))
+    assert len(stood.looks()[1]) == 1
+
+
+def test_a_line_is_one_line(capsys: pytest.CaptureFixture[str]) -> None:
+    """What a database or a file says gives no second line to the journal, and nothing to a terminal."""
+    keepers.say("a\nb\x1b[1m")
+    assert capsys.readouterr().err == "a?b?[1m\n"
+
+
+# ------------------------------------------------------------ the command
+
+
+def figures(file: Path) -> dict[str, int]:
+    lines = [line for line in file.read_text().splitlines() if not line.startswith("#")]
+    pairs = (line.split(" ") for line in lines)
+    return {name.removeprefix("mireseason_"): int(value) for name, value in pairs}
+
+
+def test_what_prometheus_is_told(place: Path) -> None:
+    """Each number under its own name, in a file that another user may read."""
+    counts = Counts(without_copy=1, without_seal=2, at_fault=3, without_tables=4)
+    write_metrics(place / "keeper.prom", counts, NOON)
+    assert figures(place / "keeper.prom") == {
+        "days_without_copy": 1,
+        "copies_without_seal": 2,
+        "keeper_faults": 3,
+        "days_without_tables": 4,
+        "keeper_last_run_timestamp_seconds": 1795780800,
+    }
+    assert (place / "keeper.prom").stat().st_mode & 0o777 == 0o644
+    assert [path.name for path in place.iterdir()] == ["keeper.prom"]
+
+
+def test_the_status_of_a_run(stood: Stood) -> None:
+    """0 where all was done, 1 where something is at fault; the metrics are written either way."""
+    stood.around.days.clear()
+    metrics = stood.file.with_name("keeper.prom")
+    assert main.run(stood.file, stood.settings) == 0
+    assert figures(metrics)["keeper_faults"] == 0
+    stood.around.refused.add("primary")
+    assert main.run(stood.file, stood.settings) == 1
+    assert figures(metrics)["keeper_faults"] == 1
+    stood.file.write_text(CONFIGURATION.partition("[metrics]")[0])
+    stood.around.refused.clear()
+    assert main.run(stood.file, stood.settings) == 0
+
+
+def test_a_run_that_does_nothing(stood: Stood, monkeypatch: pytest.MonkeyPatch) -> None:
+    """A server that does not answer at all is one fault, which the metrics have."""
+
+    def logs(self: Database) -> list[str]:
+        raise Fault("no server")
+
+    monkeypatch.setattr(Database, "logs", logs)
+    assert main.run(stood.file, stood.settings) == 1
+    assert stood.said() == 'nothing is done cause="no server"\n'
+    assert figures(stood.file.with_name("keeper.prom"))["keeper_faults"] == 1
+
+
+def test_two_runs_at_once(stood: Stood) -> None:
+    """The second one does nothing and is no fault; the metrics stay those of the first."""
+    number = os.open(stood.file, os.O_RDONLY)
+    try:
+        fcntl.flock(number, fcntl.LOCK_EX)
+        assert main.run(stood.file, stood.settings) == 0
+    finally:
+        os.close(number)
+    assert stood.said() == "another run goes on\n" and stood.around.done == []
+    assert not stood.file.with_name("keeper.prom").exists()
