@@ -12,6 +12,7 @@ import pytest
 from tests.gateway.wait import LONG
 from tests.harness.options import ROOT
 from tests.operating.scripts import script_of
+from tests.operating.test_removal import Host
 
 # Each command of a script, of which the one that is said is never run: the script is killed there.
 COMMANDS = ("rm", "mkdir", "cp", "openssl", "mireseason-gateway", "chown", "chmod", "mv", "rmdir")
@@ -95,7 +96,13 @@ class Configured:
         }
         words = ["sh", str(self.place / "postinst"), "configure"]
         done = subprocess.run(
-            words, env=environment, capture_output=True, text=True, timeout=LONG, check=False
+            words,
+            env=environment,
+            umask=0o077,  # an administrator's, under which dpkg may be called
+            capture_output=True,
+            text=True,
+            timeout=LONG,
+            check=False,
         )
         began = len(calls.read_text())
         assert (done.returncode == 0) == (dies_at not in range(1, began + 1)), done.stderr
@@ -160,6 +167,7 @@ def test_a_gateways_own_configuration_stays(configure: Configure, place: Path) -
         assert not file.exists()
         return
     assert file.read_text() == Path(CONFIG, "gateway.toml").read_text()
+    assert file.stat().st_mode & 0o777 == 0o644
     file.write_text("[venue]\n")
     configured.run(0)
     assert file.read_text() == "[venue]\n"
@@ -178,6 +186,63 @@ def test_keys_that_are_there_stay(configure: Configure, place: Path) -> None:
     configured.run(0)
     configured.check()
     assert (configured.folder / (public + ".~1~")).read_bytes() == before[public]
+
+
+# Of each package: whose group may read its configuration, what of it nobody else may read, and what is there so that no key is made.
+READERS = {
+    "mireseason-gateway": ("mireseason", "etc/mireseason/credentials.toml", "keys/seal.key"),
+    "mireseason-keeper": ("mireseason-keeper", "etc/mireseason-keeper/keeper.toml", "seal.pem"),
+    "mireseason-desk": ("mireseason-desk", "etc/mireseason-desk/desk.toml", "desk.toml"),
+}
+TELLING_CHOWN = '#!/bin/sh\necho "$*" >>"%s"\n'
+
+
+def host_of(place: Path, package: str) -> tuple[Host, Path]:
+    """A host with a package's configuration that everybody may read, and its secret file."""
+    host, (_, secret, key) = Host(place), READERS[package]
+    host.has(secret, str(Path(secret).parent / key), str(Path(secret).with_name("gateway.toml")))
+    (place / "chown").write_text(TELLING_CHOWN % (place / "owned"))
+    (place / "chown").chmod(0o755)
+    for path in (place / secret, (place / secret).parent):
+        path.chmod(0o777)
+    return host, place / secret
+
+
+@pytest.mark.parametrize("package", READERS)
+def test_a_secret_that_others_could_read(place: Path, package: str) -> None:
+    """Of an older version, or made by hand: after a configuration its service alone reads it."""
+    host, secret = host_of(place, package)
+    owner = "root:" + READERS[package][0]
+    host.run(package, "postinst", "abort-upgrade", "1.1")
+    assert not (place / "owned").exists() and secret.stat().st_mode & 0o777 == 0o777
+    host.run(package, "postinst", "configure")
+    owned = (place / "owned").read_text().splitlines()
+    assert owned == ["%s %s" % (owner, path) for path in (secret.parent, secret)]
+    assert [path.stat().st_mode & 0o777 for path in (secret.parent, secret)] == [0o750, 0o640]
+
+
+@pytest.mark.parametrize("package", READERS)
+def test_a_link_in_the_place_of_a_secret(place: Path, package: str) -> None:
+    """Whoever put it there has no file elsewhere given to the service; and one that is not there is not made."""
+    host, secret = host_of(place, package)
+    secret.rename(place / "elsewhere")
+    secret.symlink_to(place / "elsewhere")
+    host.run(package, "postinst", "configure")
+    assert (place / "elsewhere").stat().st_mode & 0o777 == 0o777
+    assert len((place / "owned").read_text().splitlines()) == 1
+    secret.unlink()
+    host.run(package, "postinst", "configure")
+    assert not secret.exists()
+
+
+def test_a_configuration_that_is_a_link(place: Path) -> None:
+    """An operator's link to a file that is away for a moment stays."""
+    host, secret = host_of(place, "mireseason-gateway")
+    file = secret.with_name("gateway.toml")
+    file.unlink()
+    file.symlink_to(place / "away")
+    host.run("mireseason-gateway", "postinst", "configure")
+    assert file.is_symlink() and not file.exists()
 
 
 def fits(place: Path, program: str) -> subprocess.CompletedProcess[str]:
@@ -205,6 +270,7 @@ def test_what_a_check_leaves_behind_holds_up_no_upgrade(place: Path) -> None:
     program = '#!/bin/sh\nsetsid sh -c \'read -r line <"$0"\' "%s" &\necho right\n'
     done = fits(place, program % (place / "ends"))
     assert done.returncode == 0 and not done.stderr, done
+    assert {path.name for path in place.iterdir()} == {"bin", "ends"}
     with (place / "ends").open("w") as file:
         file.write("now\n")
 
