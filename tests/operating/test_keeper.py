@@ -4,13 +4,18 @@ that is not there."""
 import os
 import re
 import shlex
+import sqlite3
 import subprocess
 from collections.abc import Iterator
+from contextlib import closing
 from dataclasses import dataclass
 from datetime import date, datetime, timedelta, timezone
 from pathlib import Path
 
 import pytest
+from mireseason_keeper.database import Database
+from mireseason_keeper.day_file import digest_of_file, digest_of_log, write_day
+from mireseason_keeper.faults import Fault
 
 from tests.gateway.ledger import PostgresLog
 from tests.gateway.stage import Stage, Tools
@@ -274,6 +279,114 @@ def test_what_the_keepers_role_may_not(owned: OwnedLogs) -> None:
     assert said(owned.of("keeper"), "SELECT * FROM %s.entry" % old).returncode == 0
     assert said(owned.of("keeper"), "SELECT mireseason.remove_log('%s')" % old).returncode == 0
     assert owned.logs() == []
+
+
+# ------------------------------------------------------------ a day's rows, without a gateway
+
+DAY = "day_20200102"
+# Rows as no gateway would put them: out of order, with and without a value, and more than are asked for at a time.
+ENTRIES = (
+    "INSERT INTO entry VALUES (1, 0, 'b', 'c', 'DLR1', 2, 3, '\\x01ff', '', '\\x00'),"
+    " (0, 0, '', '', NULL, NULL, NULL, 'entry 0', '', '')"
+)
+SENT = "INSERT INTO sent SELECT firm, n, 0, '\\x00' FROM unnest('{b,B,a}'::text[]) firm, generate_series(1, %d) n"
+ROWS = 400  # of each firm
+
+
+def put(owned: OwnedLogs, *statements: str) -> None:
+    """What the day's tables would let no gateway do."""
+    owned.did("SET session_replication_role = replica", "SET search_path TO " + DAY, *statements)
+
+
+@pytest.fixture
+def day(owned: OwnedLogs) -> Database:
+    """The database as the keeper sees it, with the tables of a day."""
+    made = Database(owned.of("keeper"))
+    made.make(DAY)
+    return made
+
+
+def test_days_by_their_names(owned: OwnedLogs, day: Database) -> None:
+    """Made and removed, each for all; and what the server refuses is a fault in one line."""
+    day.make("day_20990101")
+    assert day.logs() == owned.logs() == [DAY, "day_20990101"]
+    with pytest.raises(Fault, match='^schema "%s" already exists' % DAY) as fault:
+        day.make(DAY)
+    assert "\n" not in str(fault.value)
+    with pytest.raises(Fault, match="is not over"):
+        day.remove("day_20990101")
+    day.remove(DAY)
+    assert day.logs() == ["day_20990101"]
+    with pytest.raises(Fault, match="^%s: " % DAY), day.reading(DAY) as log:
+        log.first_line()
+
+
+def test_a_day_as_a_file(owned: OwnedLogs, day: Database, place: Path) -> None:
+    """All of its tables but for who speaks, with their keys, and each row once: the log and the file have one digest."""
+    file = place / "day.db"
+    with day.reading(DAY) as log:
+        assert log.first_line() is None
+    put(owned, ENTRIES, SENT % ROWS)
+    with day.reading(DAY) as log:
+        assert log.first_line() == b"entry 0"
+        digest = write_day(log, file)
+        assert digest == digest_of_log(log) == digest_of_file(file)
+        put(owned, "UPDATE sent SET place = 1 WHERE firm = 'a' AND number = %d" % ROWS)
+        assert digest_of_log(log) == digest, "a reader sees what was changed after it began"
+    with day.reading(DAY) as log:
+        assert digest_of_log(log) != digest
+    with closing(sqlite3.connect(file)) as copy:
+        tables = copy.execute("SELECT name FROM sqlite_schema WHERE type = 'table'").fetchall()
+        expected = "checkpoint connection entry form outgoing seal sent session"
+        assert sorted(name for (name,) in tables) == expected.split()
+        keys = 'SELECT name, type, "notnull", pk FROM pragma_table_info(?)'
+        assert copy.execute(keys, ("sent",)).fetchall() == [
+            ("firm", "TEXT", 1, 1),
+            ("number", "INTEGER", 1, 2),
+            ("place", "INTEGER", 1, 0),
+            ("bytes", "BYTEA", 1, 0),
+        ]
+        assert copy.execute(keys, ("entry",)).fetchall()[4] == ("firm", "TEXT", 0, 0)
+        assert copy.execute("SELECT * FROM entry ORDER BY place").fetchall() == [
+            (0, 0, "", "", None, None, None, b"entry 0", b"", b""),
+            (1, 0, "b", "c", "DLR1", 2, 3, b"\x01\xff", b"", b"\x00"),
+        ]
+        sent = copy.execute("SELECT firm, number, place, bytes FROM sent ORDER BY rowid").fetchall()
+    assert sent == [(firm, n, 0, b"\0") for firm in "Bab" for n in range(1, ROWS + 1)]
+
+
+def test_how_a_log_ends(owned: OwnedLogs, day: Database) -> None:
+    """Silent for five seconds, and signed up to its last entry and the last row of the door."""
+
+    def end(*statements: str) -> tuple[bool, bool]:
+        put(owned, *statements)
+        with day.reading(DAY) as log:
+            found = log.end()
+        assert found.is_closed == (found.is_silent and found.is_signed)
+        return found.is_silent, found.is_signed
+
+    def signed(number: int, place: int, event: int) -> str:
+        return "INSERT INTO checkpoint VALUES (%d, 0, %d, %d, 0, 0, '')" % (number, place, event)
+
+    assert end() == (True, False)
+    assert end(ENTRIES) == (True, False)
+    assert end(signed(1, 0, 0)) == (True, False)
+    assert end(signed(2, 1, 0)) == (True, True)
+    door = "INSERT INTO connection VALUES (1, 0, '', 'end', 0, 1, NULL, '', NULL, '', 0, '', '')"
+    assert end(door) == (True, False)
+    assert end(signed(3, 1, 1)) == (True, True)
+    assert end("UPDATE speaker SET seen = clock_timestamp() + interval '1 hour'") == (False, True)
+    assert end("UPDATE speaker SET seen = clock_timestamp() - interval '6 s'") == (True, True)
+
+
+@pytest.mark.parametrize(
+    "table", ['"Other" (x INTEGER)', 'other ("X" INTEGER)', "other (x INTEGER, y REAL)"]
+)
+def test_tables_that_no_log_has(owned: OwnedLogs, day: Database, table: str) -> None:
+    """Their names would stand in statements of SQLite."""
+    put(owned, "CREATE TABLE " + table)
+    with day.reading(DAY) as log, pytest.raises(Fault, match="is none of a log"):
+        log.tables()
 
 
 def test_tables_of_another_form(owned: OwnedLogs) -> None:

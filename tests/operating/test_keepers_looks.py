@@ -1,10 +1,14 @@
-"""What one look of the keeper does with the days in PostgreSQL, moment by moment, over stand-ins of the database and of copies.
+"""What one look of the keeper does with the days in PostgreSQL, moment by moment, over stand-ins of the database, of copies and of the
+audit.
 
 `test_keeper.py` has a database, a gateway and the audit in their place.
 """
 
 import fcntl
 import os
+import shutil
+import subprocess
+import sys
 from collections.abc import Callable, Iterator
 from contextlib import contextmanager
 from dataclasses import dataclass, field
@@ -12,11 +16,12 @@ from datetime import datetime, timedelta, timezone
 from pathlib import Path
 
 import pytest
+from mireseason_keeper import copies as copying
 from mireseason_keeper import keeper as keepers
 from mireseason_keeper import main
 from mireseason_keeper.copies import DayCopy
-from mireseason_keeper.database import Column, End, Table
-from mireseason_keeper.day_file import digest_of_log
+from mireseason_keeper.database import Column, End, Log, Table
+from mireseason_keeper.day_file import digest_of_file, digest_of_log, write_day
 from mireseason_keeper.faults import Fault
 from mireseason_keeper.keeper import Counts, Keeper
 from mireseason_keeper.metrics import write_metrics
@@ -25,7 +30,7 @@ from mireseason_keeper.settings import Settings, read_settings
 FIRST, SECOND, TODAY, NEXT = ("day_202611%d" % day for day in (25, 26, 27, 28))
 NOON = datetime(2026, 11, 27, 12, tzinfo=timezone.utc)
 MIDNIGHT = NOON.replace(hour=0)  # the end of SECOND
-ENTRY = Table("entry", (Column("place", "integer", True, True),))
+ENTRY = Table("entry", (Column("line", "bytea", True, True),))
 CONFIGURATION = """[log]
 postgres = "primary"
 readers = "standby"
@@ -314,6 +319,162 @@ def test_a_line_is_one_line(capsys: pytest.CaptureFixture[str]) -> None:
     assert capsys.readouterr().err == "a?b?[1m\n"
 
 
+# ------------------------------------------------------------ a copy that is read anew
+
+# Notes its words and the key that it is given, and says two lines, or nothing.
+AUDIT = """#!/bin/sh
+echo "$*" >"%(words)s"
+for word; do [ "$before" != --key ] || cat "$word" >"%(words)s.key"; before=$word; done
+[ -z "%(verdict)s" ] || printf '%%s\\n' "it began" "%(verdict)s"
+exit %(status)d
+"""
+
+
+@dataclass
+class Copied:
+    """A copy of a day, with the keys and the audit of its keeper."""
+
+    stood: Stood
+    day: Day = field(default_factory=Day)
+
+    def __post_init__(self) -> None:
+        for words in (
+            "genpkey -algorithm ed25519 -out seal.pem",
+            "pkey -in seal.pem -pubout -out seal.pub",
+        ):
+            subprocess.run(["openssl", *words.split()], cwd=self.place, check=True)
+        program = '[venue]\nprogram = "program"\n[audit]\ncommand = ["%s"]\n' % self.audit
+        self.stood.file.write_text(program + CONFIGURATION)
+        self.audits("verdict: it is good", 0)
+        self.copies.begin(self.log, FIRST, self.folder)
+        part = copying.part_of(self.folder)
+        (part / "later.checkpoints").touch()
+        self.copies.close(part, self.folder)
+
+    @property
+    def place(self) -> Path:
+        return self.stood.file.parent
+
+    @property
+    def audit(self) -> Path:
+        return self.place / "audit"
+
+    @property
+    def copies(self) -> copying.Copies:
+        return copying.Copies(self.stood.settings)
+
+    @property
+    def folder(self) -> Path:
+        return self.place / "copies" / "20261125"
+
+    @property
+    def log(self) -> Log:
+        return self.day  # type: ignore[return-value]
+
+    def audits(self, verdict: str, status: int) -> None:
+        told = {"words": self.place / "words", "verdict": verdict, "status": status}
+        self.audit.write_text(AUDIT % told)
+        self.audit.chmod(0o755)
+
+    def is_checked(self) -> None:
+        self.copies.check_anew(digest_of_log(self.log), FIRST, self.folder, ["--date", "20261125"])
+
+    def is_refused(self, cause: str) -> None:
+        with pytest.raises(Fault, match=cause):
+            self.is_checked()
+
+
+@pytest.fixture
+def copied(stood: Stood) -> Copied:
+    return Copied(stood)
+
+
+def test_what_a_copy_is_checked_by(copied: Copied) -> None:
+    """The keeper's own seal, the gateways' keys, what they have signed, and the venue's program: the copy's, if it has one."""
+    copied.is_checked()
+    words = (copied.place / "words").read_text().split()
+    log = copied.folder / (FIRST + ".db")
+    assert words[:6] == [
+        "check",
+        str(log),
+        "--date",
+        "20261125",
+        "--venue",
+        "%s/program" % copied.place,
+    ]
+    assert words[6] == "--key" and words[8:] == [
+        "--gateway-key",
+        str(copied.place / "gateway.pub"),
+        "--checkpoint",
+        str(copied.folder / "later.checkpoints"),
+    ]
+    assert (copied.place / "words.key").read_bytes() == (copied.place / "seal.pub").read_bytes()
+    shutil.rmtree(copied.folder)
+    copied.copies.begin(copied.log, FIRST, copied.folder)
+    (copying.part_of(copied.folder) / "program").touch()
+    copied.copies.close(copying.part_of(copied.folder), copied.folder)
+    copied.is_checked()
+    words = (copied.place / "words").read_text().split()
+    assert words[4:6] == ["--venue", str(copied.folder / "program")]
+
+
+def test_copies_that_are_not_what_they_were(copied: Copied) -> None:
+    """By the audit, by the log's rows, and by the sums of its files: of one that is gone, of a new one and of a changed one."""
+    copied.audits("verdict: it is not", 1)
+    copied.is_refused("^the audit of its copy: verdict: it is not$")
+    copied.audits("", 2)
+    copied.is_refused("^the audit of its copy: it says nothing$")
+    copied.audits("verdict: it is good", 0)
+    copied.day = Day((b"entry 0", b"entry 1"))
+    copied.is_refused("^its copy is another$")
+    copied.day = Day()
+    checkpoints = copied.folder / "later.checkpoints"
+    checkpoints.chmod(0o640)
+    checkpoints.write_text("more")
+    copied.is_refused("^its copy is another: later.checkpoints$")
+    checkpoints.unlink()
+    copied.is_refused("^its copy is another: later.checkpoints$")
+    checkpoints.touch()
+    copied.is_checked()
+    (copied.folder / "new").touch()
+    copied.is_refused("^its copy is another: new$")
+    (copied.folder / "new").unlink()
+    (copied.place / "seal.pem").unlink()
+    copied.is_refused("seal.pem")
+    (copied.folder / "SHA256SUMS").unlink()
+    copied.is_refused("^its copy can't be read: ")
+
+
+def test_no_audit(copied: Copied) -> None:
+    copied.audit.unlink()
+    copied.is_refused("^mireseason-audit: .*No such file or directory")
+
+
+def test_who_may_read_a_copy(copied: Copied) -> None:
+    """The keeper and its group, and nobody writes there any more; a program can still be run."""
+    for path in copied.folder.iterdir():
+        assert path.stat().st_mode & 0o777 == 0o440, path
+    part = copied.place / "copies" / "other.part"
+    part.mkdir()
+    (part / "program").touch(0o777)
+    copied.copies.close(part, part.with_suffix(""))
+    assert (part.with_suffix("") / "program").stat().st_mode & 0o777 == 0o550
+
+
+def test_a_disk_that_keeps_something_else(copied: Copied, monkeypatch: pytest.MonkeyPatch) -> None:
+    """What was written is read again before it counts."""
+    monkeypatch.setattr(copying, "digest_of_file", lambda path: "another")
+    with pytest.raises(Fault, match="look at the disk"):
+        copied.copies.begin(copied.log, SECOND, copied.place / "copies" / "20261126")
+
+
+def test_a_file_that_is_no_copy(copied: Copied) -> None:
+    with pytest.raises(Fault, match="none.db: unable to open"):
+        digest_of_file(copied.place / "none.db")
+    with pytest.raises(Fault, match="day.db: unable to open"):
+        write_day(copied.log, copied.place / "away" / "day.db")
+
+
 # ------------------------------------------------------------ the command
 
 
@@ -374,3 +535,30 @@ def test_two_runs_at_once(stood: Stood) -> None:
         os.close(number)
     assert stood.said() == "another run goes on\n" and stood.around.done == []
     assert not stood.file.with_name("keeper.prom").exists()
+
+
+def test_a_look_at_the_configuration(stood: Stood, monkeypatch: pytest.MonkeyPatch) -> None:
+    """Which logs there are is asked, and no more."""
+    monkeypatch.setattr(main, "Database", lambda connection: Database(stood.around, connection))
+    assert not [fault for fault in main.faults_of(stood.settings) if fault.startswith("the logs")]
+
+    def logs(self: Database) -> list[str]:
+        raise Fault("%s is away" % self.connection)
+
+    monkeypatch.setattr(Database, "logs", logs)
+    assert main.faults_of(stood.settings)[-1] == "the logs: primary is away"
+    assert stood.around.done == []
+
+
+def test_words_of_the_command(
+    stood: Stood, monkeypatch: pytest.MonkeyPatch, capsys: pytest.CaptureFixture[str]
+) -> None:
+    """A configuration at fault is status 2, without a run; --version asks for none."""
+    monkeypatch.setattr(sys, "argv", ["mireseason-keeper", "none.toml"])
+    assert main.main() == 2
+    assert capsys.readouterr().err.startswith("mireseason-keeper: none.toml: ")
+    monkeypatch.setattr(sys, "argv", ["mireseason-keeper", "--version", "none.toml"])
+    assert main.main() == 0 and capsys.readouterr().out.startswith("mireseason-keeper ")
+    monkeypatch.setattr(sys, "argv", ["mireseason-keeper", str(stood.file)])
+    stood.around.days.clear()
+    assert main.main() == 0 and len(stood.around.days) == 2

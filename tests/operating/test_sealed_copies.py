@@ -146,7 +146,9 @@ def kept(
 def test_a_copy_is_sealed(kept: Place) -> None:
     """Once, with what it takes to check the day; and the gateway may read that it is."""
     assert kept.run() == Counts()
-    assert "day copied log=%s.db" % DATE in kept.told()
+    told = kept.told()
+    assert "day copied log=%s.db" % DATE in told
+    assert ' audit="verdict: each firm was sent what the rules give' in told
     subprocess.run(
         ["sha256sum", "--check", "--strict", "SHA256SUMS"],
         cwd=kept.copy,
