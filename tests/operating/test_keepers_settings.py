@@ -1,13 +1,14 @@
 """What keeper.toml says, and what is wrong with it."""
 
 import os
-from datetime import datetime, timezone
+from datetime import datetime, timedelta, timezone
 from pathlib import Path
 
 import pytest
 from mireseason_keeper.faults import Fault
 from mireseason_keeper.main import faults_of, run
 from mireseason_keeper.settings import read_settings
+from mireseason_keeper.trading_days import TradingDays
 
 POSTGRES = 'postgres = "host=db1"'
 RIGHT = """[log]
@@ -35,6 +36,11 @@ NEXT = {
         "2026-10-23T12:00",
         "20261023 07:00 15:30, 20261026 08:00 16:30",
     ),
+    "an end that summer time repeats is the first of the two": (
+        'zone = "America/New_York"\nends = "01:30"\n',
+        "2026-11-01T05:29",
+        "20261101 04:00 05:30, 20261102 05:00 06:30",
+    ),
     "a morning that is the evening before in UTC": (
         'zone = "Australia/Sydney"\nopens = "08:00"\nends = "10:30"\n',
         "2026-11-24T23:00",
@@ -58,6 +64,12 @@ FAULTS = {
         "{venue} where [venue] has names",
     ),
     "names in one schema": ("[copies]", '[venue]\nnames = ["north"]\n[copies]', "schema has"),
+    "a name of a venue": (
+        "[copies]",
+        'schema = "{venue}_{date}"\n[venue]\nnames = ["north", "South"]\n[copies]',
+        "[venue] names: a name is of small letters",
+    ),
+    "a list of a text and a number": ('"gw2.pub"', "2", "has to be a list of texts"),
     "no zone": ("[copies]", '[day]\nzone = "New York"\n[copies]', "none of the tz database"),
     "a key of too many parts": ("[copies]", "a" + ".a" * 20000 + " = 1\n[copies]", "32 deep"),
     "too many brackets": ("[copies]", "a = " + "[" * 100000 + "\n[copies]", "32 deep"),
@@ -160,6 +172,73 @@ def test_when_a_day_ended(file: Path) -> None:
     assert days.end_of("20261126") == datetime(2026, 11, 27, tzinfo=timezone.utc)
 
 
+# The end of a day by its log's name, which is the date in UTC of its opening: by hand, from a calendar.
+ENDED = {
+    "the day after, where it opened": (
+        'zone = "Australia/Sydney"\nopens = "08:00"\nends = "10:30"\n',
+        "2026-11-24T23:30",
+    ),
+    "the day before, where it opened": (
+        'zone = "Pacific/Honolulu"\nopens = "15:00"\nends = "18:00"\n',
+        "2026-11-24T04:00",
+    ),
+    "round the clock": ("", "2026-11-25T00:00"),
+}
+
+
+@pytest.mark.parametrize("name", ENDED)
+def test_when_a_day_of_another_date_ended(file: Path, name: str) -> None:
+    rules, expected = ENDED[name]
+    file.write_text(RIGHT + "[day]\n" + rules)
+    found = read_settings(file).days.end_of("20261124")
+    assert found == datetime.fromisoformat(expected).replace(tzinfo=timezone.utc)
+
+
+def test_what_each_key_says(file: Path) -> None:
+    """And what counts where there is none: keeper.toml as installed has the same."""
+    file.write_text(RIGHT)
+    usual, place = read_settings(file), file.parent
+    assert (usual.postgres, usual.given, usual.schema) == ("host=db1", None, "day_{date}")
+    assert (usual.venues, usual.program) == (("",), Path("/usr/bin/rfq_venue"))
+    assert (usual.folder, usual.keep, usual.sealed) == (place / "copies", None, None)
+    assert (usual.key, usual.checkpoints) == (place / "seal.pem", None)
+    assert usual.gateways == (place / "gw1.pub", place / "gw2.pub")
+    assert (usual.audit, usual.metrics) == (("/usr/bin/mireseason-audit",), None)
+    assert usual.copy_of("", "20261127") == place / "copies" / "20261127"
+    text = RIGHT.replace('key = "', 'checkpoints = "received"\nkey = "')
+    text = text.replace("[seal]", "keep = 1\n[seal]")
+    more = '[venue]\nprogram = "venue"\n[audit]\ncommand = ["sh", "audit"]\n'
+    file.write_text(text + more + '[metrics]\nfile = "prom"\n')
+    said = read_settings(file)
+    assert (said.checkpoints, said.keep) == (place / "received", 1)
+    assert (said.program, said.audit) == (place / "venue", ("sh", "audit"))
+    assert said.metrics == place / "prom"
+    given = RIGHT.replace(POSTGRES, 'copies = "given"').replace("[seal]", 'sealed = "told"\n[seal]')
+    file.write_text(given)
+    assert read_settings(file).sealed == place / "told"
+
+
+def test_checkpoints_that_came(file: Path) -> None:
+    """Those of the day and the venue, as a gateway names them: one, or all of a day."""
+    file.write_text(RIGHT.replace("[seal]", '[seal]\ncheckpoints = "received"'))
+    received = file.parent / "received"
+    received.mkdir()
+    settings = read_settings(file)
+    for name in ("day-20261127", "day-20261128", "north-20261127"):
+        assert settings.checkpoints_of("", "20261127") == []
+        (received / name).touch()
+    for name in (
+        "day-20261127.checkpoints",
+        "day-20261127.checkpoint",
+        "north-20261127.checkpoint",
+    ):
+        (received / name).touch()
+    found = [path.name for path in settings.checkpoints_of("", "20261127")]
+    assert found == ["day-20261127.checkpoint", "day-20261127.checkpoints"]
+    found = [path.name for path in settings.checkpoints_of("north", "20261127")]
+    assert found == ["north-20261127.checkpoint"]
+
+
 def test_logs_of_venues(file: Path) -> None:
     """Each venue has its own; another schema is nobody's."""
     names = 'schema = "{venue}_{date}"\n[venue]\nnames = ["north", "south"]\n[copies]'
@@ -205,6 +284,15 @@ def test_the_last_day_that_has_ended(file: Path, name: str) -> None:
     days = read_settings(file).days
     last = days.last_day(datetime.fromisoformat(now).replace(tzinfo=timezone.utc))
     assert last is not None and last.date == expected
+
+
+def test_a_last_day_of_long_ago() -> None:
+    """A month is looked back, and no more."""
+    now = datetime(2026, 11, 27, 12, tzinfo=timezone.utc)
+    for ago, expected in ((31, "20261027"), (32, None)):
+        closed = frozenset(now.date() - timedelta(days=day) for day in range(-1, ago))
+        last = TradingDays(holidays=closed | {now.date() - timedelta(days=33)}).last_day(now)
+        assert (last and last.date) == expected
 
 
 @pytest.mark.parametrize("name", FAULTS)
