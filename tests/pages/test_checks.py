@@ -167,6 +167,14 @@ class Clauses(unittest.TestCase):
         )
         self.assertEqual(self.found("`desk::no*`"), ["desk gives out no no*"])
 
+    def test_functions_in_braces(self) -> None:
+        """Each of them has the clause."""
+        self.assertEqual(self.found("`desk::{prices_rise, prices_*}` (`twice`)"), [])
+        self.assertEqual(
+            self.found("`desk::{prices_rise, prices_fall}`"), ["desk gives out no prices_fall"]
+        )
+        self.assertEqual(self.found("`desk::Desk::{ask}`"), ["desk::Desk::ask ensures nothing"])
+
     def test_other_tables(self) -> None:
         """A further column, and a table with another head: its clauses are looked at, too."""
         further = HEAD + " where it ends |"

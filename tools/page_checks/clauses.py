@@ -3,7 +3,8 @@ gives it out.
 
 A row names clauses as `CRATE::FUNCTION` (`CLAUSE`, `CLAUSE`), or `CRATE::TYPE::FUNCTION` for a
 method. Without names in parentheses the function has at least one clause that ensures something.
-A star at the end of a name stands for every function that the crate gives out whose name begins so.
+A star at the end of a name stands for every function that the crate gives out whose name begins so,
+and names in braces, `CRATE::TYPE::{FUNCTION, FUNCTION}`, for each of them.
 In a table with the head HEAD, which may have more columns, the second cell says what carries the
 first: clauses, or words.
 """
@@ -21,7 +22,8 @@ from .page import Checked
 PAGE = "docs/PROOFS.md"
 HEAD = "| what is promised | what carries it |"
 
-NAMED = re.compile(r"`(\w+)((?:::\w+)*::(?:\w+|\w*\*))`(?: \((`\w+`(?:, `\w+`)*)\))?")
+LAST = r"\w+|\w*\*|\{\w+\*?(?:, \w+\*?)*\}"
+NAMED = re.compile(r"`(\w+)((?:::\w+)*::(?:" + LAST + r"))`(?: \((`\w+`(?:, `\w+`)*)\))?")
 Clauses = dict[str, set[str]]  # of a function by its name: what its clauses are called
 
 
@@ -73,6 +75,12 @@ class Crates:
         return None
 
 
+def each_of(name: str) -> list[str]:
+    """The functions that a name stands for: those in its braces, or itself."""
+    front, brace, inside = name.removeprefix("::").partition("{")
+    return [front + each for each in inside.rstrip("}").split(", ")] if brace else [front]
+
+
 def rows_of(text: str) -> list[tuple[int, str, bool]]:
     """Each row of a table: its line's number, and whether the table's head is HEAD."""
     rows: list[tuple[int, str, bool]] = []
@@ -96,7 +104,8 @@ def check_clauses(root: Path) -> Checked:
             cells = row.strip("| ").split(" | ")
             is_carried = len(cells) > 1 and cells[1].strip(" |")
             checked.note(PAGE, number, None if is_carried else "nothing carries this sentence")
-        for crate, name, clauses in NAMED.findall(row):
-            fault = crates.fault_of(crate, name.removeprefix("::"), re.findall(r"\w+", clauses))
-            checked.note(PAGE, number, fault)
+        for crate, names, clauses in NAMED.findall(row):
+            for name in each_of(names):
+                fault = crates.fault_of(crate, name, re.findall(r"\w+", clauses))
+                checked.note(PAGE, number, fault)
     return checked
