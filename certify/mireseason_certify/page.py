@@ -4,6 +4,7 @@ from __future__ import annotations
 
 import json
 import threading
+from collections.abc import Mapping
 from http.server import BaseHTTPRequestHandler, ThreadingHTTPServer
 from pathlib import Path
 from urllib.parse import parse_qs, urlsplit
@@ -16,12 +17,15 @@ from .telling import Telling
 TEMPLATES = Path(__file__).resolve().parent / "templates"
 MOST_BODY = 4096  # bytes of an answer
 SECONDS = 10.0  # that a request may take to come
+OF_VENUE = ("/now.json", "/market.toml")  # there once the venue has started
+STARTING = {"starting": "the venue is starting: ask again in a second"}
 HEADERS = {
     "Content-Security-Policy": "default-src 'none'; style-src 'unsafe-inline'; form-action 'self'",
     "X-Content-Type-Options": "nosniff",
     "Referrer-Policy": "no-referrer",
     "Cache-Control": "no-store",
 }
+RETRIED = {**HEADERS, "Retry-After": "1"}
 
 
 class Page:
@@ -68,6 +72,8 @@ class Answers(BaseHTTPRequestHandler):
         now = self.shown.now()
         if self.path == "/":
             self._give(200, "text/html", self.page.render(now=now))
+        elif self.path in OF_VENUE and not now["settings"]:
+            self._give(503, "application/json", json.dumps(STARTING), RETRIED)
         elif self.path == "/now.json":
             self._give(200, "application/json", json.dumps(now))
         elif self.path == "/market.toml":
@@ -115,12 +121,14 @@ class Answers(BaseHTTPRequestHandler):
         self._give(403, "text/plain", "another page has no answer\n")
         return False
 
-    def _give(self, status: int, kind: str, text: str) -> None:
+    def _give(
+        self, status: int, kind: str, text: str, headers: Mapping[str, str] = HEADERS
+    ) -> None:
         data = text.encode()
         self.send_response(status)
         self.send_header("Content-Type", kind + "; charset=utf-8")
         self.send_header("Content-Length", str(len(data)))
-        for name, value in HEADERS.items():
+        for name, value in headers.items():
             self.send_header(name, value)
         self.end_headers()
         self.wfile.write(data)

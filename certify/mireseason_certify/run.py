@@ -132,8 +132,8 @@ class Trial:
     def _heads(self, stage: Stage, cases: Sequence[Case]) -> None:
         """What the developer needs before anything can be tried."""
         who = stage.venue.cast.desk
-        self.telling.lines = [Line(one.name, one.title) for one in cases]
-        self.telling.settings = {
+        lines = [Line(one.name, one.title) for one in cases]
+        settings = {
             "SocketConnectHost": "127.0.0.1",
             "SocketConnectPort": str(stage.relay.port),
             "SenderCompID (49)": who.name,
@@ -143,8 +143,8 @@ class Trial:
             "Password (554)": who.password,
             **(self.clock.words() if self.clock else {}),
         }
-        self.telling.market = stage.venue.order("hand-out", who.name)
-        for name, value in self.telling.settings.items():
+        self.telling.begin(lines, settings, stage.venue.order("hand-out", who.name))
+        for name, value in settings.items():
             self.telling.print("%-22s %s" % (name, value))
 
     def _tried(self, stage: Stage, one: Case) -> Outcome:

@@ -43,13 +43,18 @@ class Telling:
 
     lines: list[Line] = field(default_factory=list)
     heading: str = ""
-    settings: dict[str, str] = field(default_factory=dict)
+    settings: Mapping[str, str] = field(default_factory=dict)  # none before the venue has started
     market: str = ""  # what the venue's operator hands out to the firm
     quiet: bool = False  # says nothing on the terminal
     _task: Task | None = None
     _number: int = 0
     _answer: str | None = None
     _changed: threading.Condition = field(default_factory=threading.Condition)
+
+    def begin(self, lines: list[Line], settings: Mapping[str, str], market: str) -> None:
+        """The venue has started: all that a desk needs is there at once."""
+        with self._changed:
+            self.lines, self.settings, self.market = lines, settings, market
 
     def say(
         self,

@@ -2,19 +2,31 @@
 
 import http.client
 import json
+import subprocess
+import sys
 from collections.abc import Iterator
+from contextlib import closing
+from pathlib import Path
 
 import pytest
 from mireseason_certify.page import MOST_BODY, Page
+from mireseason_certify.ports import HOST, Port
 from mireseason_certify.telling import Line, Telling
 
+from tests.gateway.wait import LONG, until
+from tests.harness.options import ROOT
+
 FORM = "application/x-www-form-urlencoded"
+SETTINGS = {"SenderCompID (49)": "DLR1"}
+MARKET = "version = 2\n"
 
 
 @pytest.fixture
 def telling() -> Telling:
+    """Of a venue that has started."""
     made = Telling(heading="DLR1 <script>", quiet=True)
-    made.lines = [Line("won", "Books a trade", "failed", "the desk's position is <b>0</b>")]
+    lines = [Line("won", "Books a trade", "failed", "the desk's position is <b>0</b>")]
+    made.begin(lines, SETTINGS, MARKET)
     return made
 
 
@@ -29,7 +41,13 @@ def asked(
     page: Page, method: str, path: str, body: str = "", **headers: str
 ) -> tuple[int, dict[str, str], str]:
     """The status, the headers and the text of an answer."""
-    connection = http.client.HTTPConnection("127.0.0.1", page.port, timeout=10)
+    return asked_at(page.port, method, path, body, **headers)
+
+
+def asked_at(
+    port: int, method: str, path: str, body: str = "", **headers: str
+) -> tuple[int, dict[str, str], str]:
+    connection = http.client.HTTPConnection(HOST, port, timeout=LONG)
     try:
         connection.request(method, path, body, {"Content-Type": FORM, **headers})
         answer = connection.getresponse()
@@ -47,6 +65,58 @@ def test_what_it_shows(page: Page, telling: Telling) -> None:
     now = json.loads(asked(page, "GET", "/now.json")[2])
     assert now["task"]["act"] == {"do": "position"} and now["task"]["number"] == 1
     assert now["cases"][0]["outcome"] == "failed"
+
+
+@pytest.mark.parametrize("path", ["/now.json", "/market.toml"])
+def test_a_venue_that_is_starting(path: str) -> None:
+    """Nothing is there that a program could take for settings, nor for what the operator hands out."""
+    telling = Telling(heading="DLR1", quiet=True)
+    with closing(Page(0, telling)) as page:
+        status, headers, text = asked(page, "GET", path)
+        assert (status, headers["Retry-After"]) == (503, "1")
+        assert set(json.loads(text)) == {"starting"}
+        assert asked(page, "GET", "/")[0] == 200
+        telling.begin([], SETTINGS, MARKET)
+        assert asked(page, "GET", path)[0] == 200
+        assert json.loads(asked(page, "GET", "/now.json")[2])["settings"] == SETTINGS
+        assert asked(page, "GET", "/market.toml")[2] == MARKET
+
+
+def test_what_is_asked_while_the_venue_starts(
+    gateway_program: Path, venue: tuple[str, ...], tmp_path: Path
+) -> None:
+    """Of the command itself, from its first breath on: never settings that are not all there."""
+    command = [sys.executable, str(ROOT / "certify" / "mireseason-certify"), "DLR1"]
+    with closing(Port()) as port:
+        words = ["--page", str(port.number), "--out", str(tmp_path), "--only", "logon"]
+        words += ["--gateway", str(gateway_program.parent), "--venue", *venue]
+        with subprocess.Popen(
+            [*command, *words], stdin=subprocess.DEVNULL, stdout=subprocess.DEVNULL
+        ) as process:
+            try:
+                found = answers_until_settings(port.number)
+            finally:
+                process.terminate()
+    assert set(found[:-1]) <= {(503, ("starting",))}
+    status, keys = found[-1]
+    assert status == 200 and {"SenderCompID (49)", "Password (554)", "SocketConnectPort"} <= {*keys}
+
+
+def answers_until_settings(port: int) -> list[tuple[int, tuple[str, ...]]]:
+    """Of `/now.json`: each status with the keys of its settings, or of what it has instead."""
+    found: list[tuple[int, tuple[str, ...]]] = []
+
+    def is_there() -> bool:
+        try:
+            status, _, text = asked_at(port, "GET", "/now.json")
+        except OSError:
+            return False  # it has no page yet
+        said = json.loads(text)
+        found.append((status, tuple(said.get("settings", said))))
+        return status == 200
+
+    until("settings are there", LONG, is_there)
+    return found
 
 
 def test_an_answer(page: Page, telling: Telling) -> None:
