@@ -108,8 +108,8 @@ FIX::Message message_of(const std::vector<FixField> &fields) {
 class FixSession::Engine final : public FIX::Application {
   public:
     Engine(const FixSettings &own, SessionStore &store, FixListener &listener)
-        : own_(own), listener_(listener), events_(listener), settings_(settings_of(own)),
-          stores_(store) {
+        : own_(own), store_(store), listener_(listener), events_(listener),
+          settings_(settings_of(own)), stores_(store) {
         if (own.has_tls) {
             initiator_ = std::make_unique<FIX::ThreadedSSLSocketInitiator>(*this, stores_,
                                                                            settings_, events_);
@@ -137,7 +137,20 @@ class FixSession::Engine final : public FIX::Application {
     }
 
     void toApp(FIX::Message &message, const FIX::SessionID &) throw(FIX::DoNotSend) override {
-        if (is_again(message) && !listener_.may_send_again(message.toString())) {
+        if (!is_again(message)) {
+            keep(message);
+        } else if (!listener_.may_send_again(message.toString())) {
+            throw FIX::DoNotSend();
+        }
+    }
+
+    // While the disk is waited for here, what the venue sends is taken.
+    void keep(FIX::Message &message) {
+        const std::string raw = message.toString();
+        const int number = std::stoi(message.getHeader().getField(FIX::FIELD::MsgSeqNum));
+        store_.keep(number, true, raw);
+        if (!listener_.may_leave(raw)) {
+            session_->setNextSenderMsgSeqNum(number + 1); // the venue asks for it, and it is filled
             throw FIX::DoNotSend();
         }
     }
@@ -162,6 +175,7 @@ class FixSession::Engine final : public FIX::Application {
     }
 
     const FixSettings own_;
+    SessionStore &store_;
     FixListener &listener_;
     Events events_;
     FIX::SessionSettings settings_;

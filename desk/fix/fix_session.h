@@ -43,6 +43,8 @@ class FixListener {
     virtual ~FixListener() = default;
     // A message of the venue, or its Reject. QuickFIX counts it only after this has returned.
     virtual void received(const std::string &raw) = 0;
+    // A message of the firm's is on the disk. False: that took too long, and it is never delivered.
+    virtual bool may_leave(const std::string &raw) = 0;
     // The venue asks for a message again. False: it is never delivered, and its number is filled.
     virtual bool may_send_again(const std::string &raw) = 0;
     virtual void logged_on(bool is_on) = 0;

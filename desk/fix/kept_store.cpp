@@ -22,8 +22,16 @@ KeptStore::KeptStore(SessionStore &store)
 bool KeptStore::set(int number, const std::string &raw) throw(FIX::IOException) {
     const std::string type = FIX::Message(raw, false).getHeader().getField(FIX::FIELD::MsgType);
     const bool is_application = !FIX::Message::isAdminMsgType(FIX::MsgType(type));
-    store_.keep(number, is_application, type == "A" ? without_password(raw) : raw);
+    if (!is_kept(number, raw)) {
+        store_.keep(number, is_application, type == "A" ? without_password(raw) : raw);
+    }
     return true;
+}
+
+// What leaves is kept before QuickFIX has the lock that it holds here, and needs for what comes.
+bool KeptStore::is_kept(int number, const std::string &raw) const {
+    const auto kept = store_.kept(number, number);
+    return !kept.empty() && kept.front().second == raw;
 }
 
 void KeptStore::get(int first, int last, std::vector<std::string> &messages) const

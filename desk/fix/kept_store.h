@@ -26,6 +26,8 @@ class KeptStore final : public FIX::MessageStore {
     void refresh() throw(FIX::IOException) override {}
 
   private:
+    bool is_kept(int number, const std::string &raw) const;
+
     SessionStore &store_;
     int sender_;
     int target_;

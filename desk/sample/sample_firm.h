@@ -53,6 +53,7 @@ class SampleFirm : private desk::FixListener {
 
   private:
     void received(const std::string &raw) override { record_.received(raw); }
+    bool may_leave(const std::string &) override { return true; }
     bool may_send_again(const std::string &) override { return false; }
     void logged_on(bool is_on) override;
     void event(const std::string &) override {}

@@ -25,9 +25,9 @@ void Day::apply(const Entry &entry) {
     case Entry::Kind::received:
         return apply_received(entry);
     case Entry::Kind::undelivered:
-        return apply_failure(entry.bytes,
-                             "never delivered: the connection broke first, and it is too old now",
-                             false, entry.moment);
+        return apply_failure(
+            entry.bytes, "never delivered: the connection or the disk stalled, and it is too old",
+            false, entry.moment);
     case Entry::Kind::note:
         return apply_note(entry);
     case Entry::Kind::session:

@@ -92,8 +92,12 @@ void Desk::received(const std::string &raw) {
     record_.received(raw);
 }
 
-// A message that the connection lost is not news any more: what binds the firm is delivered within
-// seconds or never. A cancel only ever unbinds it.
+bool Desk::may_leave(const std::string &raw) {
+    return may_send_again(raw);
+}
+
+// A message for which the disk took too long, or that the connection lost, is not news any more:
+// what binds the firm is delivered within seconds or never. A cancel only ever unbinds it.
 bool Desk::may_send_again(const std::string &raw) {
     const Message message(raw);
     const Moment first = message.moment(tag::orig_sending_time)

@@ -93,6 +93,7 @@ class Desk final : private FixListener {
   private:
     // FixListener
     void received(const std::string &raw) override;
+    bool may_leave(const std::string &raw) override;
     bool may_send_again(const std::string &raw) override;
     void logged_on(bool is_on) override;
     void event(const std::string &text) override;

@@ -132,6 +132,23 @@ TEST_CASE("a file that has another name is safe, and its name then") {
     CHECK(read_json(path) == nlohmann::json{{"one", 1}});
 }
 
+TEST_CASE("a journal that a second one of its day puts aside is safe before that begins") {
+    const Folder folder;
+    Record record(folder.file(""), [] {});
+    const std::filesystem::path journal = folder.file("journal-" + record.date());
+    std::vector<bool> has_begun; // the second one, at each synchronisation of the folder
+    {
+        const Listening listening([&](const std::string &name) {
+            if (name == journal.parent_path()) {
+                has_begun.push_back(std::filesystem::exists(journal));
+            }
+        });
+        record.begin_day();
+    }
+    CHECK(std::filesystem::exists(journal.string() + ".1"));
+    CHECK(has_begun == std::vector<bool>{false, true});
+}
+
 TEST_CASE("a journal that can't be read is not cut") {
     const Folder folder;
     const std::string path = folder.file("journal");

@@ -98,6 +98,7 @@ class Desk:
     page: dict[str, str] = field(default_factory=dict)  # more keys of [page], as TOML writes them
     programs: list[ProgramOf] = field(default_factory=list)
     bonds: str = ""  # bonds.toml: the static data of bonds
+    environment: dict[str, str] = field(default_factory=dict)  # more of it, for its process
     trust: ssl.SSLContext | None = None  # of the page's certificate, if it has one
     process: "subprocess.Popen[bytes] | None" = None
     port: Port = field(default_factory=Port)
@@ -181,6 +182,7 @@ class Desk:
                 stdin=subprocess.DEVNULL,
                 stdout=subprocess.DEVNULL,
                 stderr=told,
+                env={**os.environ, **self.environment},
             )
         until("the desk of %s serves" % self.firm.name, LONG, self.serves)
 
