@@ -15,6 +15,8 @@ SLACK = 2.0  # seconds that a Heartbeat may be late, beside a fifth of its inter
 ANSWER = 15.0  # seconds in which a TestRequest is answered: the venue waits for a minute
 OUT = 2.0  # seconds for which a firm is suspended
 MOST_TRIES = 20  # Logons of a desk that is refused meanwhile
+# The sum and the length, PossDupFlag, SendingTime, OrigSendingTime, and what was read meanwhile.
+OF_ONE_SENDING = frozenset((8, 9, 10, 43, 52, 122, 369))
 
 
 class Act(Protocol):
@@ -75,7 +77,7 @@ class SessionCases:
         case("Asks for a message of the venue that was lost, and acts on it", acts)(
             self.gap_to_the_desk
         )
-        case("Sends again, or passes over, a message of its own that was lost", acts)(
+        case("Sends again as it was, or passes over, a message of its own that was lost", acts)(
             self.gap_of_the_desk
         )
         case("Has a message come again that its line was cut on", ("lost-line", "gap-of-the-desk"))(
@@ -361,11 +363,25 @@ def works(stage: Stage, act: Act) -> None:
 
 
 def again(stage: Stage, act: Act, lost: Message) -> None:
-    """The lost message is sent again, or its number is filled: a desk may refuse to send what is stale."""
+    """The lost message is sent again as it was, and no other in its place; or its number is filled: a desk may refuse to send
+    what is stale."""
 
     def mends(one: Message) -> bool:
         return one.number == lost.number and one.is_again and one.kind in (lost.kind, "4")
 
     mended = stage.desk_sends("number %d again, with 43=Y" % lost.number, mends)
-    if mended.kind != "4":
-        act.is_taken(stage)
+    if mended.kind == "4":
+        return
+    if content(mended) != content(lost):
+        text = "number %d comes again with other content: %s; it was %s"
+        raise Failed(text % (lost.number, mended.bars, lost.bars))
+    act.is_taken(stage)
+    stage.sends_nothing(
+        "the same under another number, though %d was sent again" % lost.number,
+        lambda one: act.fits(one) and one.number != lost.number,
+    )
+
+
+def content(message: Message) -> list[tuple[int, str]]:
+    """What stays the same where a message is sent again."""
+    return sorted(field for field in message.fields if field[0] not in OF_ONE_SENDING)

@@ -3,12 +3,20 @@
 from __future__ import annotations
 
 import time
+from decimal import Decimal
 
 from mireseason_certify.frames import Fields, Message, written
 
 from tests.certify.desk import Desk, Store
 
 Act = dict[str, str]
+NAMES = {"S": 117, "AJ": 693}  # of a quote, and of a hit
+PRICES = (132, 133)
+
+
+def risen(price: str) -> str:
+    """On the grid of every bond."""
+    return str(Decimal(price) + 1)
 
 
 class ResetsItsNumbers(Desk):
@@ -99,6 +107,27 @@ class SendsAgainAsNew(Desk):
         for number in range(begin, (end or self.store.next - 1) + 1):
             kept = self.store.sent[number]
             self._write(written(kept[0], self.to.firm, number, kept[1]))
+
+
+class SendsAgainWhatItIsNow(Desk):
+    """Builds what is asked for anew, under its number: the price has moved."""
+
+    def sends_again(self, begin: int, end: int) -> None:
+        for number, (kind, fields, sending) in self.store.sent.items():
+            moved = [(tag, risen(it) if tag in PRICES else it) for tag, it in fields]
+            self.store.sent[number] = (kind, moved, sending)
+        super().sends_again(begin, end)
+
+
+class SendsAgainAndAnew(Desk):
+    """Sends what is asked for, and the same once more as something new."""
+
+    def sends_again(self, begin: int, end: int) -> None:
+        super().sends_again(begin, end)
+        acts = [one[:2] for one in self.store.sent.values() if one[0] in NAMES]
+        for kind, fields in acts[-1:]:
+            own = (NAMES[kind], self.name("again"))
+            self.put(kind, [own if tag == own[0] else (tag, it) for tag, it in fields])
 
 
 class KeepsItsNumbersForGood(Desk):
@@ -420,6 +449,8 @@ DEALERS = {
     NeverSendsAgain: "gap-of-the-desk",
     SendsAgainUnderNewNumbers: "gap-of-the-desk",
     SendsAgainAsNew: "gap-of-the-desk",
+    SendsAgainWhatItIsNow: "gap-of-the-desk",
+    SendsAgainAndAnew: "gap-of-the-desk",
     KeepsItsNumbersForGood: "lost-store",
     WritesThePriceIn44: "quote-offer",
     AlwaysOffers: "quote-bid",
@@ -445,6 +476,7 @@ DEALERS = {
 }
 INVESTORS = {
     BooksCopies: "lost-store",
+    SendsAgainAndAnew: "gap-of-the-desk",
     IgnoresWhatComesLate: "trade-while-away",
     AsksOneDealer: "ask-three",
     AlwaysBuys: "ask-to-sell",
