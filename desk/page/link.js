@@ -77,10 +77,10 @@ export class Link {
     this.hear({t: 'login'});
   }
 
-  // A person is at the page: where the firm sets a time, an idle one is locked by the desk.
+  // A person is at the page: an idle one makes room for others and, where the firm sets a time, is locked by the desk.
   alive() {
     const moment = performance.now();
-    if (!this.isUp || !this.locksAfter || moment - (this.aliveAt ?? -aliveEvery) < aliveEvery) return;
+    if (!this.isUp || moment - (this.aliveAt ?? -aliveEvery) < aliveEvery) return;
     this.aliveAt = moment;
     this.socket.send(JSON.stringify({here: true}));
   }

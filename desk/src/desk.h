@@ -63,14 +63,14 @@ class Desk final : private FixListener {
     using Tell = std::function<void(const std::string &why)>;
     void act(const Trader &trader, const Command &command, Tell tell);
 
-    // Answers what a page asks to be told: by a message, by several where it is long, or why there
-    // is none.
+    // Answers what a trader's page asks to be told: by a message, by several where it is long, or
+    // why there is none.
     struct Answer {
         nlohmann::json message; // null where there is none
         std::string why;
     };
     using Hear = std::function<void(const Answer &answer)>;
-    void answer(const Query &query, Hear hear);
+    void answer(const Trader &trader, const Query &query, const Hear &hear);
 
     // What pages are told when it changes: a trader's rights and limits, those of all (for the
     // firm's admin), the firm's references, and its programs.
@@ -108,11 +108,10 @@ class Desk final : private FixListener {
     void mark_program(nlohmann::json &made) const;
     void mark_list(nlohmann::json &view) const;
     void answer(const query::Value &value, const Hear &hear);
-    void answer(const query::OneDay &day, const Hear &hear);
-    void answer(const query::Find &find, const Hear &hear);
+    void answer(const Trader &trader, const query::OneDay &day, const Hear &hear);
     // Has the archive's thread look through these days.
-    void look(std::vector<std::string> days, const std::string &find, std::size_t most,
-              const Hear &hear);
+    void look(const Trader &trader, std::vector<std::string> days, const std::string &find,
+              std::size_t most, const Hear &hear);
     std::vector<nlohmann::json> found_in(const std::vector<std::string> &days,
                                          const std::string &find, std::size_t most) const;
 
@@ -186,8 +185,8 @@ class Desk final : private FixListener {
     std::unique_ptr<FixSession> fix_;
     boost::asio::thread_pool sender_{1}; // what leaves waits for the disk on this thread
     const Archive archive_;
-    std::vector<std::string> days_; // of the archive, as they were when the day began
-    std::size_t looks_ = 0;         // of the archive's thread, which are not answered
+    std::vector<std::string> days_;       // of the archive, as they were when the day began
+    std::multiset<const Trader *> looks_; // of the archive's thread, which are not answered
     std::atomic<bool> is_over_ = false;
     boost::asio::thread_pool archive_thread_{1};
 };

@@ -21,7 +21,8 @@ constexpr Quantity most_quantity = 1'000'000'000'000; // of one request at a ven
 constexpr std::size_t most_of_day = 4096;             // requests of one answer
 constexpr std::size_t most_found = 200;
 constexpr std::size_t requests_a_part = 32;
-constexpr std::size_t most_looks = 8; // that wait for the disk
+constexpr std::size_t most_looks = 16; // that wait for the disk
+constexpr std::size_t most_looks_of_one = 4;
 
 json part_of(const std::string &date, std::vector<json> requests, bool is_last) {
     return {
@@ -46,8 +47,14 @@ std::vector<json> parts_of(const std::string &date, std::vector<json> requests) 
 
 } // namespace
 
-void Desk::answer(const Query &query, Hear hear) {
-    std::visit([&](const auto &one) { answer(one, hear); }, query);
+void Desk::answer(const Trader &trader, const Query &query, const Hear &hear) {
+    if (const auto *value = std::get_if<query::Value>(&query)) {
+        answer(*value, hear);
+    } else if (const auto *day = std::get_if<query::OneDay>(&query)) {
+        answer(trader, *day, hear);
+    } else {
+        look(trader, days_, std::get<query::Find>(query).find, most_found, hear);
+    }
 }
 
 void Desk::answer(const query::Value &asked, const Hear &hear) {
@@ -73,27 +80,24 @@ void Desk::answer(const query::Value &asked, const Hear &hear) {
     hear({std::move(message), ""});
 }
 
-void Desk::answer(const query::OneDay &day, const Hear &hear) {
+void Desk::answer(const Trader &trader, const query::OneDay &day, const Hear &hear) {
     if (std::find(days_.begin(), days_.end(), day.date) == days_.end()) {
         return hear({{}, "The desk has no journal of this day."});
     }
-    look({day.date}, day.find, most_of_day, hear);
+    look(trader, {day.date}, day.find, most_of_day, hear);
 }
 
-void Desk::answer(const query::Find &find, const Hear &hear) {
-    look(days_, find.find, most_found, hear);
-}
-
-void Desk::look(std::vector<std::string> days, const std::string &find, std::size_t most,
-                const Hear &hear) {
-    if (looks_ >= most_looks) {
+// Whoever looks without end leaves room for the others.
+void Desk::look(const Trader &trader, std::vector<std::string> days, const std::string &find,
+                std::size_t most, const Hear &hear) {
+    if (looks_.size() >= most_looks || looks_.count(&trader) >= most_looks_of_one) {
         return hear({{}, "Many look at earlier days just now: try again."});
     }
-    ++looks_;
-    boost::asio::post(archive_thread_, [this, days = std::move(days), find, most, hear] {
+    looks_.insert(&trader);
+    boost::asio::post(archive_thread_, [this, &trader, days = std::move(days), find, most, hear] {
         std::vector<json> parts = found_in(days, find, most);
-        boost::asio::post(io_, [this, parts = std::move(parts), hear] {
-            --looks_;
+        boost::asio::post(io_, [this, &trader, parts = std::move(parts), hear] {
+            looks_.erase(looks_.find(&trader));
             for (const json &part : parts) {
                 hear({part, ""});
             }

@@ -16,7 +16,9 @@ namespace {
 
 constexpr std::size_t most_pages = 64;
 constexpr std::size_t most_pages_of_login = 8;
-constexpr double connects_a_second = 1, connects_at_once = 20; // of one program
+// Of one login, in all its pages, or of one program: more is no person's doing.
+constexpr double commands_a_second = 20, commands_at_once = 60;
+constexpr double entries_a_second = 1, entries_at_once = 20;
 
 web::Response refusal(unsigned status, const std::string &why) {
     return {status, "application/json", json{{"why", why}}.dump(), {}};
@@ -177,9 +179,9 @@ std::shared_ptr<web::SocketUser> DeskSite::take_program(const web::Request &requ
     const Program *program = request.authorization.starts_with(scheme)
                                  ? desk_.program_with(request.authorization.substr(scheme.size()))
                                  : nullptr;
-    const char *why = program == nullptr              ? "no program has the token"
-                      : !may_connect(*program, now()) ? "it connects too often"
-                                                      : nullptr;
+    const char *why = program == nullptr             ? "no program has the token"
+                      : !may_enter(program->acts_as) ? "it connects too often"
+                                                     : nullptr;
     if (why != nullptr) {
         if (program_refusals_.may_tell(now())) {
             events_.tell(std::string("Program refused: ") + why + ", from " + request.address);
@@ -199,9 +201,16 @@ std::shared_ptr<web::SocketUser> DeskSite::take_program(const web::Request &requ
     return page;
 }
 
-// Each connection is told the whole day.
-bool DeskSite::may_connect(const Program &program, Moment at) {
-    return connects_.try_emplace(&program, connects_a_second, connects_at_once, at)
+bool DeskSite::may_act(const Trader &trader) {
+    const Moment at = now();
+    return acts_.try_emplace(&trader, commands_a_second, commands_at_once, at)
+        .first->second.may_go(at);
+}
+
+// Each page, and each connection of a program, is told the whole day.
+bool DeskSite::may_enter(const Trader &trader) {
+    const Moment at = now();
+    return entries_.try_emplace(&trader, entries_a_second, entries_at_once, at)
         .first->second.may_go(at);
 }
 

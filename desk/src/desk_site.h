@@ -57,7 +57,12 @@ class DeskSite final : public web::Site, public Desk::Audience {
     void closed(const std::shared_ptr<OpenPage> &page) { pages_.erase(page); }
     // Whether this program is connected.
     bool has(const Program &program) const;
-    // For one page more of this trader, which has shown its token.
+    // Whether this trader, or program, may have the desk do one thing more, in whichever of its
+    // pages: another one gives it no more.
+    bool may_act(const Trader &trader);
+    // Whether one page more of this trader, which has shown its token, may be told the whole day.
+    bool may_enter(const Trader &trader);
+    // For that page.
     void make_room(const Trader &trader);
 
   private:
@@ -67,7 +72,6 @@ class DeskSite final : public web::Site, public Desk::Audience {
     void note_login(const Logins::Outcome &outcome, const std::string &login,
                     const std::string &address);
     std::shared_ptr<web::SocketUser> take_program(const web::Request &request);
-    bool may_connect(const Program &program, Moment at);
     // For one connection more, which has a cookie and has to show its token yet.
     void make_room_to_enter(const Trader &trader);
     std::size_t count(const std::function<bool(const OpenPage &)> &fits) const;
@@ -87,7 +91,9 @@ class DeskSite final : public web::Site, public Desk::Audience {
     const bool has_tls_;
     std::string cookie_name_;
     std::set<std::shared_ptr<OpenPage>> pages_;
-    std::map<const Program *, Pace> connects_;
+    // By the trader; a program is one of its own.
+    std::map<const Trader *, Pace> acts_;
+    std::map<const Trader *, Pace> entries_;
 };
 
 } // namespace desk

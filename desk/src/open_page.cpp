@@ -15,7 +15,6 @@ using nlohmann::json;
 namespace {
 
 constexpr std::chrono::seconds time_for_token{10};
-constexpr double commands_a_second = 20, commands_at_once = 60; // more is no person's doing
 
 } // namespace
 
@@ -26,11 +25,10 @@ std::shared_ptr<const std::string> text_of(const json &message) {
 
 OpenPage::OpenPage(DeskSite &site, const Trader &trader, std::string cookie)
     : site_(site), trader_(trader), program_(nullptr), cookie_(std::move(cookie)), begin_(now()),
-      used_(begin_), pace_(commands_a_second, commands_at_once, begin_) {}
+      used_(begin_) {}
 
 OpenPage::OpenPage(DeskSite &site, const Program &program)
-    : site_(site), trader_(program.acts_as), program_(&program), begin_(now()), used_(begin_),
-      pace_(commands_a_second, commands_at_once, begin_) {}
+    : site_(site), trader_(program.acts_as), program_(&program), begin_(now()), used_(begin_) {}
 
 void OpenPage::opened(std::shared_ptr<web::Socket> socket) {
     socket_ = std::move(socket);
@@ -122,6 +120,10 @@ void OpenPage::hear_token(const json &message) {
         !site_.logins().has_token(cookie_, token->get<std::string>())) {
         return end();
     }
+    if (!site_.may_enter(trader_)) {
+        has_shown_token_ = true;
+        return end("This page was not opened: too many of this login were, just now.");
+    }
     site_.make_room(trader_);
     has_shown_token_ = true;
     tell_all();
@@ -129,7 +131,7 @@ void OpenPage::hear_token(const json &message) {
 
 void OpenPage::hear_command(const json &message) {
     if (message.contains("here")) { // a key or a press that asks for nothing
-        return pace_.may_go(now()) ? uses() : void();
+        return site_.may_act(trader_) ? uses() : void();
     }
     const std::optional<Command> command = read_command(message);
     const std::optional<Query> query = read_query(message);
@@ -140,14 +142,15 @@ void OpenPage::hear_command(const json &message) {
     if (!program_ && site_.logins().trader_of(cookie_) != &trader_) {
         return end();
     }
-    if (!pace_.may_go(now())) {
+    if (!site_.may_act(trader_)) {
         return answer(*number, "Too many at once: nothing was sent.");
     }
     uses();
     if (query) {
         return site_.desk().answer(
-            *query, [self = shared_from_this(), number = number->get<std::uint64_t>()](
-                        const Desk::Answer &one) { self->answer(number, one); });
+            trader_, *query,
+            [self = shared_from_this(), number = number->get<std::uint64_t>()](
+                const Desk::Answer &one) { self->answer(number, one); });
     }
     site_.desk().act(trader_, *command,
                      [self = shared_from_this(), number = number->get<std::uint64_t>()](

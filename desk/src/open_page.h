@@ -6,7 +6,6 @@
 #include "config.h"
 #include "desk.h"
 #include "moment.h"
-#include "pace.h"
 
 #include <cstdint>
 #include <memory>
@@ -62,7 +61,6 @@ class OpenPage final : public web::SocketUser, public std::enable_shared_from_th
     const std::string cookie_;
     const Moment begin_;
     Moment used_;
-    Pace pace_;
     std::shared_ptr<web::Socket> socket_; // null before it is open, and after it was closed
     bool has_shown_token_ = false;
     nlohmann::json told_trader_;

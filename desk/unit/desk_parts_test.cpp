@@ -6,6 +6,7 @@
 #include "groups.h"
 #include "logins.h"
 #include "open_page.h"
+#include "pace.h"
 #include "unit.h"
 
 #include "common/password.h"

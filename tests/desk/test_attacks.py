@@ -70,14 +70,58 @@ def test_a_second_host(house: House) -> None:
         assert status in (b"400", b"403"), (hosts, status)
 
 
-def test_logins_are_events(house: House) -> None:
-    """Who came, who was refused and who left; a name that nobody has is not told, it may be a password."""
+@contextmanager
+def with_two_hosts(desk: Desk, is_first: bool) -> Iterator[str]:
+    """Something between a browser and a desk, which puts the desk's own host before or behind the one that the browser names."""
+
+    class Handler(http.server.BaseHTTPRequestHandler):
+        def do_GET(self) -> None:
+            link = http.client.HTTPConnection("127.0.0.1", desk.port.number, timeout=LONG)
+            link.putrequest("GET", self.path, skip_host=True, skip_accept_encoding=True)
+            hosts = [self.headers["Host"]]
+            hosts.insert(0 if is_first else 1, "127.0.0.1:%d" % desk.port.number)
+            for host in hosts:
+                link.putheader("Host", host)
+            link.endheaders()
+            answer = link.getresponse()
+            self.send_response(answer.status)
+            self.send_header("Content-Type", answer.headers["Content-Type"])
+            self.end_headers()
+            self.wfile.write(answer.read())
+            link.close()
+
+        def log_message(self, format: str, *words: object) -> None:
+            pass
+
+    server = http.server.ThreadingHTTPServer(("127.0.0.1", 0), Handler)
+    threading.Thread(target=server.serve_forever, daemon=True).start()
+    try:
+        yield "http://127.0.0.1:%d/" % server.server_port
+    finally:
+        server.shutdown()
+
+
+def test_a_second_host_in_a_browser(house: House) -> None:
+    """No page of the desk is shown under another's name, on whichever side of it the desk's own stands."""
     desk = house.investor
-    ticket = log_in(desk)
+    browser = house.browser(desk)
+    for is_first in (True, False):
+        with with_two_hosts(desk, is_first) as url:
+            browser.driver.get(url)
+            assert browser.text("body").strip() == "another host"
+    browser.driver.get(desk.origin + "/")
+    browser.until_says("#top", "Venue connected")
+
+
+def test_logins_are_events(house: House) -> None:
+    """Who came, who was refused and who left, by a browser; a name that nobody has is not told, it may be a password."""
+    desk = house.investor
+    page = house.browser(desk)
+    page.click("#logout")
     for login in ("tess", "a secret in the wrong field"):
-        body = json.dumps({"login": login, "password": "wrong"}).encode()
-        assert ask(desk.port.number, "POST", "/login", own(desk), body).status == 403
-    assert log_out(desk, ticket).status == 200
+        page.log_in(login, "wrong")
+        page.until_says(".login .why", "Wrong login or password.")
+        page.driver.refresh()
     told = desk.last_words()
     for event in (
         "Login: tess from 127.0.0.1",
@@ -277,16 +321,19 @@ def test_passwords_are_not_guessed_at_once(house: House) -> None:
 
 
 def test_too_much(house: House) -> None:
-    """Long requests, silent connections, and commands without end."""
+    """Long requests, silent connections, and commands without end: more pages give a login no more of them."""
     desk = house.investor
     port = desk.port.number
     assert ask(port, "POST", "/login", own(desk), b"x" * 5000).status == 413
-    view = house.view(desk)
+    pages = [house.view(desk) for _ in range(6)]
     began = time.monotonic()
-    for count in range(300):
-        view.send({"do": "pass", "request": "none", "number": count + 1})
-    view.until("all are answered", lambda: len(view.said) == 300)
-    let_through = 300 - list(view.said.values()).count("Too many at once: nothing was sent.")
+    for count in range(50):
+        for page in pages:
+            page.send({"do": "pass", "request": "none", "number": count + 1})
+    for page in pages:
+        page.until("all are answered", lambda page=page: len(page.said) == 50)  # type: ignore[misc]
+    said = [why for page in pages for why in page.said.values()]
+    let_through = 300 - said.count("Too many at once: nothing was sent.")
     assert 60 <= let_through <= 61 + 20 * (time.monotonic() - began), (
         "%d of 300 are let through" % let_through
     )

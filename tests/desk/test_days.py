@@ -7,6 +7,8 @@ from tests.desk.conftest import House
 from tests.desk.view import View
 
 POINT = 256
+DAYS = 200  # journals, so that a look takes a while
+AT_ONCE = 50  # looks of one login
 
 
 def with_day(house: House, date: str) -> tuple[View, dict[str, Any]]:
@@ -64,3 +66,21 @@ def test_an_earlier_day_that_is_cut(house: House) -> None:
     file.symlink_to("/dev/zero")
     assert day(view, do="find", find="buy") == []
     assert "can't be opened" in view.answers["day"][-1]["why"]
+
+
+def test_who_looks_without_end_holds_up_nobody(house: House) -> None:
+    """Most of its looks are refused while the first are not answered; a colleague's are answered."""
+    desk = house.investor
+    with_day(house, "20260101")
+    desk.stop()
+    first = desk.data / "journal-20260101"
+    for count in range(DAYS):
+        shutil.copy2(first, desk.data / ("journal-2025%04d" % (count + 101)))
+    desk.start()
+    flood, colleague = house.view(desk, "lou"), house.view(desk, "tom")
+    for count in range(AT_ONCE):
+        flood.send({"do": "find", "find": "nothing has this", "number": count + 1})
+    assert day(colleague, do="find", find="alder buy") != []
+    flood.until("all are answered", lambda: len(flood.said) == AT_ONCE)
+    refused = "Many look at earlier days just now: try again."
+    assert AT_ONCE > list(flood.said.values()).count(refused) > 0

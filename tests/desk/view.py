@@ -279,7 +279,7 @@ class View:
                     % (
                         what,
                         self.closed,
-                        self.broken,
+                        self.broken or self.why,
                         seconds,
                         json.dumps(list(self.requests.values())[-2:]),
                         self.session,
