@@ -51,13 +51,36 @@ def test_two_windows_and_a_restart_show_the_same(house: House) -> None:
     assert again.live(shown) == dealer.live(shown)
 
 
+# Of what a page is told, the bytes of the longest message since it was last set to 0.
+LONGEST = """window.longest = 0;
+const Real = window.WebSocket;
+window.WebSocket = class extends Real {
+  constructor(...words) {
+    super(...words);
+    this.addEventListener('message', event => {
+      window.longest = Math.max(window.longest, new TextEncoder().encode(event.data).length);
+    });
+  }
+};"""
+
+
 def test_an_update_has_what_changed(house: House) -> None:
-    """After sixty quotes an update of their request is as long as after the first, and leads to the same."""
+    """With sixty quotes no message that a page is told is longer than one quote's, and it shows the last one and all before."""
     investor, dealer, asked, shown = one_open(house)
+    pages = [house.browser(house.investor), house.browser(house.dealer)]
+    for page in pages:
+        page.driver.execute_cdp_cmd("Page.addScriptToEvaluateOnNewDocument", {"source": LONGEST})
+        page.driver.refresh()
+        page.card_says("Alder")
+        page.script("window.longest = 0")
     for count in range(60):
         dealer.quote(shown, 99 * POINT + count)
     last = 99 * POINT + 59
     investor.until("the last", lambda: investor.requests[asked]["quotes"][-1]["price"] == last)
+    for page in pages:
+        page.card_says("99.23046875")
+        longest = page.script("return window.longest")
+        assert 0 < longest < UPDATE, "a page is told %d bytes at once" % longest
     for view, name in ((investor, asked), (dealer, shown)):
         assert view.sizes["changes"] < UPDATE < len(json.dumps(view.requests[name]))
         again = house.view(view.desk)
