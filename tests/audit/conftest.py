@@ -1,5 +1,6 @@
 """What the tests of the audit are run with, as programs that they start read it."""
 
+import os
 from collections.abc import Iterator
 from pathlib import Path
 
@@ -8,8 +9,8 @@ import pytest
 
 @pytest.fixture(scope="session", autouse=True)
 def remembered(shared: Path) -> Iterator[None]:
-    """A folder in which the venue's answers are kept, for all workers: see remembered.py."""
-    folder = shared / "remembered"
+    """A folder in which the venue's answers are kept, for all workers, or for many runs where it is given: see remembered.py."""
+    folder = Path(os.environ.get("REMEMBERED") or shared / "remembered")
     folder.mkdir(exist_ok=True)
     with pytest.MonkeyPatch.context() as patch:
         patch.setenv("REMEMBERED", str(folder))

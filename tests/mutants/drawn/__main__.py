@@ -1,12 +1,13 @@
 """Draws changes by a seed, tries each, and prints which of them every test lets through.
 
 usage: python3 -m tests.mutants.drawn [--seed N] [--count N] [--part NAME ..] [--jobs N] [--limit SECONDS]
-           [--since COMMIT] [--venue VENUE] [--gateway PROGRAM] [--record] [--list] [WORDS ..]
+           [--since COMMIT] [--venue VENUE] [--gateway PROGRAM] [--record] [--below SECONDS] [--list] [WORDS ..]
 
 Draws --count changes (100) of the parts (all), each part in proportion to its lines; with --since only of files that have changed since
 that commit. Each is tried in a copy of the tree, --jobs of them side by side, against the tests that pass through its line, the fastest
-first. WORDS are pytest's. --record runs the tests of the parts first, and records through which
-lines each passes; without it what was recorded last is taken, and where nothing was, all tests of a part are run. --list tries nothing.
+first. WORDS are pytest's. --record runs the tests of the parts first, and records through which lines each passes, with --below only
+those that take less seconds by tests/durations; without it what was recorded last is taken, and where nothing was, all tests of a
+part are run. --list tries nothing.
 
 The last lines are a table: of each part how many were drawn, refused, equal (left_out.toml), and how many passed. The status is 0.
 """
@@ -18,7 +19,9 @@ import sys
 from collections import Counter
 from collections.abc import Iterator
 from concurrent.futures import ThreadPoolExecutor
+from contextlib import ExitStack
 from dataclasses import dataclass
+from functools import cache
 from pathlib import Path
 from queue import SimpleQueue
 
@@ -28,8 +31,7 @@ from tests.mutants.drawn.left_out import LeftOut, read_left_out
 from tests.mutants.drawn.parts import PARTS, Part, changes_of
 from tests.mutants.drawn.passes import FOLDER, Passes, read_passes, record, record_built
 from tests.mutants.drawn.trial import Trial, Tried, Verdict, passes_file
-from tests.mutants.nursery import FOLDER as COPIES
-from tests.mutants.nursery import nursery
+from tests.mutants.nursery import Nursery, nursery
 
 LONGEST = 900.0  # seconds of one change
 
@@ -92,6 +94,7 @@ def one_of(changes: list[Change], chance: random.Random) -> Change:
 
 def record_part(part: Part, chosen: argparse.Namespace) -> None:
     words = ["--venue", chosen.venue, *chosen.words]
+    words += ["--below", str(chosen.below)] if chosen.below else []
     if part.build is None:
         words += ["--gateway", str(chosen.gateway)] if chosen.gateway else []
         passes = record(part.name, part.paths(), part.modules(), words)
@@ -114,21 +117,25 @@ def try_all(drawn: list[Drawn], chosen: argparse.Namespace) -> Iterator[Tried]:
     waiting: SimpleQueue[int] = SimpleQueue()
     for worker in range(chosen.jobs):
         waiting.put(worker)
+    opened = ExitStack()
+
+    @cache
+    def tree_of(worker: int, build: str) -> Nursery:
+        place = "drawn-%d/%s" % (worker, build)
+        return opened.enter_context(nursery(place, venue_words(chosen.venue), chosen.gateway))
 
     def tried(one: Drawn) -> Tried:
         worker = waiting.get()
         try:
-            place = "drawn-%d/%s" % (worker, one.part.build or "scripts")
             if left_out.is_equal(one.change, (ROOT / one.change.file).read_bytes()):
                 return one.without_trial(Verdict.EQUAL)
-            with nursery(place, venue_words(chosen.venue), chosen.gateway) as tree:
-                options = tuple(chosen.words)
-                trial = Trial(one.part, tree, passes[one.part.name], chosen.limit, options)
-                return trial.tried(one.change)
+            tree, options = tree_of(worker, one.part.build or "scripts"), tuple(chosen.words)
+            trial = Trial(one.part, tree, passes[one.part.name], chosen.limit, options)
+            return trial.tried(one.change)
         finally:
             waiting.put(worker)
 
-    with ThreadPoolExecutor(chosen.jobs) as workers:
+    with opened, ThreadPoolExecutor(chosen.jobs) as workers:
         yield from workers.map(tried, drawn)
 
 
@@ -154,6 +161,7 @@ def arguments() -> argparse.Namespace:
     reader.add_argument("--venue", default=usual_venue())
     reader.add_argument("--gateway", type=Path)
     reader.add_argument("--record", action="store_true")
+    reader.add_argument("--below", type=float)
     reader.add_argument("--list", action="store_true")
     chosen, words = reader.parse_known_args()
     chosen.words = words

@@ -65,7 +65,14 @@ PARTS = (
     Part(
         "scripts",
         ("debian/*.p*inst", "debian/*.p*rm", "debian/*.sh"),
-        ("tests/operating/test_*.py",),
+        (
+            "tests/operating/test_maintainer_scripts.py",
+            "tests/operating/test_package_parts.py",
+            "tests/operating/test_packages.py",
+            "tests/operating/test_removal.py",
+            "tests/operating/test_source_package.py",
+            "tests/operating/test_upgrade_checks.py",
+        ),
     ),
 )
 

@@ -1,22 +1,21 @@
 """Which tests pass through a line, and how long each takes: from one run of a part's tests that records it."""
 
+import ast
 import json
-import os
 import shutil
 import subprocess
 import sys
 import xml.etree.ElementTree as xml
 from collections import defaultdict
-from collections.abc import Iterable, Iterator
+from collections.abc import Iterator
 from dataclasses import dataclass, field
 from pathlib import Path
-
-import coverage
 
 from tests.harness.build import cmake
 from tests.harness.options import ROOT
 from tests.harness.reports import is_failed, without_group
 from tests.mutants.drawn.counters import COUNTERS, FLAGS, name_of, passed_lines, run_unit, units
+from tests.mutants.drawn.recorder import marks_name
 
 FOLDER = ROOT / "tests" / "out" / "mutants" / "passes"
 LIMIT = 4 * 3600  # seconds of one run
@@ -54,21 +53,31 @@ def read_passes(path: Path) -> Passes:
     return Passes(lines, told["seconds"])
 
 
-def record(name: str, files: Iterable[str], modules: list[str], words: list[str]) -> Passes:
+def record(name: str, files: list[str], modules: list[str], words: list[str]) -> Passes:
     """Runs these files of tests, and reads what they passed through of these files of Python."""
-    folder = emptied(FOLDER / name)
-    listed = "\n    ".join(str(ROOT / file) for file in files)
-    (folder / "coverage.ini").write_text(
-        "[run]\nparallel = true\nsigterm = true\ncontext = ${RECORDED_TEST-none}\n"
-        "data_file = %s\ninclude =\n    %s\n" % (folder / ".coverage", listed)
-    )
+    folder, files = emptied(FOLDER / name), [file for file in files if is_python(ROOT / file)]
+    prepare(folder, files)
     seconds = dict(seconds_of(run_recorded(ROOT, folder, modules, words)))
-    return Passes(python_lines(folder), seconds)
+    return Passes(python_lines(folder, files), seconds)
+
+
+def prepare(folder: Path, files: list[str]) -> None:
+    """What `recording/sitecustomize.py` reads: the number of each file's first mark, and how many there are."""
+    for name in ("marks", "code"):
+        (folder / name).mkdir()
+        (folder / name).chmod(0o1777)
+    first, lines = 0, []
+    for file in files:
+        lines.append("%d %s\n" % (first, ROOT / file))
+        first += (ROOT / file).read_bytes().count(b"\n") + 2
+    (folder / "files").write_text("".join(lines))
+    (folder / "size").write_text(str(first + 1))
 
 
 def record_built(name: str, tree: Path, build: str, modules: list[str], words: list[str]) -> Passes:
     """The same of C++, in a copy that is built with counters. A program of unit tests is one test here, and a file of pytest's."""
     folder = emptied(FOLDER / name)
+    prepare(folder, [])
     out = cmake(tree / build, settings=SETTINGS)
     seconds = of_units(out, folder / COUNTERS)
     for test, taken in seconds_of(run_recorded(tree, folder, modules, words)):
@@ -108,17 +117,62 @@ def of_units(out: Path, counters: Path) -> dict[str, float]:
     return {name: seconds for name, seconds in found.items() if seconds is not None}
 
 
-def python_lines(folder: Path) -> Lines:
-    """What coverage.py kept in that folder, by the files' names from the top of the tree."""
-    whole = coverage.Coverage(config_file=str(folder / "coverage.ini"))
-    whole.combine([str(folder)], keep=True)
-    data, found = whole.get_data(), Lines()
-    for file in data.measured_files():
-        contexts = data.contexts_by_lineno(file)
-        found[os.path.relpath(file, ROOT)] = {
-            line: {name for name in names if "::" in name} for line, names in contexts.items()
-        }
+def is_python(path: Path) -> bool:
+    return path.suffix == ".py" or path.read_bytes().startswith(b"#!/usr/bin/python3")
+
+
+def python_lines(folder: Path, files: list[str]) -> Lines:
+    """The tests of each line, by the marks of its statement."""
+    tests: dict[str, list[str]] = {}
+    for path in folder.glob("tests-*.json"):
+        tests |= json.loads(path.read_text())
+    marks = {path.name: path.read_bytes() for path in (folder / "marks").iterdir()}
+    passed = {
+        test: [marks.get(marks_name(who), b"") for who in whose] for test, whose in tests.items()
+    }
+    firsts = [int(line.split(" ")[0]) for line in (folder / "files").read_text().splitlines()]
+    found: Lines = {}
+    for file, first in zip(files, firsts, strict=True):
+        text = (ROOT / file).read_bytes()
+        ends = first + text.count(b"\n") + 2
+        own = {test: merged([each[first:ends] for each in all_]) for test, all_ in passed.items()}
+        own = {test: each for test, each in own.items() if any(each)}
+        found[file] = {line: tests_at(own, start) for line, start in statements(text).items()}
     return found
+
+
+def merged(marks: list[bytes]) -> bytes:
+    """What is marked in one of them."""
+    whole = 0
+    for each in marks:
+        whole |= int.from_bytes(each, "little")
+    return whole.to_bytes(max(map(len, marks)), "little")
+
+
+def tests_at(marks: dict[str, bytes], start: int | None) -> set[str]:
+    """Those that passed through a statement; all that passed through its file, where it runs at an import, which one makes for many."""
+    return {test for test, each in marks.items() if start is None or each[start]}
+
+
+def statements(text: bytes) -> dict[int, int | None]:
+    """Of each line the line where its innermost statement begins, if that is within a function."""
+    found: dict[int, int | None] = {}
+
+    def read(node: ast.AST, inner: bool) -> None:
+        for child in ast.iter_child_nodes(node):
+            if isinstance(child, ast.stmt) and child.end_lineno is not None:
+                lines = range(first_line(child), child.end_lineno + 1)
+                found.update(dict.fromkeys(lines, child.lineno if inner else None))
+            read(child, inner or isinstance(node, ast.FunctionDef) and child in node.body)
+
+    read(ast.parse(text), False)
+    return found
+
+
+def first_line(node: ast.stmt) -> int:
+    """A function begins with what decorates it."""
+    decorators: list[ast.expr] = getattr(node, "decorator_list", [])
+    return min([node.lineno, *(each.lineno for each in decorators)])
 
 
 def seconds_of(report: Path) -> Iterator[tuple[str, float]]:

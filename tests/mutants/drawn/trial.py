@@ -1,6 +1,7 @@
 """One change in a copy of the tree: built, and held against the tests that pass through its line, until one fails."""
 
 import os
+import signal
 import subprocess
 import sys
 import time
@@ -11,6 +12,7 @@ from itertools import islice
 from pathlib import Path
 
 from tests.harness.build import NotBuilt, cmake
+from tests.harness.durations import FILE, read_durations
 from tests.mutants.drawn.change import Change
 from tests.mutants.drawn.counters import UNIT, Unit, run_unit
 from tests.mutants.drawn.parts import Part
@@ -19,6 +21,11 @@ from tests.mutants.nursery import PATIENCE, PROGRAMS, Nursery
 
 AT_ONCE = 20  # tests of one run of pytest, so that the first that fails ends it soon
 UNKNOWN = 5.0  # seconds of a file of tests of which nothing is known
+SLOW = 10  # times what they took when they were recorded: so long tests may take on a busy machine
+LEAST = 60.0  # seconds that they may take anyway
+
+
+DURATIONS = read_durations(FILE.read_text())
 
 
 class Verdict(Enum):
@@ -26,7 +33,7 @@ class Verdict(Enum):
 
     REFUSED = "refused"  # by a test, or by the compiler
     EQUAL = "equal"  # it changes nothing that anybody could see
-    HANGS = "hangs"  # no test ended within the limit: that is seen, too
+    HANGS = "hangs"  # a test took many times what it takes: that is seen, too
     PASSED = "passed"  # every test that passes through its line passes
     UNSEEN = "unseen"  # no test passes through its line
     OUT_OF_TIME = "out of time"  # some of its tests were not run
@@ -62,8 +69,14 @@ class Trial:
         """Those that pass through its line; all of the part's files where no line is recorded."""
         if change.file in self.passes.lines:
             return self.passes.through(change.file, change.line)
-        modules = self.part.modules(self.tree.folder)
-        return sorted(modules, key=lambda name: self.passes.seconds.get(name, UNKNOWN))
+        return sorted(self.part.modules(self.tree.folder), key=self.seconds)
+
+    def seconds(self, name: str) -> float:
+        """Of a test or a file of tests, as it was recorded; else as tests/durations has it."""
+        if name in self.passes.seconds:
+            return self.passes.seconds[name]
+        whole = sum(took for test, took in DURATIONS.items() if test.startswith(name))
+        return max(whole, UNKNOWN)
 
     def tried(self, change: Change) -> Tried:
         """The copy is as it was afterwards."""
@@ -99,10 +112,11 @@ class Trial:
             left = self.limit - (time.monotonic() - began)
             if left <= 0:
                 return Verdict.OUT_OF_TIME, batch[0]
+            most = LEAST + SLOW * sum(map(self.seconds, batch))
             try:
-                failed = self.first_failed(batch, left)
+                failed = self.first_failed(batch, min(most, left))
             except subprocess.TimeoutExpired:
-                return Verdict.HANGS, batch[0]
+                return (Verdict.HANGS if most < left else Verdict.OUT_OF_TIME), batch[0]
             if failed is not None:
                 return Verdict.REFUSED, failed
         return Verdict.PASSED, "%d tests" % len(names)
@@ -111,20 +125,26 @@ class Trial:
         """Runs these tests, until one fails."""
         words = [sys.executable, "-m", "pytest", *names, "-x", "-q", *self.options]
         place = ["-c", str(self.tree.folder / "pyproject.toml"), "--rootdir", str(self.tree.folder)]
-        done = subprocess.run(
+        running = subprocess.Popen(
             [*words, *place, *self.tree.chosen_for(self.part.build)],
             cwd=self.tree.folder,
             env=self.environment(),
             stdout=subprocess.PIPE,
             stderr=subprocess.STDOUT,
             text=True,
-            timeout=limit,
-            check=False,
+            start_new_session=True,
         )
-        if done.returncode == 0:
+        try:
+            told, _ = running.communicate(timeout=limit)
+        except subprocess.TimeoutExpired:
+            # Also what the tests have started, which a wrong body may keep from ending.
+            os.killpg(running.pid, signal.SIGKILL)
+            running.communicate()
+            raise
+        if running.returncode == 0:
             return None
-        lines = [line for line in done.stdout.splitlines() if line.startswith(("FAILED", "ERROR"))]
-        return lines[0] if lines else "pytest ended with status %d" % done.returncode
+        lines = [line for line in told.splitlines() if line.startswith(("FAILED", "ERROR"))]
+        return lines[0] if lines else "pytest ended with status %d" % running.returncode
 
     def environment(self) -> dict[str, str]:
         """Nothing of the tree that is no copy; a wrong body may wait for what never comes."""
