@@ -1,10 +1,14 @@
 """What the mutator changes in each language, what it leaves out, and that it draws the same by the same seed."""
 
+import json
+import os
 import subprocess
+import sys
 from pathlib import Path
 
 import pytest
 
+from tests.harness.options import ROOT
 from tests.mutants.drawn.__main__ import draw
 from tests.mutants.drawn.change import Change, Kind
 from tests.mutants.drawn.counters import FLAGS, Unit, run_unit
@@ -12,8 +16,19 @@ from tests.mutants.drawn.cpp_changes import cpp_changes
 from tests.mutants.drawn.javascript_changes import javascript_changes
 from tests.mutants.drawn.left_out import FILE, read_left_out
 from tests.mutants.drawn.parts import PARTS, words_for_clang
-from tests.mutants.drawn.passes import of_counters
+from tests.mutants.drawn.passes import Passes, of_counters, prepare, python_lines
 from tests.mutants.drawn.python_changes import python_changes
+from tests.mutants.drawn.recorder import HERE as RECORDING
+from tests.mutants.drawn.recorder import marks_name
+from tests.mutants.drawn.recording.sitecustomize import CURRENT, FOLDER
+from tests.mutants.drawn.remembered import (
+    MOST,
+    Remembered,
+    functions,
+    is_there,
+    read_remembered,
+    summed,
+)
 from tests.mutants.drawn.shell_changes import shell_changes
 
 # A text, a kind of mistake, and each text that it makes of it.
@@ -171,6 +186,56 @@ def test_lines_of_cpp_are_recorded_run_by_run(place: Path) -> None:
     found = of_counters(counters, place)["x.cpp"]
     assert found[2] == {"tests/a/test_b.py", "unit c"}
     assert (found[3], found[4]) == ({"tests/a/test_b.py"}, {"unit c"})
+
+
+def test_lines_of_python_are_recorded_test_by_test(place: Path) -> None:
+    """Also of a program that is killed; and what a shared fixture passes through is passed through by each test that takes it."""
+    source, folder, current = place / "x.py", place / "recorded", place / "current"
+    source.write_text(
+        "def f(n):\n    if n > 1:\n        return (1,\n            2)\n    return 3\n"
+    )
+    folder.mkdir()
+    prepare(folder, [str(source)])
+    told = {"a::one": ["a::one"], "a::two": ["a::two"], "a::three": ["a::three", "shared"]}
+    (folder / "tests-1.json").write_text(json.dumps(told))
+    path = "%s:%s" % (RECORDING, place)
+    for who, number in (("a::one", 1), ("a::two", 2), ("shared", 2)):
+        current.write_text(marks_name(who))
+        program = "import x, os; x.f(%d); os.kill(os.getpid(), 9)" % number
+        own = os.environ | {"PYTHONPATH": path, FOLDER: str(folder), CURRENT: str(current)}
+        done = subprocess.run([sys.executable, "-c", program], env=own, timeout=60, check=False)
+        assert done.returncode == -9
+    found = python_lines(folder, [str(source)])[str(source)]
+    assert found[1] == found[2] == set(told)
+    assert found[3] == found[4] == {"a::two", "a::three"} and found[5] == {"a::one"}
+
+
+def test_what_the_tree_remembers_of_a_recording(place: Path) -> None:
+    """Of each function its fastest tests, and those that pass through most of it; in a file that moved, too."""
+    text = "a = 1\nclass B:\n    def c(self):\n        d()\n        e()\n"
+    assert functions(text.encode()) == {4: "B.c", 5: "B.c"}
+    (place / "x.py").write_text(text)
+    few = {"t.py::test_%d" % number for number in range(9)}
+    slow = "t.py::test_slow"
+    seconds = {test: float(test[-1]) for test in few} | {slow: 60.0}
+    own = summed(Passes({"x.py": {1: {slow}, 4: {*few, slow}, 5: {slow}}}, seconds), place)["x.py"]
+    assert own["-"] == [slow] and len(own["B.c"]) == MOST
+    assert own["B.c"][0] == "t.py::test_0" and own["B.c"][-1] == slow
+    (place / "x.py").write_text("\n\n" + text)
+    (place / "t.py").write_text("def test_0() -> None:\n")
+    known = Remembered([("t.py::test_0[a]", 1.0), (slow, 60.0)], {"x.py": {"B.c": [0, 1]}})
+    assert known.through(place, "x.py", 7) == ["t.py::test_0[a]"]
+    assert known.through(place, "x.py", 1) == []
+
+
+def test_what_is_remembered_is_of_files_and_tests_that_are_there() -> None:
+    """It gets old: the program writes it anew with --record --remember."""
+    for part in PARTS:
+        known = read_remembered(part.name)
+        names = {name.partition("[")[0] for name, _ in known.tests}
+        there = [name for name in names if is_there(ROOT, name)]
+        assert len(there) * 2 >= len(names), "%s: write it anew" % part.name
+        assert known.files.keys() <= set(part.paths()), part.name
 
 
 def test_what_another_compiler_needs_is_not_told_to_clang() -> None:

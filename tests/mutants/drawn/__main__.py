@@ -1,13 +1,13 @@
 """Draws changes by a seed, tries each, and prints which of them every test lets through.
 
 usage: python3 -m tests.mutants.drawn [--seed N] [--count N] [--part NAME ..] [--jobs N] [--limit SECONDS]
-           [--since COMMIT] [--venue VENUE] [--gateway PROGRAM] [--record] [--below SECONDS] [--list] [WORDS ..]
+           [--since COMMIT] [--venue VENUE] [--gateway PROGRAM] [--record] [--remember] [--below SECONDS] [--list] [WORDS ..]
 
 Draws --count changes (100) of the parts (all), each part in proportion to its lines; with --since only of files that have changed since
 that commit. Each is tried in a copy of the tree, --jobs of them side by side, against the tests that pass through its line, the fastest
-first. WORDS are pytest's. --record runs the tests of the parts first, and records through which lines each passes, with --below only
-those that take less seconds by tests/durations; without it what was recorded last is taken, and where nothing was, all tests of a
-part are run. --list tries nothing.
+first. WORDS are pytest's. --below leaves out tests that take as many seconds. --record runs the tests of the parts first, and records
+through which lines each passes; without it what was recorded last is taken; where nothing was, what the tree remembers of each
+function (--remember writes that anew, from what was recorded); and else all tests of a part. --list tries nothing.
 
 The last lines are a table: of each part how many were drawn, refused, equal (left_out.toml), and how many passed. The status is 0.
 """
@@ -30,6 +30,7 @@ from tests.mutants.drawn.change import Change
 from tests.mutants.drawn.left_out import LeftOut, read_left_out
 from tests.mutants.drawn.parts import PARTS, Part, changes_of
 from tests.mutants.drawn.passes import FOLDER, Passes, read_passes, record, record_built
+from tests.mutants.drawn.remembered import read_remembered, write_remembered
 from tests.mutants.drawn.trial import Trial, Tried, Verdict, passes_file
 from tests.mutants.nursery import Nursery, nursery
 
@@ -113,6 +114,7 @@ def passes_of(part: Part) -> Passes:
 def try_all(drawn: list[Drawn], chosen: argparse.Namespace) -> Iterator[Tried]:
     """Each worker has a copy for each folder that is built, and one for what is not."""
     passes = {part.name: passes_of(part) for part in PARTS}
+    remembered = {part.name: read_remembered(part.name) for part in PARTS}
     left_out = read_left_out()
     waiting: SimpleQueue[int] = SimpleQueue()
     for worker in range(chosen.jobs):
@@ -130,7 +132,8 @@ def try_all(drawn: list[Drawn], chosen: argparse.Namespace) -> Iterator[Tried]:
             if left_out.is_equal(one.change, (ROOT / one.change.file).read_bytes()):
                 return one.without_trial(Verdict.EQUAL)
             tree, options = tree_of(worker, one.part.build or "scripts"), tuple(chosen.words)
-            trial = Trial(one.part, tree, passes[one.part.name], chosen.limit, options)
+            known = (passes[one.part.name], remembered[one.part.name])
+            trial = Trial(one.part, tree, *known, chosen.limit, chosen.below, options)
             return trial.tried(one.change)
         finally:
             waiting.put(worker)
@@ -161,6 +164,7 @@ def arguments() -> argparse.Namespace:
     reader.add_argument("--venue", default=usual_venue())
     reader.add_argument("--gateway", type=Path)
     reader.add_argument("--record", action="store_true")
+    reader.add_argument("--remember", action="store_true")
     reader.add_argument("--below", type=float)
     reader.add_argument("--list", action="store_true")
     chosen, words = reader.parse_known_args()
@@ -173,6 +177,8 @@ def main() -> None:
     parts = [part for part in PARTS if chosen.part is None or part.name in chosen.part]
     for part in parts if chosen.record else ():
         record_part(part, chosen)
+    for part in parts if chosen.remember else ():
+        write_remembered(part.name, passes_of(part))
     only = changed_since(chosen.since) if chosen.since else None
     drawn = list(draw(parts, chosen.count, chosen.seed, only))
     if chosen.list:

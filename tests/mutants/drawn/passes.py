@@ -160,10 +160,11 @@ def statements(text: bytes) -> dict[int, int | None]:
 
     def read(node: ast.AST, inner: bool) -> None:
         for child in ast.iter_child_nodes(node):
+            within = inner or isinstance(node, ast.FunctionDef) and child in node.body
             if isinstance(child, ast.stmt) and child.end_lineno is not None:
                 lines = range(first_line(child), child.end_lineno + 1)
-                found.update(dict.fromkeys(lines, child.lineno if inner else None))
-            read(child, inner or isinstance(node, ast.FunctionDef) and child in node.body)
+                found.update(dict.fromkeys(lines, child.lineno if within else None))
+            read(child, within)
 
     read(ast.parse(text), False)
     return found

@@ -13,14 +13,17 @@ from pathlib import Path
 
 from tests.harness.build import NotBuilt, cmake
 from tests.harness.durations import FILE, read_durations
+from tests.harness.options import ROOT
 from tests.mutants.drawn.change import Change
 from tests.mutants.drawn.counters import UNIT, Unit, run_unit
 from tests.mutants.drawn.parts import Part
 from tests.mutants.drawn.passes import Passes
+from tests.mutants.drawn.remembered import Remembered
 from tests.mutants.nursery import PATIENCE, PROGRAMS, Nursery
 
 AT_ONCE = 20  # tests of one run of pytest, so that the first that fails ends it soon
 UNKNOWN = 5.0  # seconds of a file of tests of which nothing is known
+NOTHING_RUN = 5  # pytest's status where its words leave none of the tests
 SLOW = 10  # times what they took when they were recorded: so long tests may take on a busy machine
 LEAST = 60.0  # seconds that they may take anyway
 
@@ -62,19 +65,26 @@ class Trial:
     part: Part
     tree: Nursery
     passes: Passes
+    remembered: Remembered
     limit: float  # seconds of one change
+    below: float | None  # only tests that take less seconds, as far as that is known
     options: tuple[str, ...]
 
     def tests(self, change: Change) -> list[str]:
-        """Those that pass through its line; all of the part's files where no line is recorded."""
+        """Those that pass through its line, or its function; all of the part's files where neither is known."""
         if change.file in self.passes.lines:
-            return self.passes.through(change.file, change.line)
-        return sorted(self.part.modules(self.tree.folder), key=self.seconds)
+            names = self.passes.through(change.file, change.line)
+        elif change.file in self.remembered.files:
+            names = self.remembered.through(ROOT, change.file, change.line)
+        else:
+            names = sorted(self.part.modules(self.tree.folder), key=self.seconds)
+        return [name for name in names if self.below is None or self.seconds(name) < self.below]
 
     def seconds(self, name: str) -> float:
         """Of a test or a file of tests, as it was recorded; else as tests/durations has it."""
-        if name in self.passes.seconds:
-            return self.passes.seconds[name]
+        for known in (self.passes.seconds, self.remembered.seconds):
+            if name in known:
+                return known[name]
         whole = sum(took for test, took in DURATIONS.items() if test.startswith(name))
         return max(whole, UNKNOWN)
 
@@ -141,7 +151,7 @@ class Trial:
             os.killpg(running.pid, signal.SIGKILL)
             running.communicate()
             raise
-        if running.returncode == 0:
+        if running.returncode in (0, NOTHING_RUN):
             return None
         lines = [line for line in told.splitlines() if line.startswith(("FAILED", "ERROR"))]
         return lines[0] if lines else "pytest ended with status %d" % running.returncode
