@@ -56,6 +56,16 @@ TEST_CASE_FIXTURE(NoPipeSignal, "nobody waits for a program that reads nothing")
     CHECK(std::chrono::steady_clock::now() - begun < 30s);
 }
 
+TEST_CASE_FIXTURE(NoPipeSignal, "nobody waits for what a program has left its input to") {
+    const auto begun = std::chrono::steady_clock::now();
+    {
+        // It is in a session of its own, which is not ended with the program.
+        CheckpointSender sender({"sh", "-c", "exec 3<&0; setsid sleep 90 & wait"}, silent);
+        sender.send(std::string(1000000, 'x'));
+    }
+    CHECK(std::chrono::steady_clock::now() - begun < 60s);
+}
+
 TEST_CASE_FIXTURE(NoPipeSignal, "a program that is not there or ends at once harms nobody") {
     for (const char *program : {"/nonexistent/program", "false"}) {
         CheckpointSender sender({program}, silent);

@@ -4,6 +4,8 @@ import json
 import os
 import random
 import re
+import shutil
+import signal
 import socket
 import subprocess
 import tomllib
@@ -350,6 +352,26 @@ def test_the_venues_program_is_asked_first(
     stage.door.start()
     assert stage.door.wait_end() == 1
     assert expected in stage.door.last_words()
+
+
+def test_a_program_that_leaves_its_input_to_another(stage: Stage) -> None:
+    """The other one reads nothing of more than a pipe holds, has left the group that is killed, and holds up nobody."""
+    write(stage, VENUE + "# and more\n" * 10_000)
+    script = stage.folder / "leaves"
+    number = stage.folder / "number"
+    script.write_text(
+        "#!/bin/sh\nexec 3<&0\nsetsid sleep 600 >%s 2>&1 &\necho $! >%s\nexit 9\n"
+        % (os.devnull, number)
+    )
+    script.chmod(0o755)
+    with_program(stage, [str(script)])
+    file = stage.folder / "gateway.toml"
+    file.write_text(file.read_text().replace("[venue]\n", "[venue]\nconfined = false\n"))
+    try:
+        found = told(stage)
+    finally:
+        os.kill(int(number.read_text()), signal.SIGKILL)
+    assert found.returncode == 1 and "ended with status 9" in found.stderr, found.stderr
 
 
 def drawn_fault(draw: random.Random) -> tuple[str, int, str]:

@@ -71,14 +71,21 @@ class SpawnPlan {
     posix_spawnattr_t attributes_{};
 };
 
-// Whether there is something to read, or the end, before a moment.
-bool has_some(const Descriptor &descriptor, Process::Time latest) {
-    pollfd some{descriptor.number(), POLLIN, 0};
+// So long does poll() wait; -1 is without end.
+int milliseconds_to(Process::Time latest) {
+    if (latest == Process::Time::max()) {
+        return -1;
+    }
+    const auto left =
+        std::chrono::ceil<std::chrono::milliseconds>(latest - std::chrono::steady_clock::now());
+    return static_cast<int>(std::max<std::int64_t>(left.count(), 0));
+}
+
+// Whether there is something to read, or room to write, before a moment; or the end.
+bool has_some(const Descriptor &descriptor, short event, Process::Time latest) {
+    pollfd some{descriptor.number(), event, 0};
     for (;;) {
-        const auto left =
-            std::chrono::ceil<std::chrono::milliseconds>(latest - std::chrono::steady_clock::now());
-        const int found =
-            ::poll(&some, 1, static_cast<int>(std::max<std::int64_t>(left.count(), 0)));
+        const int found = ::poll(&some, 1, milliseconds_to(latest));
         if (found >= 0 || errno != EINTR) {
             return found > 0;
         }
@@ -87,7 +94,7 @@ bool has_some(const Descriptor &descriptor, Process::Time latest) {
 
 std::string read_some(const Descriptor &descriptor, Process::Time latest) {
     std::array<char, 65536> buffer;
-    if (latest != Process::Time::max() && !has_some(descriptor, latest)) {
+    if (latest != Process::Time::max() && !has_some(descriptor, POLLIN, latest)) {
         return {};
     }
     for (;;) {
@@ -140,15 +147,17 @@ Process::~Process() {
     }
 }
 
-bool Process::write(std::string_view bytes) {
+bool Process::write(std::string_view bytes, Time latest) {
     while (!bytes.empty()) {
         const ssize_t count = ::write(input_.number(), bytes.data(), bytes.size());
         if (count > 0) {
             bytes.remove_prefix(static_cast<std::size_t>(count));
         } else if (count < 0 && errno == EAGAIN) {
-            // Of a process that has ended poll() tells at once, and the next write why.
-            pollfd room{input_.number(), POLLOUT, 0};
-            ::poll(&room, 1, -1);
+            // Of a process that has ended poll() tells at once, and the next write why. What it has
+            // started may keep its input open, and read nothing.
+            if (!has_some(input_, POLLOUT, latest)) {
+                return false;
+            }
         } else if (count == 0 || errno != EINTR) {
             return false;
         }

@@ -25,14 +25,14 @@ class Process {
     Process &operator=(const Process &) = delete;
 
     // Writes all bytes to its standard input, and waits for room there; false where it does not
-    // read any more.
-    bool write(std::string_view bytes);
+    // read any more, or has not read enough before `latest`.
+    using Time = std::chrono::steady_clock::time_point;
+    bool write(std::string_view bytes, Time latest = Time::max());
     // Writes what its standard input takes at once, and returns how much that is.
     std::size_t write_at_once(std::string_view bytes);
     void close_input();
     // The next bytes of its standard output or error, empty at the end; and where there is none
     // before `latest`: what it has started may keep it open.
-    using Time = std::chrono::steady_clock::time_point;
     std::string read_output(Time latest = Time::max());
     std::string read_errors(Time latest = Time::max());
     // And all that it has started: else its output would not end. Any thread may call it, and the

@@ -20,6 +20,10 @@ constexpr auto between_starts = 10s;
 // How long it may take for what is left, at the end.
 constexpr auto longest_end = 2s;
 
+// And for a line: a pipe that is full has more than a minute's. What the program has started may
+// keep its input, and read nothing, after the program is killed.
+constexpr auto longest_line = 10s;
+
 // What it says itself goes nowhere: a pipe that nobody reads would stop it.
 std::vector<std::string> silenced(const std::vector<std::string> &command) {
     std::vector<std::string> words{"/bin/sh", "-c", "exec \"$@\" >/dev/null 2>&1", "sh"};
@@ -91,7 +95,7 @@ std::shared_ptr<Process> CheckpointSender::program() {
 }
 
 void CheckpointSender::write(Process &program, const std::string &line) {
-    if (program.write(line)) {
+    if (program.write(line, Clock::now() + longest_line)) {
         return;
     }
     program.kill();

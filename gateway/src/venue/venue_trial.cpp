@@ -52,7 +52,7 @@ Trial run_with(const Config &config, bool notes) {
     Process process(words_of_start(with_notes(config.command, notes), config.confined));
     const std::jthread limit([&process] { process.end_all_within(longest_trial); });
     const auto latest = std::chrono::steady_clock::now() + longest_trial;
-    process.write(config.configuration + "%%\n");
+    process.write(config.configuration + "%%\n", latest);
     process.close_input();
     read_to_end(&Process::read_output, process, latest);
     Trial trial;
