@@ -137,6 +137,9 @@ TRIES = {
     "gives a key away": "import os; os.chown({key!r}, os.getuid(), os.getgid())",
     "changes a file's times": "import os; os.utime({key!r}, (1, 1))",
     "marks a file": "import os; os.setxattr({key!r}, 'user.mark', b'x')",
+    # What has left the gateway's group of processes is killed by nobody.
+    "leaves its group": "import os; os.setpgid(0, 0)",
+    "begins a session": CALL + "if not os.fork(): call(libc.setsid)\nelse: os.wait(); os._exit(0)",
     # Each leaves its parent as it is, should it go well.
     "queues a signal": CALL + "call(libc.sigqueue, os.getppid(), 0, 0)",
     "has its gateway told by a pipe": "import fcntl, os; fcntl.fcntl(os.pipe()[0], fcntl.F_SETOWN, os.getppid())",

@@ -160,8 +160,9 @@ constexpr std::uint32_t machine = AUDIT_ARCH_AARCH64;
 #error "which calls of the system the venue may make is not known on this machine"
 #endif
 
-// Sockets; other processes, their memory, their signals and their share of the machine; the
-// kernel's keys, programs and settings; and what makes a process see other files.
+// Sockets; other processes, their memory, their signals and their share of the machine; a group of
+// processes of its own, which is not the one that the gateway kills; the kernel's keys, programs
+// and settings; and what makes a process see other files.
 constexpr auto forbidden = std::to_array<unsigned>({SYS_socket,
                                                     SYS_socketpair,
                                                     SYS_bind,
@@ -182,6 +183,8 @@ constexpr auto forbidden = std::to_array<unsigned>({SYS_socket,
                                                     SYS_rt_sigqueueinfo,
                                                     SYS_rt_tgsigqueueinfo,
                                                     SYS_kcmp,
+                                                    SYS_setpgid,
+                                                    SYS_setsid,
                                                     SYS_setpriority,
                                                     SYS_ioprio_set,
                                                     SYS_sched_setparam,
