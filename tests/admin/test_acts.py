@@ -379,6 +379,45 @@ def test_small_steps_of_the_clock_add_up(stage: Stage, clock: Clock) -> None:
     assert takes_business()
 
 
+@pytest.mark.parametrize("log_place", ["postgres"], indirect=True)
+def test_steps_of_the_clock_while_the_log_stalls(stage_of_log: Stage, clock: Clock) -> None:
+    """Three steps of a second each that the log has not taken yet: after the third no quote is taken, and none once it has taken
+    them. An operator's word counts for all of them, and the next step is one of a second."""
+    stage = stage_of_log
+    stage.door.environment.update(clock.environment)
+    stage.door.operators = ""
+    stage.open(stage.other)
+    assert stage.postgres is not None
+
+    def takes_business() -> bool:
+        return bool(rows(stage, "status")[0]["takes_business"])
+
+    def told_of(seconds: int) -> None:
+        clock.set(seconds)
+        until(
+            "the step is told",
+            LONG,
+            lambda: stage.door.told.read_text().count("clock was set by=") == seconds,
+        )
+
+    def steps() -> int:
+        lines = [entry.line for entry in stage.door.ledger().entries]
+        return sum(line.startswith(b"# clock ") and b" set " in line for line in lines)
+
+    with entries_locked(stage.postgres):
+        for seconds in (1, 2, 3):
+            assert takes_business()
+            told_of(seconds)
+        until("no quote is taken", LONG, lambda: not takes_business())
+        assert steps() == 0
+    until("the log has them", LONG, lambda: steps() == 3)
+    assert not takes_business()
+    did(stage, "clock", "accept", "--because", "ntpd was wrong, and is right")
+    assert takes_business()
+    told_of(4)
+    assert takes_business()
+
+
 def test_samples_of_the_clock(stage: Stage) -> None:
     """Each start puts one before any session logs on; the record of orders has them."""
     stage.door.operators = ""

@@ -86,8 +86,8 @@ Log::Start with_listeners(Log::Start start,
 
 Leader::Leader(VenueDay &day, std::unique_ptr<Follower> follower, const Follower::End &end,
                Log::Start start, Engine &engine)
-    : day_(day), engine_(engine), follower_(std::move(follower)), before_(start.connections),
-      sessions_(day, log_, end.states),
+    : day_(day), engine_(engine), follower_(std::move(follower)), last_before_(end.last.place),
+      before_(start.connections), sessions_(day, log_, end.states),
       log_(*day.database, follower_->entry_feed(), day.clock, day.metrics,
            with_listeners(
                std::move(start),
@@ -172,12 +172,10 @@ void Leader::take_note(std::uint32_t place, const std::string &line) {
     }
     day_.ordered_end.order(day_end_in(*note));
     if (accepts_clock(*note)) {
-        day_.clock_is_right = true;
-        day_.clock_set_by = 0;
+        day_.take_clock_accepted();
     }
     if (const auto step = step_in(*note)) {
-        const std::chrono::microseconds set_by(day_.clock_set_by += step->count());
-        day_.clock_is_right = day_.clock_is_right && std::chrono::abs(set_by) <= longest_step;
+        day_.take_step(*step, place > last_before_);
     }
 }
 

@@ -97,9 +97,10 @@ class Leader final {
     VenueDay &day_;
     Engine &engine_;
     const std::unique_ptr<Follower> follower_;
-    const ConnectionState before_; // when this gateway began to speak
-    FirmSessions sessions_;        // outlives the log, which sets their limits
-    SessionCommands commands_;     // likewise
+    const std::uint32_t last_before_; // the log's last entry when this gateway began to speak
+    const ConnectionState before_;    // likewise
+    FirmSessions sessions_;           // outlives the log, which sets their limits
+    SessionCommands commands_;        // likewise
     Log log_;
     const std::unique_ptr<CheckpointSigner> signer_;
     Deliveries deliveries_;

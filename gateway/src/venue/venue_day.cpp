@@ -11,7 +11,8 @@ namespace gateway {
 
 namespace {
 
-// Steps of the clock that are kept until there is a log to put them into.
+// Steps of the clock that are kept until there is a log to put them into. Those behind them become
+// one.
 constexpr std::size_t most_steps = 64;
 
 // Throws where it is none of today.
@@ -53,14 +54,41 @@ void VenueDay::tell_if_clock_was_set() {
     events->error("clock was set{} by={:.3f} s", of_venue(), seconds);
     if (steps_.size() < most_steps) {
         steps_.push_back(*step);
+    } else {
+        steps_.back() += *step;
     }
     // Steps that no operator has accepted add up.
-    const std::chrono::microseconds set_by = *step + std::chrono::microseconds(clock_set_by);
+    clock_set_meanwhile += step->count();
+    const std::chrono::microseconds set_by = clock_was_set_by();
     if (std::chrono::abs(set_by) > longest_step) {
         clock_is_right = false;
         events->error("no request and no quote is taken{} until=\"an operator accepts the clock\" "
                       "cause=\"the clock was set by {:.3f} s\"",
                       of_venue(), std::chrono::duration<double>(set_by).count());
+    }
+}
+
+std::chrono::microseconds VenueDay::clock_was_set_by() const {
+    return std::chrono::microseconds(clock_set_by + clock_set_meanwhile);
+}
+
+// What was measured meanwhile stands behind it in the log.
+void VenueDay::take_clock_accepted() {
+    clock_set_by = 0;
+    clock_is_right = true;
+    if (std::chrono::abs(clock_was_set_by()) > longest_step) {
+        clock_is_right = false;
+    }
+}
+
+// Whoever asks between the two lines finds too little, and what follows them finds all.
+void VenueDay::take_step(std::chrono::microseconds step, bool was_measured_here) {
+    if (was_measured_here) {
+        clock_set_meanwhile -= step.count();
+    }
+    clock_set_by += step.count();
+    if (std::chrono::abs(clock_was_set_by()) > longest_step) {
+        clock_is_right = false;
     }
 }
 

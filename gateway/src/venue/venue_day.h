@@ -55,6 +55,12 @@ struct VenueDay {
     // each second by the one thread of a gateway that speaks.
     void look_at_disk();
     std::vector<std::chrono::microseconds> take_steps();
+    // All steps that no operator has accepted. Any thread.
+    std::chrono::microseconds clock_was_set_by() const;
+    // What the log says of it, once that is committed: by one thread. A step that was measured here
+    // is counted already.
+    void take_clock_accepted();
+    void take_step(std::chrono::microseconds step, bool was_measured_here);
     // For events: which venue it is, where there are several.
     std::string of_venue() const;
 
@@ -79,8 +85,10 @@ struct VenueDay {
     // request and no quote is taken until an operator says that it is right, also where the gateway
     // is started again.
     std::atomic<bool> clock_is_right{true};
-    // By how much the clock was set since then, in microseconds, as the log has it.
+    // By how much the clock was set since then, in microseconds, as the log has it; and by how much
+    // beside that, as was measured here: the log may stall.
     std::atomic<std::chrono::microseconds::rep> clock_set_by{0};
+    std::atomic<std::chrono::microseconds::rep> clock_set_meanwhile{0};
     const DiskReserve reserve;
     // What sessions may have to send again.
     Spool spool;
