@@ -6,7 +6,8 @@ import shlex
 import sqlite3
 import subprocess
 from contextlib import closing
-from datetime import datetime, time, timedelta, timezone
+from dataclasses import dataclass
+from datetime import date, datetime, time, timedelta, timezone
 from pathlib import Path
 
 import pytest
@@ -15,7 +16,7 @@ from tests.gateway.stage import Stage
 from tests.gateway.wait import LONG, until
 from tests.harness.clock import Clock
 from tests.harness.options import ROOT
-from tests.operating.test_configuration import VENUE
+from tests.operating.test_configuration import VENUE, told
 from tests.operating.test_week import Week
 
 DAYS = '[day]\nopens = "08:00"\nends = "08:55"\nzone = "America/New_York"\n'
@@ -148,6 +149,34 @@ def goes_on(week: Week, ends: tuple[str, str], begins: time) -> None:
     week.stage.door.wait_open()
     week.set_clock(week.day(1), time.fromisoformat(ends[1]), -1)
     week.wait_told("day went on after it was copied date=", since)
+
+
+@dataclass
+class WeekOfFolders(Week):
+    """The log of each day is in a folder of its own."""
+
+    def log_of(self, day: date) -> Path:
+        return super().log_of(day).with_suffix("") / "log.db"
+
+
+def test_a_folder_of_each_day(stage: Stage, clock: Clock) -> None:
+    """The gateway makes it with the day, and makes nothing above it."""
+    week = WeekOfFolders(stage, clock, (first_monday() - timedelta(days=3)).date())
+    (stage.folder / "venue.toml").write_text(VENUE)
+    stage.door.write()
+    file = stage.folder / "gateway.toml"
+    text = file.read_text().replace("day-{date}.db", "logs/{date}/log.db") + DAYS
+    file.write_text(text)
+    found = told(stage)
+    assert found.returncode == 1, found.stderr
+    assert "[log] sqlite: there is no folder %s\n" % (stage.folder / "logs") in found.stderr
+    file.write_text(text.replace("logs/", ""))
+    assert told(stage).returncode == 0
+    week.set_clock(week.day(1), time(8, 0), -30)
+    stage.door.start()
+    week.wait_told("closed until=")
+    open_and_end(week, 1)
+    open_and_end(week, 2)
 
 
 def test_a_day_that_goes_on_after_its_copy(week: Week) -> None:

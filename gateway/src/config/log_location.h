@@ -6,13 +6,18 @@
 #include "log/database.h"
 #include "log/seals.h"
 
+#include <filesystem>
 #include <memory>
 #include <optional>
 #include <string>
 
 namespace gateway {
 
+// Makes the log's folder where that is named after the day, and nothing above it.
 std::unique_ptr<Database> open_database(const Config &config);
+
+// What is above a log's folder that is named after the day; empty where its name is of each day.
+std::filesystem::path above_folder_of_day(const Config &config);
 
 // Null where there is no log yet. Makes nothing, whoever else has it open. Throws
 // std::runtime_error.

@@ -3,6 +3,7 @@
 #include "common/descriptor.h"
 #include "common/frame.h"
 #include "config/certified_firms.h"
+#include "config/log_location.h"
 #include "health/disk_reserve.h"
 #include "operator/admin_peer.h"
 #include "operator/admin_socket.h"
@@ -98,11 +99,18 @@ void check_folder(const fs::path &folder, std::string_view key, bool writes) {
     }
 }
 
+// A folder that is named after the day is made when the day begins.
 void check_folders(const Config &config) {
-    if (!config.sqlite.empty()) {
-        check_folder(config.sqlite.parent_path(), "[log] sqlite", true);
+    const bool is_file = !config.sqlite.empty();
+    if (is_file) {
+        const fs::path folder = config.sqlite.parent_path();
+        const fs::path above = above_folder_of_day(config);
+        std::error_code fault;
+        const bool is_to_make = !above.empty() && !fs::exists(folder, fault);
+        check_folder(is_to_make ? above : folder, "[log] sqlite", true);
     }
-    if (config.spool != config.checkpoints) {
+    const bool is_logs_own = is_file && config.spool == config.disk;
+    if (config.spool != config.checkpoints && !is_logs_own) {
         check_folder(config.spool, "[log] spool", true);
     }
 }
