@@ -19,6 +19,7 @@
 #include <csignal>
 #include <iostream>
 #include <memory>
+#include <optional>
 #include <thread>
 
 #include <spdlog/pattern_formatter.h>
@@ -128,7 +129,7 @@ gateway::RestartForecast tell_restart(const std::string &path) {
 }
 
 // Tells what the files are. Throws std::runtime_error with the first fault.
-void check_files(const std::string &path, const std::string &day, bool runs,
+void check_files(const std::string &path, const std::string &day, std::optional<int> running,
                  const gateway::RestartForecast &forecast) {
     gateway::ConfigFiles files;
     const std::vector<gateway::Config> configs = forecast.has_begun
@@ -136,7 +137,7 @@ void check_files(const std::string &path, const std::string &day, bool runs,
                                                      : gateway::read_configs(files, path, day);
     for (const gateway::Config &config : configs) {
         const bool is_next = forecast.has_begun && !config.firms.has_own_date;
-        gateway::check_start(config, is_next ? config.firms.date : day, runs);
+        gateway::check_start(config, is_next ? config.firms.date : day, running);
         std::cout << path << " is a configuration of " << config.firms.names.size() << " firms for "
                   << (forecast.files_are_others ? "the day after " : "") << day << '\n';
         for (const std::string &told : gateway::kept_out(config, day)) {
@@ -165,7 +166,7 @@ int check(const std::string &path, const std::string &day) {
     const bool is_today = day == gateway::today();
     const auto forecast = is_today ? tell_restart(path) : gateway::RestartForecast();
     try {
-        check_files(path, day, running.has_value(), forecast);
+        check_files(path, day, running, forecast);
         return forecast.goes_well ? 0 : 1;
     } catch (const std::exception &fault) {
         std::cerr << "mireseason-gateway: " << fault.what() << '\n';

@@ -181,6 +181,23 @@ def test_a_port_that_another_program_has_is_found(stage: Stage) -> None:
     ), found.stderr
 
 
+@pytest.mark.parametrize("part", ["fix", "metrics"])
+def test_a_port_that_was_changed_while_a_gateway_runs(stage: Stage, part: str) -> None:
+    """A restart would take the other one: whether that is free is asked, though the gateway has the ports that it began with."""
+    write(stage, VENUE)
+    stage.door.start()
+    stage.door.wait_open()
+    file = stage.folder / "gateway.toml"
+    with socket.create_server(("127.0.0.1", 0)) as other:
+        number = other.getsockname()[1]
+        was = stage.door.port if part == "fix" else stage.door.metrics
+        file.write_text(file.read_text().replace("port = %d\n" % was, "port = %d\n" % number))
+        found = told(stage)
+        expected = "[%s] port 127.0.0.1:%d: Address already in use" % (part, number)
+        assert (found.returncode, expected in found.stderr) == (1, True), found.stderr
+    assert told(stage).returncode == 0
+
+
 PLACES = {
     "[operator]\n": (
         '[operator]\ngroup = "nobodys"\n',

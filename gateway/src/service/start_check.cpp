@@ -27,8 +27,10 @@ namespace {
 
 namespace fs = std::filesystem;
 
-// Port 0 is any that is free.
-void check_port(const std::string &address, std::uint16_t port, std::string_view key) {
+// Port 0 is any that is free. One that is in use is free for a start where the gateway that runs
+// has it, or may have it.
+void check_port(const std::string &address, std::uint16_t port, std::string_view key,
+                std::optional<int> running) {
     sockaddr_in at{};
     at.sin_family = AF_INET;
     at.sin_port = htons(port);
@@ -41,7 +43,9 @@ void check_port(const std::string &address, std::uint16_t port, std::string_view
         ::setsockopt(socket.number(), SOL_SOCKET, SO_REUSEADDR, &yes, sizeof yes) != 0 ||
         ::bind(socket.number(), reinterpret_cast<const sockaddr *>(&at), sizeof at) != 0) {
         const std::string cause = std::system_category().message(errno);
-        throw std::runtime_error(fmt::format("{} {}:{}: {}", key, address, port, cause));
+        if (!running || !listens_at(*running, port).value_or(true)) {
+            throw std::runtime_error(fmt::format("{} {}:{}: {}", key, address, port, cause));
+        }
     }
 }
 
@@ -255,15 +259,12 @@ std::optional<CopiesFault> fault_of_copies(const Config &config) {
     }
 }
 
-void check_start(const Config &config, std::string_view day, bool runs) {
+void check_start(const Config &config, std::string_view day, std::optional<int> running) {
     check_day(config, day);
     check_machine(config);
     check_copies(config);
-    if (runs) {
-        return;
-    }
-    check_port(config.engine.address, config.engine.port, "[fix] port");
-    check_port("127.0.0.1", config.metrics_port, "[metrics] port");
+    check_port(config.engine.address, config.engine.port, "[fix] port", running);
+    check_port("127.0.0.1", config.metrics_port, "[metrics] port", running);
 }
 
 } // namespace gateway

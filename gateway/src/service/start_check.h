@@ -25,9 +25,9 @@ struct CopiesFault {
 };
 std::optional<CopiesFault> fault_of_copies(const Config &config);
 // The same as check_day(), and what a start needs beside it: the folders of logs and copies, the
-// operators' group, and ports that nobody has. A gateway of this configuration that runs has these
-// itself.
-void check_start(const Config &config, std::string_view day, bool runs);
+// operators' group, and ports that nobody has but the gateway of this configuration that runs, a
+// process.
+void check_start(const Config &config, std::string_view day, std::optional<int> running);
 // What is no fault of a configuration, and yet hardly meant; nothing where there is no such thing.
 std::optional<std::string> doubt_about(const Config &config);
 // The firms that can't log on on this day, each with the reason, in words.
