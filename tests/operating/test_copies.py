@@ -5,6 +5,7 @@ import re
 import shlex
 import sqlite3
 import subprocess
+from concurrent.futures import ThreadPoolExecutor
 from contextlib import closing
 from dataclasses import dataclass
 from datetime import date, datetime, time, timedelta, timezone
@@ -12,10 +13,12 @@ from pathlib import Path
 
 import pytest
 
+from tests.admin.operator import admin
 from tests.gateway.stage import Stage
 from tests.gateway.wait import LONG, until
 from tests.harness.clock import Clock
 from tests.harness.options import ROOT
+from tests.operating.hung_folder import hung
 from tests.operating.test_configuration import VENUE, told
 from tests.operating.test_week import Week
 
@@ -149,6 +152,33 @@ def goes_on(week: Week, ends: tuple[str, str], begins: time) -> None:
     week.stage.door.wait_open()
     week.set_clock(week.day(1), time.fromisoformat(ends[1]), -1)
     week.wait_told("day went on after it was copied date=", since)
+
+
+@pytest.mark.root
+def test_copies_whose_disk_does_not_answer(week: Week) -> None:
+    """The day ends, the next one opens and can be halted, whatever was asked of that disk; a stop is one."""
+    stage = week.stage
+    file = stage.folder / "gateway.toml"
+    file.write_text(
+        file.read_text().replace("keep = 1\n", 'keep = 1\nsealed = "sealed"\n')
+        + '[operator]\nsocket = "admin.sock"\n'
+    )
+    for name in ("copies", "sealed"):
+        (stage.folder / name).mkdir()
+    with hung(stage.folder / "copies"):
+        week.set_clock(week.day(1), time(8, 0), -30)
+        stage.door.start()
+        week.wait_told("closed until=")
+        open_and_end(week, 1)
+        open_and_end(week, 2)
+        week.wait_told("days are not copied cause=")
+        week.open_day(3)
+        with ThreadPoolExecutor() as pool:
+            answers = list(pool.map(lambda _: admin(stage, "--json", "status"), range(3)))
+        for said in answers:
+            assert "its disk does not answer" in said.out, said.text
+        assert admin(stage, "halt", "--because", "they asked").status == 0
+        assert stage.door.stop() == 0
 
 
 @dataclass

@@ -7,6 +7,8 @@
 #include "operator/admin_answer.h"
 
 #include <chrono>
+#include <cstdint>
+#include <optional>
 #include <shared_mutex>
 #include <string>
 #include <string_view>
@@ -46,8 +48,10 @@ class AdminScene {
     // What lies beside the day that goes on.
     struct Beside {
         std::uint64_t days_without_copy = 0; // of those that have ended, where they are copied
-        std::uint64_t days_without_seal = 0; // of the copies, where a keeper says what it sealed
-        std::vector<std::string> restart;    // what a start now would do
+        // Of the copies, where a keeper says what it sealed; nothing where their disk does not
+        // answer.
+        std::optional<std::uint64_t> days_without_seal = 0;
+        std::vector<std::string> restart; // what a start now would do
         bool restart_goes_well = false;
     };
     virtual Beside beside() = 0;

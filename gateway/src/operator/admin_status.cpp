@@ -44,6 +44,9 @@ AdminAnswer::Row row_of(Leader &leader, const AdminScene::Beside &beside) {
     const bool is_copied = !day.config.copies.empty();
     const bool is_kept = is_copied && !day.config.sealed.empty();
     using Value = AdminAnswer::Value;
+    const auto unsealed = beside.days_without_seal
+                              ? Value(*beside.days_without_seal)
+                              : Value(std::string("not known: the disk does not answer"));
     const KernelClock clock = read_kernel_clock();
     return {{"state", std::string("open")},
             {"venue", day.config.venue},
@@ -63,8 +66,7 @@ AdminAnswer::Row row_of(Leader &leader, const AdminScene::Beside &beside) {
             {"signed_entry", signed_at(day)},
             {"days_without_copy",
              is_copied ? Value(beside.days_without_copy) : Value(std::string("no [copies]"))},
-            {"days_without_seal",
-             is_kept ? Value(beside.days_without_seal) : Value(std::string("no keeper"))},
+            {"days_without_seal", is_kept ? unsealed : Value(std::string("no keeper"))},
             {"restart_goes_well", beside.restart_goes_well},
             {"clock_synchronised", clock.is_synchronised},
             {"clock_error_us", static_cast<std::uint64_t>(clock.greatest_error.count())}};

@@ -10,10 +10,12 @@
 #include "service/day_copies.h"
 #include "service/day_hours.h"
 #include "service/ended_day.h"
+#include "service/patient_look.h"
 #include "service/restart_forecast.h"
 #include "service/start_check.h"
 
 #include <algorithm>
+#include <cstdlib>
 #include <utility>
 
 #include <fmt/chrono.h>
@@ -27,6 +29,9 @@ using namespace std::chrono_literals;
 
 // The next day's configuration is tried so long before the day opens, whether it changed or not.
 constexpr auto last_trial = 1h;
+
+// A piece of a copy takes less, where its disk answers.
+constexpr auto longest_end = 10s;
 
 SystemSeconds now() {
     return std::chrono::floor<std::chrono::seconds>(std::chrono::system_clock::now());
@@ -50,6 +55,9 @@ Service::Service(std::filesystem::path path, ConfigFiles files, std::vector<Conf
     : path_(std::move(path)), first_(std::move(configs)), events_(std::move(events)),
       recent_(std::move(recent)),
       next_(path_, std::move(files), first_.front().days, metrics_, events_),
+      copying_([this](const std::string &before, const std::stop_token &stop) {
+          make_copies(before, stop);
+      }),
       monitor_(first_.front().metrics_port, sources()),
       notifier_(std::move(systemd), [this] { return condition(); }) {
     if (const auto doubt = doubt_about(first_.front())) {
@@ -137,7 +145,9 @@ void Service::ask_to_renew() {
 
 int Service::run() {
     if (!first_.front().firms.has_own_date) {
-        return run_days();
+        const int status = run_days();
+        end_copying(status);
+        return status;
     }
     show(whole_day_of(first_.front().firms.date));
     return run_day(first_, std::nullopt);
@@ -177,8 +187,20 @@ void Service::sign_late_ends(const std::string &before) {
 
 // Beside the day that opens next, which does not wait for it.
 void Service::copy_days(const std::string &before) {
-    copying_ =
-        std::jthread([this, before](const std::stop_token &stop) { make_copies(before, stop); });
+    if (!copying_.ask(before)) {
+        events_->error(
+            "days are not copied cause=\"what was to be copied before has not ended: its "
+            "disk may not answer\"");
+    }
+}
+
+// A thread that waits for such a disk can't be joined. All else of the process has ended: the log
+// is closed, and what is told is told at once.
+void Service::end_copying(int status) {
+    if (!copying_.ends_within(longest_end)) {
+        events_->error("the gateway ends while a day is copied cause=\"its disk does not answer\"");
+        std::_Exit(status);
+    }
 }
 
 void Service::make_copies(const std::string &before, const std::stop_token &stop) {
@@ -418,7 +440,11 @@ AdminScene::Beside Service::beside() {
     Beside seen;
     seen.days_without_copy = days_without_copy_;
     for (const Config &config : first_) {
-        seen.days_without_seal += copies_without_seal(config);
+        const auto without = found_soon<std::uint64_t>(
+            "copies " + config.copies.string(), [config] { return copies_without_seal(config); });
+        seen.days_without_seal = without && seen.days_without_seal
+                                     ? std::optional(*seen.days_without_seal + *without)
+                                     : std::nullopt;
     }
     RestartForecast forecast = forecast_restart(path_, now(), Viewer::running_gateway);
     seen.restart = std::move(forecast.sentences);

@@ -9,6 +9,7 @@
 #include "operator/admin_command.h"
 #include "operator/admin_socket.h"
 #include "service/closed_venue.h"
+#include "service/day_copying.h"
 #include "service/monitor.h"
 #include "service/next_configuration.h"
 #include "service/overview.h"
@@ -70,6 +71,7 @@ class Service final : private AdminScene {
     };
 
     int run_days();
+    void end_copying(int status);
     std::vector<Config> as_begun(std::vector<Config> configs);
     // The hours are nothing where the day stands alone.
     int run_day(const std::vector<Config> &configs, const std::optional<TradingDay> &hours);
@@ -123,7 +125,7 @@ class Service final : private AdminScene {
     std::string day_;              // of today, or the next one
     SystemSeconds goes_on_to_{};   // of a day that is open by hours which [day] has no more
     Phase between_ = Phase::opens; // what it does where there is no gateway
-    std::jthread copying_;         // of the service's own thread
+    DayCopying copying_;
     Monitor monitor_;
     SystemdNotifier notifier_;
 

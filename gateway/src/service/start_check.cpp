@@ -7,6 +7,8 @@
 #include "health/disk_reserve.h"
 #include "operator/admin_peer.h"
 #include "operator/admin_socket.h"
+#include "service/own_port.h"
+#include "service/patient_look.h"
 #include "session/check_settings.h"
 #include "venue/venue_trial.h"
 
@@ -119,12 +121,24 @@ void check_folders(const Config &config) {
     }
 }
 
+// Another machine may lend it.
+void check_lent_folder(const fs::path &folder, const std::string &key, bool writes) {
+    const auto looked = found_soon<bool>(key + " " + folder.string(), [folder, key, writes] {
+        check_folder(folder, key, writes);
+        return true;
+    });
+    if (!looked) {
+        throw std::runtime_error(
+            fmt::format("{} {}: its disk does not answer", key, folder.string()));
+    }
+}
+
 void check_copies(const Config &config) {
     if (!config.copies.empty()) {
-        check_folder(config.copies, "[copies] folder", true);
+        check_lent_folder(config.copies, "[copies] folder", true);
     }
     if (!config.sealed.empty()) {
-        check_folder(config.sealed, "[copies] sealed", false);
+        check_lent_folder(config.sealed, "[copies] sealed", false);
     }
 }
 
