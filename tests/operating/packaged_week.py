@@ -104,7 +104,7 @@ class Week:
             folder.mkdir(parents=True)
             (folder / "test.conf").write_text(CLOCKS)
         gateways = root / ("etc/systemd/system/%s.service.d/copies.conf" % GATEWAY)
-        gateways.write_text("[Service]\nReadWritePaths=%s\n" % COPIES)
+        gateways.write_text("[Service]\nReadWritePaths=-%s\n" % COPIES)
 
     def configure(self) -> None:
         """What an operator sets before the first start."""

@@ -137,7 +137,8 @@ def test_the_keepers_metrics(site: Site) -> None:
 
 
 COPIES = "/srv/mireseason-copies"
-DROP_IN = "[Service]\nReadWritePaths=%s\n" % COPIES
+PAGE = (ROOT / "docs/OPERATING.md").read_text().splitlines()
+DROP_IN = next(line.strip() for line in PAGE if "ReadWritePaths=" in line and "printf" in line)
 
 
 def test_copies_on_an_open_day(site: Site) -> None:
@@ -145,7 +146,7 @@ def test_copies_on_an_open_day(site: Site) -> None:
     machine = site.machine
     units = machine.root / ("etc/systemd/system/%s.service.d" % GATEWAY)
     units.mkdir(parents=True)
-    (units / "copies.conf").write_text(DROP_IN)
+    machine.shell(DROP_IN)
     with (machine.root / ETC / "gateway.toml").open("a") as file:
         file.write('\n[copies]\nfolder = "%s"\n' % COPIES)
     machine.run("systemctl", "daemon-reload")
@@ -161,6 +162,14 @@ def test_copies_on_an_open_day(site: Site) -> None:
     machine.run("systemctl", "restart", GATEWAY)
     site.trade()
     assert "[copies]" not in machine.run("mireseason-admin", "status")
+    # Whoever takes the folder away stops no market.
+    machine.run("rm", "-r", COPIES)
+    machine.run("systemctl", "restart", GATEWAY)
+    site.trade()
+    assert "[copies] folder: there is no folder" in machine.run("mireseason-admin", "status")
+    machine.shell("install -d -m 2750 -o mireseason -g mireseason-keeper " + COPIES)
+    machine.run("systemctl", "restart", GATEWAY)
+    site.trade()
 
 
 def test_a_reload_that_is_refused(site: Site) -> None:
