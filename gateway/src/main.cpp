@@ -1,4 +1,5 @@
 // mireseason-gateway CONFIG
+#include "base/patient_stderr.h"
 #include "base/private_file.h"
 #include "common/moment.h"
 #include "common/password.h"
@@ -23,7 +24,6 @@
 #include <thread>
 
 #include <spdlog/pattern_formatter.h>
-#include <spdlog/sinks/stdout_sinks.h>
 #include <spdlog/spdlog.h>
 #include <unistd.h>
 
@@ -73,7 +73,7 @@ class OneLine final : public spdlog::custom_flag_formatter {
 
 std::shared_ptr<spdlog::logger> make_events(const std::string &level,
                                             std::shared_ptr<gateway::RecentEvents> recent = {}) {
-    std::vector<spdlog::sink_ptr> sinks = {std::make_shared<spdlog::sinks::stderr_sink_mt>()};
+    std::vector<spdlog::sink_ptr> sinks = {std::make_shared<gateway::PatientStderr>()};
     if (recent) {
         sinks.push_back(std::move(recent));
     }

@@ -1,8 +1,10 @@
 """The gateway as a service: what systemd hears of it, and what /health and /ready say."""
 
+import fcntl
 import os
 import signal
 import socket
+import subprocess
 import urllib.error
 import urllib.request
 from collections.abc import Callable, Iterator
@@ -15,8 +17,9 @@ from pathlib import Path
 import pytest
 
 from tests.gateway.door import Door
-from tests.gateway.stage import Stage
+from tests.gateway.stage import DEALER, Stage
 from tests.gateway.wait import LONG, until
+from tests.limits.flood import logged_on
 from tests.operating.test_configuration import VENUE
 
 DAY = 86_400  # seconds from midnight to midnight in UTC
@@ -327,6 +330,38 @@ def test_the_day_goes_on(stage: Stage, name: str) -> None:
     until("it is right", LONG, lambda: told("configuration changed: it is right"))
     stage.auction()
     assert stage.door.stop() == 0, stage.door.last_words()
+
+
+def test_a_journal_that_takes_nothing(stage: Stage) -> None:
+    """Nobody reads what the gateway says, and a pipe holds little: firms log on and off all the same. Once somebody reads, it says how
+    many events were left out."""
+    stage.door.write()
+    reading, writing = os.pipe()
+    fcntl.fcntl(writing, fcntl.F_SETPIPE_SZ, 4096)
+    stage.door.process = subprocess.Popen(
+        [stage.door.programs.gateway, stage.folder / "gateway.toml"],
+        stdin=subprocess.DEVNULL,
+        stderr=writing,
+        env={**os.environ, **stage.door.environment},
+    )
+    os.close(writing)
+    stage.door.wait_open()
+    number = 1
+    for _ in range(40):
+        with logged_on(stage, DEALER, number=number) as wire:
+            number = wire.number
+    os.set_blocking(reading, False)
+    with open(reading, "rb", buffering=0) as told:
+        heard = told.read(65536) or b""
+        assert b"were left out" not in heard, heard
+        with logged_on(stage, DEALER, number=number):
+            rest = bytearray()
+
+            def is_told() -> bool:
+                rest.extend(told.read(65536) or b"")
+                return b" events were left out: standard error took none\n" in rest
+
+            until("it says how many", LONG, is_told)
 
 
 def test_ready(stage: Stage) -> None:
