@@ -187,6 +187,7 @@ int serve(const std::string &path) {
     // Here, and not when the sessions begin: one that follows would find out only once it is to
     // take over.
     gateway::check_settings(configs.front().engine);
+    gateway::check_user(configs.front());
     gateway::make_files_private();
     gateway::SystemdSocket systemd;
     const auto recent = std::make_shared<gateway::RecentEvents>(kept_events);
@@ -211,6 +212,7 @@ void accept_loss(const std::string &path) {
     gateway::ConfigFiles files;
     const std::vector<gateway::Config> configs =
         gateway::read_configs(files, path, gateway::today());
+    gateway::check_user(configs.front());
     const auto events = make_events(configs.front().event_level);
     for (const gateway::Config &config : configs) {
         const gateway::Act act{gateway::who_is(::getuid()), "log accept-loss", ""};

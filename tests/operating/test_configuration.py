@@ -263,6 +263,20 @@ def test_what_ends_a_start_is_found(stage: Stage, name: str) -> None:
     assert stage.door.wait_end() == 1
 
 
+@pytest.mark.root
+@pytest.mark.parametrize("words", [(), ("--accept-loss",)], ids=["start", "accept-loss"])
+def test_root_makes_nothing_for_another_user(stage: Stage, words: tuple[str, ...]) -> None:
+    """The gateway's own user could not go on with a log or a checkpoint that root has made: it says so, and makes none."""
+    write(stage, VENUE)
+    shutil.chown(stage.folder, "daemon", "daemon")
+    command = [stage.door.programs.gateway, *words, stage.folder / "gateway.toml"]
+    before = sorted(stage.folder.iterdir())
+    done = subprocess.run(command, capture_output=True, text=True, timeout=LONG, check=False)
+    expected = "%s belongs to daemon(1), who could not go on with what root makes" % stage.folder
+    assert (done.returncode, expected in done.stderr) == (1, True), done.stderr
+    assert sorted(stage.folder.iterdir()) == before
+
+
 KINDS = {
     "listen = 127": "[fix] listen has to be a text, in quotes",
     'port = "9878"': "[fix] port has to be a whole number",

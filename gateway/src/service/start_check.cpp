@@ -21,6 +21,7 @@
 #include <fmt/format.h>
 #include <netinet/in.h>
 #include <sys/socket.h>
+#include <sys/stat.h>
 #include <unistd.h>
 
 namespace gateway {
@@ -247,6 +248,20 @@ std::optional<int> running_gateway(const fs::path &file) {
         }
     }
     return std::nullopt;
+}
+
+void check_user(const Config &config) {
+    const fs::path above = above_folder_of_day(config);
+    const fs::path folder = config.sqlite.empty() ? config.checkpoints
+                            : above.empty()       ? config.sqlite.parent_path()
+                                                  : above;
+    struct stat found {};
+    if (::geteuid() == 0 && ::stat(folder.c_str(), &found) == 0 && found.st_uid != 0) {
+        throw std::runtime_error(fmt::format(
+            "{} belongs to {}, who could not go on with what root makes there: start the gateway's "
+            "service, or call this as that user (runuser -u NAME -- ..)",
+            folder.string(), who_is(found.st_uid)));
+    }
 }
 
 void check_machine(const Config &config) {

@@ -15,6 +15,9 @@ namespace gateway {
 // Holds a configuration against what this day (eight digits) needs: its date, the certificates, and
 // a program of the venue that takes it. Throws std::runtime_error with the first fault.
 void check_day(const Config &config, std::string_view day);
+// Throws std::runtime_error where this process is root's and the logs are another user's, who could
+// not go on with what root makes.
+void check_user(const Config &config);
 // What a start needs of this machine, but for ports: what the sessions begin with, the log's
 // folders, room, and the operators' group. Throws std::runtime_error with the first fault.
 void check_machine(const Config &config);
