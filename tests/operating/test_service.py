@@ -2,6 +2,7 @@
 
 import fcntl
 import os
+import shutil
 import signal
 import socket
 import subprocess
@@ -18,9 +19,12 @@ import pytest
 
 from tests.gateway.door import Door
 from tests.gateway.stage import DEALER, Stage
+from tests.gateway.test_logon import context, with_tls
 from tests.gateway.wait import LONG, until
+from tests.harness.clock import Clock
 from tests.limits.flood import logged_on
 from tests.operating.test_configuration import VENUE
+from tests.operating.test_week import ENDS, OPENS, Week, first_friday
 
 DAY = 86_400  # seconds from midnight to midnight in UTC
 SILENCE = 15  # seconds after which a part that does not work is told of (gateway/README.md)
@@ -330,6 +334,43 @@ def test_the_day_goes_on(stage: Stage, name: str) -> None:
     until("it is right", LONG, lambda: told("configuration changed: it is right"))
     stage.auction()
     assert stage.door.stop() == 0, stage.door.last_words()
+
+
+def shown_certificate(stage: Stage) -> bytes:
+    """Whoever connects is shown it."""
+    with (
+        socket.create_connection(("127.0.0.1", stage.door.port), timeout=LONG) as plain,
+        context(stage.folder, DEALER.name).wrap_socket(plain) as talk,
+    ):
+        found = talk.getpeercert(binary_form=True)
+    assert found is not None
+    return found
+
+
+def test_files_that_are_gone_when_the_next_day_opens(stage: Stage, clock: Clock) -> None:
+    """A certificate and its key, and the key for reports: a gateway that runs opens the day with what they were last."""
+    with_tls(stage)
+    week = Week(stage, clock, first_friday())
+    week.write()
+    report_key = stage.folder / "report.pub"
+    shutil.copy(stage.door.keys / "gateway.pub", report_key)
+    file = stage.folder / "gateway.toml"
+    file.write_text(file.read_text().replace("[fix]\n", '[fix]\nreport_key = "report.pub"\n'))
+    week.set_clock(week.day(0), OPENS, -30)
+    stage.door.start()
+    week.wait_told("closed until=")
+    week.set_clock(week.day(0), OPENS, -2)
+    week.wait_told("ready address=")
+    before, shown = week.told(), shown_certificate(stage)
+    week.set_clock(week.day(0), ENDS, -1)
+    week.wait_told("closed until=", before)
+    for name in ("certificate", "key"):
+        (stage.folder / stage.door.tls[name].strip('"')).unlink()
+    report_key.unlink()
+    before = week.told()
+    week.set_clock(week.day(1), OPENS, -2)
+    week.wait_told("ready address=", before)
+    assert shown_certificate(stage) == shown
 
 
 def test_a_journal_that_takes_nothing(stage: Stage) -> None:

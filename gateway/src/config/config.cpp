@@ -51,6 +51,9 @@ class ConfigReader {
         : files_(files), path_(fs::absolute(path)), day_(day),
           table_(parse(path_, files_.text(path_))) {}
 
+    // These files were found right, or a day has begun with them.
+    void take_for_right() { were_right_ = true; }
+
     // The venues' names: the parts [venue.NAME], or no name for a part [venue] with a command.
     std::vector<std::string> venues() const {
         const toml::table *venue = table_["venue"].as_table();
@@ -329,9 +332,9 @@ class ConfigReader {
     }
 
     // OpenSSL would say which file it is, and not which key.
-    static void check_readable(Section &part, std::string_view key) {
+    void check_readable(Section &part, std::string_view key) const {
         const fs::path file = part.path(key);
-        if (!file.empty() && ::access(file.c_str(), R_OK) != 0) {
+        if (!file.empty() && !were_right_ && ::access(file.c_str(), R_OK) != 0) {
             const std::string cause = std::generic_category().message(errno);
             part.fail_at(key, fmt::format("= \"{}\": {}", part.text(key), cause));
         }
@@ -395,6 +398,7 @@ class ConfigReader {
     toml::table table_;
     Config config_;
     bool beyond_loopback_ = false;
+    bool were_right_ = false; // whatever has become of files that are not read here
 };
 
 } // namespace
@@ -406,6 +410,9 @@ std::vector<Config> read_configs(ConfigFiles &files, const fs::path &path, std::
 std::vector<Config> read_configs(ConfigFiles &files, const fs::path &path, std::string_view day,
                                  UnknownFirms unknown) {
     ConfigReader reader(files, path, day);
+    if (unknown == UnknownFirms::count_for_nothing) {
+        reader.take_for_right();
+    }
     std::vector<Config> configs;
     for (const std::string &venue : reader.venues()) {
         configs.push_back(reader.read(venue));

@@ -2,6 +2,7 @@
 
 #include "session/connection.h"
 #include "session/firm_session.h"
+#include "session/last_right_tls.h"
 #include "session/refusal_words.h"
 #include "session/sessions.h"
 #include "session/strangers.h"
@@ -91,7 +92,8 @@ class Engine::Parts {
     Parts(const EngineSettings &settings, const std::vector<SessionStart> &starts,
           EngineEvents &events)
         : settings_(settings), events_(events), bell_(::eventfd(0, EFD_CLOEXEC | EFD_NONBLOCK)),
-          tls_(tls_of(settings_)), strangers_(settings_.strangers, settings_.strangers_per_address),
+          tls_(last_right_tls_of(settings_)),
+          strangers_(settings_.strangers, settings_.strangers_per_address),
           sessions_(starts, events_) {
         if (bell_.number() < 0) {
             throw fault_of("no event descriptor");
@@ -120,7 +122,7 @@ class Engine::Parts {
     EngineEvents &events() const { return events_; }
 
     void renew(const EngineSettings &settings) {
-        std::shared_ptr<const TlsServer> renewed = tls_of(settings);
+        std::shared_ptr<const TlsServer> renewed = tls_of_now(settings);
         if (settings.certificate.empty() != settings_.certificate.empty()) {
             throw std::runtime_error("[tls] can't begin or end while the gateway runs");
         }
