@@ -1,0 +1,258 @@
+"""Decisions of the audit that a whole day seldom reaches, each by itself, against what the pages and the commands' help say of them."""
+
+import argparse
+from decimal import Decimal
+from pathlib import Path
+
+import pytest
+from mireseason_audit.certificates import Second, chosen, movers, second_for
+from mireseason_audit.check import dealt
+from mireseason_audit.command import check_whole
+from mireseason_audit.facts import QuoteFact, RequestFact
+from mireseason_audit.faults import Unreadable
+from mireseason_audit.frame import fields_of
+from mireseason_audit.looks import listed
+from mireseason_audit.order_events import (
+    NEW,
+    Order,
+    OrderEvent,
+    in_order,
+    side_said,
+)
+from mireseason_audit.parties import Parties
+from mireseason_audit.requests import Request
+from mireseason_audit.statistics import Spread
+
+# ------------------------------------------------------------ quotes and figures
+
+
+def request() -> RequestFact:
+    return RequestFact(
+        1, 1, "09:00:00.000", "INV1", "", "r1", "BOND", True, 100, "09:05:00.000", ["DLR1"]
+    )
+
+
+def quote(until: str = "", end: str = "standing", **more: object) -> QuoteFact:
+    made = QuoteFact(
+        request(), 2, "09:01:00.000", "DLR1", "", "q1", "Q1", 3, Decimal("99.5"), until, end
+    )
+    for name, value in more.items():
+        setattr(made, name, value)
+    return made
+
+
+def test_until_when_a_quote_can_be_hit() -> None:
+    """Up to its 62, and at that moment no more; without 62 for as long as it stands."""
+    timed = quote(until="09:02:00.000")
+    assert not timed.has_lapsed("09:01:59.999")
+    assert timed.has_lapsed("09:02:00.000") and timed.has_lapsed("09:02:00.001")
+    assert not quote().has_lapsed("23:59:59.999")
+
+
+# What became of a quote, when a hit on its request came last (an entry), and whether its withdrawal is a fade.
+FADES = {
+    "withdrawn before a hit": ("withdrawn", 5, False, 6, True),
+    "withdrawn by the entry of the hit": ("withdrawn", 6, False, 6, False),
+    "withdrawn after the last hit": ("withdrawn", 7, False, 6, False),
+    "withdrawn, and never hit": ("withdrawn", 5, False, None, False),
+    "withdrawn when it had lapsed": ("withdrawn", 5, True, 6, False),
+    "replaced before a hit": ("replaced", 5, False, 6, False),
+    "standing": ("standing", None, False, 6, False),
+}
+
+
+@pytest.mark.parametrize("name", FADES)
+def test_which_withdrawal_is_a_fade(name: str) -> None:
+    end, end_entry, lapsed, last_hit, expected = FADES[name]
+    made = quote(end=end, end_entry=end_entry, lapsed=lapsed)
+    made.request.last_hit_entry = last_hit
+    assert made.is_fade == expected
+
+
+def test_how_long_a_quote_could_be_hit() -> None:
+    """From its acceptance to its end or its 62, whichever came first; nothing of one that stands."""
+    assert quote().life_ms is None
+    assert quote(until="09:01:30.000").life_ms is None
+    assert quote(end_moment="09:01:00.250").life_ms == 250
+    ended = {"until": "09:01:30.000", "end_moment": "09:02:00.000"}
+    assert quote(**ended).life_ms == 60_000
+    assert quote(**ended, lapsed=True).life_ms == 30_000
+    ended["end_moment"] = "09:01:10.000"
+    assert quote(**ended, lapsed=True).life_ms == 10_000
+
+
+def test_ranks_of_values() -> None:
+    """The least value that has such a share of all at or below it; and the greatest."""
+    spread = Spread[int]()
+    assert (spread.count, spread.at(50), spread.greatest) == (0, None, None)
+    for value in (40, 10, 30, 20):
+        spread.put(value)
+    assert (spread.count, spread.greatest) == (4, 40)
+    assert [spread.at(share) for share in (1, 25, 26, 50, 75, 90, 100)] == [
+        10,
+        10,
+        20,
+        20,
+        30,
+        40,
+        40,
+    ]
+
+
+# ------------------------------------------------------------ which requests a certificate is on
+
+
+def asked(key: int, dealers: str, winner: str = "", cover: str = "") -> Request:
+    """A request to dealers of one letter each."""
+    moment = "09:00:00.000"
+    made = Request(key, key, moment, "INV1", "", "r", "B", "1", "1", moment, list(dealers))
+    made.winner, made.cover = winner, cover
+    return made
+
+
+def keys_of(found: list[Request]) -> list[int]:
+    return [one.key for one in found]
+
+
+def test_requests_that_have_asked_all_dealers() -> None:
+    """As few as do; of equal ones that with a cover, then that with a trade, then the first."""
+    plain, traded, covered = asked(1, "ab"), asked(2, "ab", "a"), asked(3, "ab", "a", "b")
+    both = list("ab")
+    assert keys_of(chosen([plain, traded, covered], both, None)) == [3]
+    assert keys_of(chosen([plain, traded], both, None)) == [2]
+    assert keys_of(chosen([asked(1, "ab"), asked(2, "ab")], both, None)) == [1]
+    assert keys_of(chosen([covered, asked(4, "abc")], list("abc"), None)) == [4]
+    assert keys_of(chosen([asked(5, "a"), asked(6, "b"), asked(7, "a")], both, None)) == [5, 6]
+    assert keys_of(chosen([asked(5, "a")], both, None)) == [5]
+    assert chosen([], both, None) == []
+    assert keys_of(chosen([plain, traded, covered], both, 1)) == [1]
+
+
+def test_whose_prices_are_moved() -> None:
+    """The winner's and the cover's, else those of the first two that were asked."""
+    assert movers(asked(1, "abc", "c", "b")) == ["c", "b"]
+    assert movers(asked(1, "abc", "c")) == ["c", "a"]
+    assert movers(asked(1, "abc")) == ["a", "b"]
+    assert movers(asked(1, "a", "a")) == ["a"]
+
+
+def test_which_second_day_shows_a_dealer_something() -> None:
+    """One in which another's prices were moved, best on a request that it was asked."""
+    here = Path("day")
+    one = Second(asked(1, "ab"), "a", (), here, here)
+    other = Second(asked(2, "c"), "c", (), here, here)
+    assert second_for([other, one], "b") is one
+    assert second_for([one, other], "a") is other
+    assert second_for([one], "a") is None and second_for([one], "d") is one
+
+
+# ------------------------------------------------------------ events of orders
+
+
+def event(entry: int | None, moment: str, kind: str, what: str = NEW) -> OrderEvent:
+    return OrderEvent(entry, moment, Order("DLR1", "", kind, kind, moment), what)
+
+
+def test_the_order_of_events() -> None:
+    """By moment, then entry, and of one entry the request before its quotes; what no entry tells stands before all of its moment."""
+    late, early = "09:00:01.000", "09:00:00.000"
+    events = [
+        event(4, late, "quote"),
+        event(4, late, "request"),
+        event(2, late, "hit"),
+        event(None, late, "message"),
+        event(7, early, "cancel"),
+    ]
+    found = in_order(events)
+    assert [one.order.kind for one in found] == ["cancel", "message", "hit", "request", "quote"]
+    assert [one.sequence for one in found] == [1, 2, 3, 4, 5]
+
+
+def test_which_side_a_message_says() -> None:
+    """By 54 of a request, and by the price that a quote has: of both or of neither it says none."""
+    for text, kind, expected in (
+        ("54=1", "request", True),
+        ("54=2", "request", False),
+        ("54=3", "request", None),
+        ("132=99", "quote", True),
+        ("133=99", "quote", False),
+        ("132=99|133=100", "quote", None),
+        ("54=1", "quote", None),
+    ):
+        assert side_said(fields_of(text.replace("|", "\x01").encode()), kind) is expected, text
+
+
+# ------------------------------------------------------------ parties
+
+
+def test_what_is_not_said_of_a_bond_or_a_trader() -> None:
+    """It is missing by the key that the file would have; a trader whom the day does not have is none."""
+    none = Parties({}, traders={"INV1": frozenset({"T1"})})
+    assert none.is_cleared("B1") == "" and none.said("client", "INV1", "T1", "o1") == ""
+    assert none.trader("INV1", "T2") == none.trader("INV2", "T1") == ""
+    assert list(none.missing) == ["bond.B1.cleared", "firm.INV1.client"]
+    assert none.trader("INV1", "T1") == ""
+    assert list(none.missing)[2:] == ["firm.INV1.traders.T1"]
+
+
+def test_what_is_said_of_a_bond_and_an_order() -> None:
+    """Of an order before its trader, and of that before its firm."""
+    bonds = {"B1": {"cleared": True}, "B2": {"cleared": False}, "B3": {"cleared": "yes"}}
+    firm = {
+        "client": "of the firm",
+        "trader": {"T1": {"client": "of the trader"}},
+        "order": {"o1": {"client": "of the order"}},
+    }
+    said = Parties({"bond": bonds, "firm": {"INV1": firm}})
+    assert [said.is_cleared(bond) for bond in ("B1", "B2")] == ["true", "false"]
+    with pytest.raises(Unreadable, match="bond.B3.cleared is 'yes': true or false are meant"):
+        said.is_cleared("B3")
+    for trader, order, expected in (
+        ("T1", "o1", "of the order"),
+        ("T1", "o2", "of the trader"),
+        ("T2", "o2", "of the firm"),
+    ):
+        assert said.said("client", "INV1", trader, order) == expected
+    assert not said.missing
+
+
+# ------------------------------------------------------------ words of a command
+
+
+@pytest.mark.parametrize("option", ["gateway_key", "checkpoint", "key"])
+@pytest.mark.parametrize("part", ["until", "at"])
+def test_a_part_of_a_log_has_no_signatures(option: str, part: str) -> None:
+    """They are of the whole log: each option is refused beside --until and --at, and taken without."""
+    words = argparse.Namespace(gateway_key=[], checkpoint=[], key=None, until=None, at=None)
+    setattr(words, option, [Path("x")] if option != "key" else Path("x"))
+    check_whole(words)
+    setattr(words, part, 1)
+    with pytest.raises(Unreadable, match="leave out --%s, or --until" % option.replace("_", "-")):
+        check_whole(words)
+    setattr(words, option, None)
+    check_whole(words)
+
+
+def test_lists_in_words() -> None:
+    words = ["a", "b", "c"]
+    assert [listed(words[:count]) for count in (1, 2, 3)] == ["a", "a and b", "a, b and c"]
+    assert listed(words, "or") == "a, b or c"
+
+
+def test_firms_in_groups() -> None:
+    """As many as there are processors, at the most; the first firms each in another one."""
+    assert dealt(["a", "b", "c"], 2) == [("a", "c"), ("b",)]
+    assert dealt(["a", "b"], 4) == [("a",), ("b",)]
+
+
+def test_what_is_no_field() -> None:
+    """Has the tag 0, and is kept whole: without a tag, without an equals sign, with another tag than FIX has."""
+    data = b"35=S\x01=1\x0158\x01x=1\x01-1=2\x0158=a=b\x01"
+    assert list(fields_of(data)) == [
+        (35, b"S"),
+        (0, b"=1"),
+        (0, b"58"),
+        (0, b"x=1"),
+        (0, b"-1=2"),
+        (58, b"a=b"),
+    ]
