@@ -214,6 +214,20 @@ in_two_lanes() {
     wait "$other"
 }
 
+# drawn_mutants: six small mistakes in files that this change has, each against the tests that the tree remembers of its function. Those
+# that every test lets through are named for whoever reviews the change, and nobody counts them: now and then one changes nothing
+# that anybody could see. Of C++ none is drawn here: to compile and link a gateway for each takes longer than all else.
+drawn_mutants() {
+    since=$(git merge-base HEAD origin/main 2>/dev/null) || since=
+    [ -n "$since" ] && [ "$since" != "$(git rev-parse HEAD)" ] || since=$(git rev-parse --verify -q 'HEAD^') || return 0
+    [ "$(what_is_left)" -ge "$least" ] || return 0
+    told=$work/drawn
+    in_time 240 python3 -m tests.mutants.drawn --since "$since" --seed "$seed" --count 6 --jobs "$jobs" --below 15 --limit 100 \
+        --part audit keeper scripts --venue "$program" --gateway "$gateway" || tail -n 5 "$told"
+    sed -n '/^passed\|^unseen/,/^  + /s/^/drawn: /p' "$told"
+    sed -n 's/^all  *\([0-9]*\) *\([0-9]*\) *\([0-9]*\) *\([0-9]*\)$/drawn: \1 mistakes, \2 refused, \4 not/p' "$told"
+}
+
 beside() {
     if ! [ -x "$program" ]; then
         echo "there is no program $program: nothing beside the gate can be tried." \
@@ -228,6 +242,7 @@ beside() {
     # shellcheck disable=SC2046 # a word for each folder
     with_gateway=$(longest_first gateway audit replicas $(others))
     in_two_lanes build_gateway
+    clocked drawn drawn_mutants
     echo "beside the gate: $(($(date +%s) - began_beside)) s"
 }
 
