@@ -59,6 +59,14 @@ def names_in(part: str) -> list[str]:
     return re.findall(r"^\| \d+ \| `(\w+)` \|", text, re.MULTILINE)
 
 
+def codes_in(part: str) -> dict[str, str]:
+    """The code beside each of these names: 300 or 658, or 297 where the table has none of both."""
+    text = MARKET.split("\n## %s\n" % part)[1].split("\n## ")[0]
+    lines = re.findall(r"^\| \d+ \| (`\w+` \|.*)\|$", text, re.MULTILINE)
+    cells = [[cell.strip(" `") for cell in line.split("|")] for line in lines]
+    return {row[0]: row[-1] or "297=" + row[-2] for row in cells}
+
+
 def has_notes(venue: tuple[str, ...]) -> bool:
     """Whether the program has the flag --notes: one that has not calls it a wrong argument."""
     return (
@@ -564,7 +572,9 @@ def test_pages_and_table_agree() -> None:
     assert names == set(table()) and len(names) > 25
     assert len(set(table().values())) == len(table())
     part = re.split(r"\n##+ ", CONNECTING.split("\n### The words of a refusal\n")[1])[0]
-    rows = re.findall(r"^\| `(\w+)` \| `([^`]+)` \|", part, re.MULTILINE)
-    assert dict(rows) == {name: words.decode() for name, words in table().items()} and len(
-        rows
-    ) == len(names)
+    rows = re.findall(r"^\| `(\w+)` \| `([^`]+)` \| ([0-9=]+) \|", part, re.MULTILINE)
+    said = {name: words for name, words, _ in rows}
+    assert said == {name: words.decode() for name, words in table().items()}
+    assert len(rows) == len(names)
+    codes = {(name, code) for of in TABLES for name, code in codes_in(of).items()}
+    assert codes == {(name, code) for name, _, code in rows}
