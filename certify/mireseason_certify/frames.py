@@ -80,6 +80,14 @@ def time_text(moment: datetime) -> str:
     return moment.strftime("%Y%m%d-%H:%M:%S.%f")[:-3]
 
 
+def moment_of(text: str) -> datetime | None:
+    """A UTCTimestamp to the millisecond or finer; None where it is none."""
+    try:
+        return datetime.strptime(text, "%Y%m%d-%H:%M:%S.%f")
+    except ValueError:
+        return None
+
+
 def written(kind: str, sender: str, number: int, fields: Fields, again: Fields = ()) -> bytes:
     """A message to the venue. `again` stands in its header (43 and 122)."""
     head = [(35, kind), (49, sender), (56, "VENUE"), (34, str(number)), *again, (52, now())]

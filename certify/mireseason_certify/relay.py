@@ -10,7 +10,7 @@ import socket
 import threading
 import time
 from collections.abc import Callable
-from dataclasses import dataclass, field
+from dataclasses import dataclass, field, replace
 from enum import Enum
 
 from .frames import FrameStream, Message, NoFrame
@@ -42,6 +42,10 @@ class Seen:
     line: int  # which connection of the desk, from 1
     is_lost: bool = False  # by a fault of the case
 
+    @property
+    def is_logon(self) -> bool:
+        return self.message.kind == "A"
+
 
 @dataclass
 class Loss:
@@ -49,6 +53,9 @@ class Loss:
 
     by: By
     fits: Fits
+
+    def awaits(self, seen: Seen) -> bool:
+        return self.by is seen.by and self.fits(seen.message)
 
 
 @dataclass
@@ -80,6 +87,7 @@ class Relay:
         self._port = Port(port)
         self._listener = socket.create_server((HOST, self._port.number))
         self._lines: list[Line] = []
+        self._ended: dict[int, float] = {}  # by the number of a line: the moment of its end
         self._count = 0
         self._seen: list[Seen] = []
         self._losses: list[Loss] = []
@@ -136,6 +144,13 @@ class Relay:
         with self._changed:
             return any(number in (0, line.number) for line in self._lines)
 
+    def pauses(self, place: int) -> list[float]:
+        """Seconds from the end of each line to the next Logon, of those that were seen from a place on."""
+        with self._changed:
+            logons = [one for one in self._seen[place:] if one.by is By.DESK and one.is_logon]
+            again = [one for one in logons if one.line - 1 in self._ended]
+            return [one.moment - self._ended[one.line - 1] for one in again]
+
     # The faults.
 
     def lose(self, by: By, fits: Fits) -> None:
@@ -153,10 +168,11 @@ class Relay:
             self._losses.clear()
 
     def cut(self) -> None:
-        """Ends every connection."""
+        """Ends every connection that there is: a desk may have a new one at once."""
         with self._changed:
-            self._cuts = bool(self._lines)
-            while self._lines:
+            old = {line.number for line in self._lines}
+            self._cuts = bool(old)
+            while old.intersection(line.number for line in self._lines):
                 self._changed.wait(TICK)
 
     def refuse(self, refuses: bool) -> None:
@@ -235,12 +251,34 @@ class Relay:
             self._give(selector, line, by, data)
 
     def _give(self, selector: selectors.BaseSelector, line: Line, by: By, data: bytes) -> None:
-        """Notes what one side said, and gives it to the other."""
+        """Gives one side what the other said."""
         other = line.end(By.VENUE if by is By.DESK else By.DESK)
+        messages, rest = taken(line.streams[by], data)
         try:
-            other.sendall(self._kept(line, by, data))
+            for message in messages:
+                self._give_one(other, Seen(by, message, time.monotonic(), line.number))
+            other.sendall(rest)
         except OSError:
             self._drop(selector, line)
+
+    def _give_one(self, other: socket.socket, seen: Seen) -> None:
+        """Gives and notes one message, or notes that it is lost; for whoever asks at one moment: what is noted has been
+        given, and of what was given nothing can come that is there before it is noted.
+        """
+        with self._changed:
+            loss = next((it for it in self._losses if it.awaits(seen)), None)
+            try:
+                if loss:
+                    self._losses.remove(loss)
+                else:
+                    other.sendall(seen.message.raw)
+            finally:
+                self._note(replace(seen, is_lost=loss is not None))
+
+    def _note(self, seen: Seen) -> None:
+        if len(self._seen) < MOST_SEEN:
+            self._seen.append(seen)
+        self._changed.notify_all()
 
     def _give_held(self, selector: selectors.BaseSelector) -> None:
         for line in list(self._lines):
@@ -248,32 +286,13 @@ class Relay:
             if held:
                 self._give(selector, line, By.VENUE, held)
 
-    def _kept(self, line: Line, by: By, data: bytes) -> bytes:
-        """What is passed on of these bytes, whose messages are noted."""
-        stream = line.streams[by]
-        try:
-            messages = stream.take(data)
-        except NoFrame:
-            return stream.rest()
-        return b"".join(one.raw for one in messages if self._note(line, by, one))
-
-    def _note(self, line: Line, by: By, message: Message) -> bool:
-        """Keeps a message; whether it is passed on."""
-        with self._changed:
-            loss = next((it for it in self._losses if it.by is by and it.fits(message)), None)
-            if loss:
-                self._losses.remove(loss)
-            if len(self._seen) < MOST_SEEN:
-                moment = time.monotonic()
-                self._seen.append(Seen(by, message, moment, line.number, loss is not None))
-            self._changed.notify_all()
-        return loss is None
-
     def _drop(self, selector: selectors.BaseSelector, line: Line) -> None:
+        ended = time.monotonic()
         for by in By:
             selector.unregister(line.end(by))
         line.close()
         with self._changed:
+            self._ended[line.number] = ended
             self._lines.remove(line)
             self._changed.notify_all()
 
@@ -281,3 +300,11 @@ class Relay:
         for line in list(self._lines):
             self._drop(selector, line)
         self._cuts = False
+
+
+def taken(stream: FrameStream, data: bytes) -> tuple[list[Message], bytes]:
+    """The messages that are whole with these bytes; and bytes that begin none."""
+    try:
+        return stream.take(data), b""
+    except NoFrame:
+        return [], stream.rest()

@@ -1,6 +1,7 @@
 """The relay between desk and gateway: it passes on each byte, and makes the faults that a case asks for."""
 
 import socket
+import threading
 import time
 from collections.abc import Callable, Iterator
 from contextlib import closing
@@ -11,7 +12,10 @@ from mireseason_certify.frames import FrameStream, NoFrame, message_of, written
 from mireseason_certify.ports import HOST, Port
 from mireseason_certify.relay import By, Relay
 
+from tests.gateway.wait import LONG
+
 LIMIT = 10.0  # seconds
+MANY = 20
 FIRST = written("0", "DLR1", 1, [(112, "one")])
 SECOND = written("0", "DLR1", 2, [(112, "two")])
 
@@ -95,6 +99,29 @@ def test_a_cut_line(ends: Ends) -> None:
     ends.relay.cut()
     assert ends.desk.recv(1) == b"" and ends.gateway.recv(1) == b""
     assert not ends.relay.has_line()
+
+
+def test_a_line_that_is_there_again_at_once(ends: Ends) -> None:
+    """Each cut ends, though the desk waits for nothing before it connects."""
+    is_over = threading.Event()
+
+    def connects() -> None:
+        while not is_over.is_set():
+            with socket.create_connection((HOST, ends.relay.port), LIMIT) as desk:
+                desk.recv(1)
+
+    def cuts() -> None:
+        for _ in range(MANY):
+            wait_for(ends.relay.has_line)
+            ends.relay.cut()
+
+    desk, case = (threading.Thread(target=run, daemon=True) for run in (connects, cuts))
+    desk.start()
+    case.start()
+    case.join(LONG)
+    assert not case.is_alive()
+    is_over.set()
+    ends.relay.cut()
 
 
 def test_a_line_that_ends(ends: Ends) -> None:
