@@ -20,6 +20,8 @@ from mireseason_certify.frames import Fields, FrameStream, Message, NoFrame, now
 HEARTBEAT = 1
 TRY = 0.3  # seconds between two Logons
 LOOK = 0.05  # seconds between two looks at the task
+SILENT = 0.02  # seconds in which nothing comes
+UNTIL_READ = 2.0  # seconds at most until all is read
 RESEND_FROM_START = frozenset("A0125")
 
 
@@ -65,6 +67,8 @@ class Desk:
         self.had: set[str] = set()  # the numbers (1181) of what it was told today
         self.wrong_password = ""  # for the next Logon alone
         self.stays_out = False
+        self._is_connected = False
+        self._silences = 0  # how often nothing more came on its line
         self._names = 0
         self._done = 0  # the last task
         self._socket: socket.socket | None = None
@@ -270,12 +274,13 @@ class Desk:
             self._socket = socket.create_connection(("127.0.0.1", self.to.port), 5)
         except OSError:
             return
-        self._socket.settimeout(0.05)
+        self._socket.settimeout(SILENT)
         self._asked_for = 0
         with self._lock:
             self.reconnects_with()
             self.put("A", self.logon_fields())
         stream, said = FrameStream(), time.monotonic()
+        self._is_connected = True
         while not self._ends.is_set():
             try:
                 data = self._socket.recv(65536)
@@ -284,12 +289,13 @@ class Desk:
                 for message in stream.take(data):
                     self.take(message)
             except TimeoutError:
-                pass
+                self._silences += 1
             except (OSError, NoFrame):
                 break
             if time.monotonic() - said > self.heartbeat_every():
-                said = time.monotonic()
                 self.put("0", [])
+                said = time.monotonic()
+        self._is_connected = False
         self._socket.close()
 
     def take(self, message: Message) -> None:
@@ -335,8 +341,16 @@ class Desk:
             task = self._task()
             if task and task["number"] != self._done:
                 self._done = task["number"]
+                self._reads_all()
                 self.does_task(task["number"], {**task["act"], "text": task["text"]})
             self._ends.wait(LOOK)
+
+    def _reads_all(self) -> None:
+        """What it was sent before a task stood there, it has read: it reads until nothing more comes. The first silence may
+        have begun before that."""
+        until, heard = time.monotonic() + UNTIL_READ, self._silences + 2
+        while self._is_connected and self._silences < heard and time.monotonic() < until:
+            self._ends.wait(SILENT / 4)
 
     def does_task(self, number: int, act: dict[str, str]) -> None:
         do = act["do"]

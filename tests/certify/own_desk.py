@@ -14,10 +14,12 @@ from typing import Any
 
 from tests.desk.desks import PASSWORD, Desk, FirmOf
 from tests.desk.view import View
-from tests.gateway.wait import LONG
+from tests.gateway.wait import LONG, within
 
 LOOK = 0.05  # seconds between two looks
 SETTLE = 2.0  # seconds until the page shows what the desk was told
+SHOWN = 10.0  # seconds at most until it shows what a task is about
+STILL = 0.5  # seconds in which it shows nothing new
 Act = dict[str, str]
 
 
@@ -79,20 +81,23 @@ class OwnDesk:
         price = float(act["price"]) * 256
         if price != int(price):
             return "the page sends no such price"
+        self._shows(act["request"])
         live = self.view.live(act["request"])
         replaces = live["id"] if live else ""
         words = {"request": act["request"], "price": int(price), "seconds": 0}
         return self.view.act(do="quote", **words, replaces=replaces)
 
     def withdraw(self, act: Act) -> str:
-        request = next(
-            name
-            for name, one in self.view.requests.items()
-            if any(quote["id"] == act["quote"] for quote in one["quotes"])
-        )
-        return self.view.act(do="withdraw", request=request)
+        def found() -> list[str]:
+            """The request of this quote, once the page shows both."""
+            every = self.view.requests.items()
+            return [name for name, one in every if act["quote"] in ids_of(one["quotes"])]
+
+        self.view.until("its quote %s" % act["quote"], found, SHOWN)
+        return self.view.act(do="withdraw", request=found()[0])
 
     def decline(self, act: Act) -> str:
+        self._shows(act["request"])
         return self.view.act(do="decline", request=act["request"])
 
     def ask(self, act: Act) -> str:
@@ -107,15 +112,41 @@ class OwnDesk:
         )
 
     def hit(self, act: Act) -> str:
+        self._shows(act["request"], act["quote"])
         quotes = self.view.requests[act["request"]]["quotes"]
         quote = next(one for one in quotes if one["id"] == act["quote"])
         words = {"request": act["request"], "quote": quote["id"], "price": quote["price"]}
         return self.view.act(do="hit", **words)
 
     def hit_what_stands(self, act: Act) -> str:
+        self._is_still()
         live = self.view.live(act["request"])
         assert live, act
         return self.hit({**act, "quote": live["id"]})
+
+    def passes(self, act: Act) -> str:
+        self._shows(act["request"])
+        return self.view.act(do="pass", request=act["request"])
+
+    def _shows(self, request: str, quote: str = "") -> None:
+        """A trader acts on what the page shows, a moment after the desk was told it; on a request, once what was done before
+        on it is answered, unless the case holds that answer back.
+        """
+
+        def is_there() -> bool:
+            one = self.view.requests.get(request)
+            return one is not None and (not quote or quote in ids_of(one["quotes"]))
+
+        self.view.until("%s %s" % (request, quote), is_there, SHOWN)
+        within(SETTLE, lambda: not self.view.requests[request]["pending"])
+
+    def _is_still(self) -> None:
+        """Waits until the page changes no more."""
+        until, seen = time.monotonic() + STILL, self.view.requests
+        while time.monotonic() < until:
+            time.sleep(LOOK)
+            if self.view.requests is not seen:
+                until, seen = time.monotonic() + STILL, self.view.requests
 
     def position(self, bond: str) -> int:
         """As the page adds it up, of the requests that traded, once it shows how they ended."""
@@ -176,7 +207,7 @@ class OwnDesk:
             try:
                 task = self._now()["task"]
             except OSError:
-                return  # the tool has ended
+                task = None  # the tool is busy, or has ended
             if task and task["number"] != self._done:
                 self._done = task["number"]
                 try:
@@ -195,7 +226,7 @@ class OwnDesk:
         elif do == "cancel all":
             why = self.view.act(do="cancel all")
         elif do == "pass":
-            why = self.view.act(do="pass", request=act["request"])
+            why = self.passes(act)
         elif do == "log out":
             self._again()
         elif do == "wrong password":
@@ -217,3 +248,7 @@ class OwnDesk:
     def _get(self, path: str) -> bytes:
         with urllib.request.urlopen("http://127.0.0.1:%d%s" % (self._page, path), timeout=5) as it:
             return bytes(it.read())
+
+
+def ids_of(quotes: list[Any]) -> set[str]:
+    return {one["id"] for one in quotes}

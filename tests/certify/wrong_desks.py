@@ -67,7 +67,7 @@ class AnswersWithoutItsName(Desk):
 
 class CountsHeartbeatsTwice(Desk):
     def heartbeat_every(self) -> float:
-        return super().heartbeat_every() / 4
+        return super().heartbeat_every() / 10
 
 
 class NeverAsksForAGap(Desk):
