@@ -82,6 +82,7 @@ class Book final : public SessionHost {
 
     std::uint64_t put(const std::string &, const SessionEvent &event) override {
         ++last_ticket;
+        replies += event.replies;
         if (event.drops_rejects) {
             calls.push_back("drops");
             std::erase_if(
@@ -95,6 +96,7 @@ class Book final : public SessionHost {
         }
         return last_ticket;
     }
+    bool replies_too_much(const std::string &) override { return replies > most_replies; }
     void wait_stored(std::uint64_t ticket) override { stored = std::max(stored, ticket); }
     bool is_entry_stored(const std::string &, std::uint32_t place) override {
         return place <= stored_place;
@@ -164,6 +166,8 @@ class Book final : public SessionHost {
     std::vector<std::size_t> reads;             // of what is kept, and how many each could have
     std::function<void()> happens_at_next_read; // before what was read is back
     std::size_t sent_again = 0;                 // by the firm's rate
+    std::size_t replies = 0;                    // of the session's own, that count,
+    std::size_t most_replies = SessionNumbers::last; // and how many may be
     SessionNumbers numbers;
     int logons = 0; // that have not ended
     std::uint64_t last_ticket = 0;

@@ -5,6 +5,7 @@
 
 #include "check.h"
 #include "door_scene.h"
+#include "session/refusal_words.h"
 
 #include <algorithm>
 #include <tuple>
@@ -427,6 +428,103 @@ TEST_CASE("heartbeats and silence") {
     talk.wait(1);
     check_calls({"6 5"}, talk.ear.heard(), "after 24");
     check(talk.ear.ends, "the connection stays");
+}
+
+// ---------------------------------------------------------------- what a firm has the session say
+
+// Each message of the session's own that a firm can have it say without another Logon.
+TEST_CASE("what counts as a reply") {
+    Scene scene;
+    Talk talk(scene);
+    talk.settle();
+    same(std::size_t{0}, scene.book.replies, "a Logon, and the answer to its TestRequest");
+    talk.say(message_of("1", 3, "112=a|"));
+    same(std::size_t{1}, scene.book.replies, "a TestRequest");
+    talk.say(message_of("1", 4, ""));
+    same(std::size_t{2}, scene.book.replies, "a message that is rejected");
+    talk.say(message_of("0", 6, ""));
+    same(std::size_t{3}, scene.book.replies, "a message ahead of a gap");
+    talk.say(message_of("4", 5, "123=Y|36=7|"));
+    talk.say(message_of("0", 7, ""));
+    talk.say(message_of("S", 8, "117=a|"));
+    talk.say(message_of("2", 9, "7=4|16=4|"));
+    same(std::size_t{3}, scene.book.replies, "what the session says nothing of its own to");
+    talk.say(message_of("5", 10, ""));
+    check_calls({"3 0", "4 3", "5 2", "4 3 again", "6 5"}, talk.ear.heard(), "what is said");
+    same(std::size_t{3}, scene.book.replies, "a Logout");
+}
+
+// A resend that covers the TestRequest has another one leave behind it.
+TEST_CASE("what counts as a reply while a session settles") {
+    Scene scene;
+    Talk talk(scene);
+    talk.say(logon_of());
+    check_calls({"1 A", "2 1"}, talk.ear.heard(), "what a Logon is answered");
+    same(std::size_t{0}, scene.book.replies, "a Logon, and the TestRequest behind its answer");
+    for (int count = 1; count <= 3; ++count) {
+        talk.say(message_of("2", 1 + count, "7=1|16=0|"));
+        check(talk.ear.heard().back() == fmt::format("{} 1", 2 + count), "no other TestRequest");
+        same(static_cast<std::size_t>(count), scene.book.replies, "a resend");
+    }
+}
+
+// The firm is logged out behind the first that is one too many, and told why; what it sent behind
+// that is not counted.
+TEST_CASE("more replies than a firm may have") {
+    Scene scene;
+    scene.book.most_replies = 2;
+    Talk talk(scene);
+    talk.settle();
+    for (int number = 3; number <= 6; ++number) {
+        talk.say(message_of("1", number, "112=a|"));
+    }
+    check_calls({"3 0", "4 0", "5 0", "6 5"}, talk.ear.heard(), "what is said");
+    same(std::string("more than a thousand messages of this firm, and then ten a second, had to be "
+                     "answered by the session"),
+         value_of(talk.ear.last.back(), 58), "why");
+    check_calls({"expects 4", "expects 5", "expects 6"}, scene.book.calls, "what is counted");
+}
+
+// What was said in a turn of its own counts at the firm's next message. There is no Logout, since
+// the session has not settled.
+TEST_CASE("more replies than a firm may have while it settles") {
+    Scene scene;
+    scene.book.most_replies = 2;
+    Talk talk(scene);
+    talk.say(logon_of());
+    int number = 2;
+    for (; number <= 4; ++number) {
+        talk.say(message_of("2", number, "7=1|16=0|"));
+        check(!talk.ear.ends, fmt::format("it ends at the message {}", number));
+    }
+    talk.say(message_of("2", number, "7=1|16=0|"));
+    check(talk.ear.ends, "it goes on without end");
+    for (const std::string &message : talk.ear.messages) {
+        check(value_of(message, 35) != "5", "it is told " + message);
+    }
+}
+
+// Each Logout that refuses a Logon counts. A Logon that is refused behind too many is told nothing,
+// and nothing of the session changes; the operator is told why.
+TEST_CASE("more refused Logons than a firm may have") {
+    Scene scene;
+    scene.book.most_replies = 2;
+    const std::string refused = message_of("A", 1, "98=0|108=0|553=F|554=x|1137=9|");
+    for (int number = 1; number <= 3; ++number) {
+        Talk talk(scene);
+        talk.say(refused);
+        check_calls({fmt::format("{} 5", number)}, talk.ear.heard(), "what it is told");
+    }
+    const SessionNumbers before = scene.book.numbers;
+    Talk talk(scene);
+    talk.say(refused);
+    check_calls({}, talk.ear.heard(), "what it is told behind three");
+    check(talk.ear.ends, "its connection stays");
+    check(before == scene.book.numbers, "the numbers are others");
+    same(std::vector<std::string>(4, refusal_words::heartbeat), scene.book.refusals, "why");
+    Talk right(scene);
+    right.say(logon_of());
+    check_calls({"4 A", "5 1"}, right.ear.heard(), "what a Logon is told that is right");
 }
 
 // ---------------------------------------------------------------- what the gateway does not take

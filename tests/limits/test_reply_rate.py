@@ -1,14 +1,25 @@
-"""What a session keeps of its own to answer a firm: a thousand rows, and then ten a second, and the firm is logged out."""
+"""What a session says by itself to answer a firm: a thousand messages, and then ten a second, and the firm is logged out."""
+
+import time
+from collections.abc import Callable
+
+import pytest
 
 from tests.gateway.ledger import rows
 from tests.gateway.stage import DEALER, Stage
+from tests.gateway.test_gaps import again, asked_from
 from tests.gateway.wait import LONG
 from tests.gateway.wire import Wire
 from tests.limits.flood import logged_on
 
-MOST = 1000
+MOST, A_SECOND = 1000, 10
 SENT = 3000  # on a slow machine, too, more than ten a second beyond those
+FLOOD = 5000  # numbers, of which a firm may send as many at once
 TOLD = b"had to be answered by the session"
+OF_A_NOTE = 400  # bytes of the log, at most, also where each note is committed alone
+OF_A_CONNECTION = 2000  # bytes of it, with its Logon
+OF_A_PING = 16384  # bytes of it, with what else is written meanwhile
+IN_TIME = 5.0  # seconds, on a machine that has much else to do
 
 
 def kept(stage: Stage) -> int:
@@ -34,6 +45,92 @@ def test_rejects_without_end(stage: Stage) -> None:
         wire.raw(wire.message(b"4", b"DLR1", [(36, b"0")], number=1) * SENT)
         assert wire.closed_within(LONG)
     assert kept(stage) < first + 300, "%d more are kept" % (kept(stage) - first)
+
+
+def question(wire: Wire) -> bytes:
+    """A TestRequest."""
+    return wire.message(b"1", wire.name, [(112, b"x")])
+
+
+def gap(wire: Wire) -> bytes:
+    """A message ahead of one that is missing, that one, and the first one again: what is missing is asked for each time."""
+    first = wire.number
+    numbers = (first + 1, first, first + 1)
+    wire.number += 2
+    return b"".join(wire.message(b"0", wire.name, [], number=number) for number in numbers)
+
+
+def said(stage: Stage, kind: str) -> int:
+    """How many session notes the dealer has of this kind."""
+    notes = b"".join(bytes(text) for (text,) in rows(stage.door.database, "SELECT notes FROM seal"))
+    words = [line.split(b" ")[:3] for line in notes.splitlines()]
+    return sum(word[0] == b"DLR1" and word[2] == kind.encode() for word in words)
+
+
+def log_bytes(stage: Stage) -> int:
+    """Of the pages that the log's file has in use."""
+    names = ("page_count", "freelist_count", "page_size")
+    pages, free, size = [int(rows(stage.door.database, "PRAGMA " + name)[0][0]) for name in names]
+    return (pages - free) * size
+
+
+def come_back(stage: Stage, number: int) -> Wire:
+    """The dealer's connection that begins with this number, and has answered what it was asked: nothing of what it sent before comes
+    again."""
+    wire = logged_on(stage, DEALER, settles=False, number=number)
+    if number > 1:
+        missing = asked_from(wire)
+        again(wire, b"4", missing, [(123, b"Y"), (36, b"%d" % wire.number)])
+    wire.got(b"1")
+    return wire
+
+
+def flooded(stage: Stage, made: Callable[[Wire], bytes], number: int) -> int:
+    """The dealer floods a connection that begins with this number, and reads nothing until another dealer is answered; then it reads
+    why it is logged out. Its next number."""
+    with come_back(stage, number) as wire:
+        first, pieces = wire.number, []
+        while wire.number < first + FLOOD:
+            pieces.append(made(wire))
+        wire.raw(b"".join(pieces))
+        began = time.monotonic()
+        stage.ping(stage.other)
+        took = time.monotonic() - began
+        assert took < IN_TIME, "another firm is answered after %.1f s" % took
+        logout = wire.got(b"5")
+        assert TOLD in (logout.value(58) or b""), "it is told %r" % logout.raw
+        assert wire.closed_within(LONG)
+        return wire.number
+
+
+@pytest.mark.parametrize(("kind", "made"), [("0", question), ("2", gap)])
+def test_said_without_end(stage: Stage, kind: str, made: Callable[[Wire], bytes]) -> None:
+    """A small message has the session say something under a number, which is a note of the log. A firm that sends such ones without
+    end is logged out and told why, other connections are no way around it, and the log grows by no more than it may. Another firm
+    is answered in time."""
+    stage.open(stage.other)
+    stage.ping(stage.other)
+    before, began, number, connections = log_bytes(stage), time.monotonic(), 1, 4
+    for _ in range(connections):
+        number = flooded(stage, made, number)
+    # Of each connection one is too many, and of a ResendRequest one is the Logon's.
+    most = MOST + A_SECOND * (time.monotonic() - began) + 2 * connections
+    count = said(stage, kind)
+    assert MOST <= count <= most, "%d notes of the kind %s, and %.0f may be" % (count, kind, most)
+    grown = log_bytes(stage) - before
+    room = OF_A_NOTE * most + (OF_A_CONNECTION + OF_A_PING) * connections
+    assert grown < room, "the log has grown by %d bytes, and %.0f may be" % (grown, room)
+
+
+def test_no_more_than_a_firm_may_have_said(stage: Stage) -> None:
+    """A firm that has sent nearly as many at once has an answer to each, and goes on."""
+    stage.open()
+    with logged_on(stage, DEALER) as wire:
+        assert wire.raw(b"".join(question(wire) for _ in range(MOST - 50)))
+        for _ in range(MOST - 50):
+            wire.got(b"0")
+        wire.ask()
+    assert said(stage, "0") == MOST - 49
 
 
 def begun_again(stage: Stage) -> Wire:

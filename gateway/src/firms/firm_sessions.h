@@ -211,7 +211,7 @@ class FirmSessions final : private SessionHost {
     void logged_on(const std::string &firm) override;
     void logged_off(const std::string &firm) override;
     std::uint64_t put(const std::string &firm, const SessionEvent &event) override;
-    bool keeps_too_much(const std::string &firm) override;
+    bool replies_too_much(const std::string &firm) override;
     void wait_stored(std::uint64_t ticket) override;
     bool is_entry_stored(const std::string &firm, std::uint32_t place) override;
     void wait_entry_stored(std::uint32_t place) override { log_.wait_for_entry(place); }

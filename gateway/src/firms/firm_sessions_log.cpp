@@ -124,8 +124,10 @@ std::uint64_t FirmSessions::put(const std::string &name, const SessionEvent &eve
         row.moment = text_of(Moment{static_cast<int>(kept.first)});
         row.bytes = kept.frame;
     }
+    if (event.replies > 0) {
+        firm.reply_rate.add(event.replies);
+    }
     if (event.kept && event.given == nullptr) {
-        firm.reply_rate.add();
         firm.rejects_from = firm.rejects_from.value_or(event.kept->number);
     }
     if (const Delivery *const given = event.given) {
@@ -139,7 +141,7 @@ std::uint64_t FirmSessions::put(const std::string &name, const SessionEvent &eve
     return log_.put(std::move(change));
 }
 
-bool FirmSessions::keeps_too_much(const std::string &name) {
+bool FirmSessions::replies_too_much(const std::string &name) {
     return firm_of(name).reply_rate.are_too_many();
 }
 

@@ -2,9 +2,11 @@
 
 #include "common/moment.h"
 #include "firms/authenticator.h"
+#include "firms/reply_rate.h"
 #include "recovery/early_numbers.h"
 
 #include <exception>
+#include <map>
 #include <optional>
 #include <stdexcept>
 #include <utility>
@@ -34,7 +36,11 @@ class ClosedVenue::Firms final : public SessionHost {
         : metrics_(metrics), told_(told), authenticator_(config), numbers_(config),
           is_safe_(!has_ended_today(config.days, day, today)),
           text_(fmt::format("the venue is closed: it opens at {:%Y%m%d-%H:%M:%S} UTC",
-                            fmt::gmtime(day.opens.time_since_epoch().count()))) {}
+                            fmt::gmtime(day.opens.time_since_epoch().count()))) {
+        for (const std::string &name : config.firms.names) {
+            replies_.try_emplace(name);
+        }
+    }
 
     Refusal judge(const LogonFacts &facts) override {
         const Refusal refusal = authenticator_.judge(facts);
@@ -53,7 +59,7 @@ class ClosedVenue::Firms final : public SessionHost {
 
     std::optional<NotOpen> not_open(const std::string &firm) override {
         try {
-            if (is_safe_) {
+            if (is_safe_ && !replies_.at(firm).are_too_many()) {
                 return NotOpen{text_, numbers_.of(firm)};
             }
         } catch (const std::exception &fault) {
@@ -63,6 +69,7 @@ class ClosedVenue::Firms final : public SessionHost {
     }
     std::uint64_t put(const std::string &firm, const SessionEvent &event) override {
         numbers_.put(firm, event);
+        replies_.at(firm).add(event.replies);
         return 0;
     }
     void wait_stored(std::uint64_t) override {}
@@ -89,7 +96,8 @@ class ClosedVenue::Firms final : public SessionHost {
     Authenticator authenticator_;
     EarlyNumbers numbers_;
     const bool is_safe_;
-    const std::string text_; // 58
+    const std::string text_;                   // 58
+    std::map<std::string, ReplyRate> replies_; // each Logout stands in the log
 };
 
 ClosedVenue::ClosedVenue(std::vector<Config> configs, const TradingDay &day, ListeningPort port,

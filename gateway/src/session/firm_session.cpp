@@ -123,6 +123,7 @@ SessionEvent FirmSession::event_of(const Delivery *delivery) const {
     event.given = delivery;
     if (delivery == nullptr) {
         event.notes = notes_of_turn(machine_, moment_);
+        event.replies = replies_in(event.notes, machine_);
     }
     if (turn.told.first.is_kept) {
         KeptMessage &kept = event.kept.emplace();

@@ -153,8 +153,8 @@ class FirmSession final {
     Standing judge_logon(std::uint64_t connection, std::string_view logon);
     Standing refuse_before_opening(std::uint64_t connection, std::string_view logon,
                                    const NotOpen &why);
-    Standing refuse_old_reading(std::uint64_t connection);
-    const char *word_of_refusal(std::uint64_t connection, std::string_view logon);
+    Standing refuse_in_silence(std::uint64_t connection, const char *word);
+    const char *word_of_refusal(std::uint64_t connection, std::string_view logon, bool too_often);
     void tell_refused(Visitor &refused, const char *word);
     void tell_climb(std::string_view logon, std::uint32_t expected);
     Came judge(std::uint64_t connection, std::string_view message, Received at); // takes the lock

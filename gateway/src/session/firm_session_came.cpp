@@ -70,7 +70,7 @@ FirmSession::Standing FirmSession::judge_logon(std::uint64_t connection, std::st
         return refuse_before_opening(connection, logon, *why);
     }
     if (visitors_[connection].reading != host_.readings()) {
-        return refuse_old_reading(connection);
+        return refuse_in_silence(connection, refusal_words::read_again);
     }
     const bool too_often = !logons_.may_log_on(LogonRate::Time::clock::now());
     const Denial denial{0, {}, logs_on_too_often};
@@ -79,6 +79,9 @@ FirmSession::Standing FirmSession::judge_logon(std::uint64_t connection, std::st
     const auto notice = static_cast<Notice>(machine_.turn().told.notice);
     if (notice == Notice::lost_store) {
         tell_refused(visitors_[connection], refusal_words::lost_store);
+    }
+    if (notice == Notice::refused && host_.replies_too_much(names_.firm)) {
+        return refuse_in_silence(connection, word_of_refusal(connection, logon, too_often));
     }
     carry_out(nullptr);
     const Standing standing = standing_here(connection);
@@ -89,7 +92,7 @@ FirmSession::Standing FirmSession::judge_logon(std::uint64_t connection, std::st
     } else if (standing != Standing::waits) {
         const char *word = refusal_words::second_connection;
         if (notice == Notice::refused) {
-            word = too_often ? refusal_words::too_often : word_of_refusal(connection, logon);
+            word = word_of_refusal(connection, logon, too_often);
         } else if (machine_.numbers().is_spent()) {
             word = refusal_words::over;
         }
@@ -138,16 +141,21 @@ FirmSession::Standing FirmSession::refuse_before_opening(std::uint64_t connectio
     return standing_here(connection);
 }
 
-// Whoever has read them since has logged out whom they let in no more, and this one was not in yet.
-// It may come again at once, and is judged by those of now.
-FirmSession::Standing FirmSession::refuse_old_reading(std::uint64_t connection) {
+// Nothing of the session changes. By credentials that were read again: whoever read them has logged
+// out whom they let in no more, and this one was not in yet. It may come again at once, and is
+// judged by those of now. Behind too many replies: a Logout would be one more.
+FirmSession::Standing FirmSession::refuse_in_silence(std::uint64_t connection, const char *word) {
     Visitor &of = visitors_[connection];
-    tell_refused(of, refusal_words::read_again);
-    end(of, refusal_words::read_again);
+    tell_refused(of, word);
+    end(of, word);
     return standing_here(connection);
 }
 
-const char *FirmSession::word_of_refusal(std::uint64_t connection, std::string_view logon) {
+const char *FirmSession::word_of_refusal(std::uint64_t connection, std::string_view logon,
+                                         bool too_often) {
+    if (too_often) {
+        return refusal_words::too_often;
+    }
     const std::string text = machine_.why_refused(moment_now(), connection, logon);
     for (const RefusalText &refusal : refusal_texts) {
         if (text.starts_with(refusal.begin)) {
@@ -226,10 +234,10 @@ void FirmSession::deny(std::uint64_t connection, std::string_view message, Recei
     log_out_if_too_much(taken.text);
 }
 
-// Each row that the session keeps to answer a firm stands in the log: a firm that makes it keep
-// them without end is logged out.
+// What the session says by itself stands in the log: a firm that has it say something without end
+// is logged out. Some of it was said behind an earlier message, in a turn of its own.
 void FirmSession::log_out_if_too_much(std::string_view text) {
-    if (machine_.turn().told.first.is_kept && host_.keeps_too_much(names_.firm)) {
+    if (machine_.is_on() && host_.replies_too_much(names_.firm)) {
         machine_.log_out(begin(), text);
         note_why(std::string(text));
         carry_out(nullptr);

@@ -2,6 +2,8 @@
 
 #include "session/own_fields.h"
 
+#include <algorithm>
+#include <string>
 #include <string_view>
 
 namespace gateway {
@@ -75,6 +77,19 @@ std::vector<SessionNote> notes_of_turn(const Machine &machine, std::uint32_t mom
         notes.emplace_back().moment = moment;
     }
     return notes;
+}
+
+std::size_t replies_in(const std::vector<SessionNote> &notes, const Machine &machine) {
+    std::string kinds = "023j";
+    if (machine.state().line.first_test > 0) {
+        kinds += '1';
+    }
+    if (machine.is_away()) {
+        kinds += '5';
+    }
+    return static_cast<std::size_t>(std::ranges::count_if(notes, [&](const SessionNote &note) {
+        return kinds.find(note.kind) != std::string::npos;
+    }));
 }
 
 } // namespace gateway

@@ -7,6 +7,7 @@
 #include "session/session_numbers.h"
 
 #include <chrono>
+#include <cstddef>
 #include <cstdint>
 #include <optional>
 #include <string>
@@ -57,6 +58,8 @@ struct SessionEvent {
     std::optional<KeptMessage> kept;
     bool drops_rejects = false;       // those that are kept are kept no longer
     std::vector<SessionNote> notes{}; // in their order
+    // Messages of the session's own, among these notes, that a firm may have only so many of.
+    std::size_t replies = 0;
 };
 
 // A message that a session gives to the venue.

@@ -60,9 +60,9 @@ class SessionHost {
     // Puts an event of a session into the log. What it returns is waited for before a message of
     // the session's own leaves.
     virtual std::uint64_t put(const std::string &firm, const SessionEvent &event) = 0;
-    // Whether the row of the session's own that was kept last for the firm was one too many: then
-    // the firm is logged out.
-    virtual bool keeps_too_much(const std::string & /*firm*/) { return false; }
+    // Whether the session has had more to say to the firm by itself than a firm may have it say:
+    // then the firm is logged out.
+    virtual bool replies_too_much(const std::string & /*firm*/) { return false; }
     virtual void wait_stored(std::uint64_t ticket) = 0;
     // The venue is given an entry while that is being committed. Whether all entries up to this
     // place are on disk, so that what the venue gave the firm for them may leave: where they are
