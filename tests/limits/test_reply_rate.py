@@ -2,13 +2,14 @@
 
 import time
 from collections.abc import Callable
+from concurrent.futures import ThreadPoolExecutor
 
 import pytest
 
 from tests.gateway.ledger import rows
 from tests.gateway.stage import DEALER, Stage
 from tests.gateway.test_gaps import again, asked_from
-from tests.gateway.wait import LONG
+from tests.gateway.wait import LONG, until
 from tests.gateway.wire import Wire
 from tests.limits.flood import logged_on
 
@@ -19,6 +20,7 @@ TOLD = b"had to be answered by the session"
 OF_A_NOTE = 400  # bytes of the log, at most, also where each note is committed alone
 OF_A_CONNECTION = 2000  # bytes of it, with its Logon
 OF_A_PING = 16384  # bytes of it, with what else is written meanwhile
+ADDRESSES = 16  # from which a firm logs on at one time
 IN_TIME = 5.0  # seconds, on a machine that has much else to do
 
 
@@ -60,11 +62,17 @@ def gap(wire: Wire) -> bytes:
     return b"".join(wire.message(b"0", wire.name, [], number=number) for number in numbers)
 
 
+def noted(stage: Stage) -> list[tuple[str, int]]:
+    """The kind of each session note of the dealer, and the number that its message used."""
+    texts = rows(stage.door.database, "SELECT notes FROM seal ORDER BY number")
+    lines = b"".join(bytes(text) for (text,) in texts).decode().splitlines()
+    words = [line.split(" ")[:4] for line in lines]
+    return [(kind, int(number)) for firm, _, kind, number in words if firm == "DLR1"]
+
+
 def said(stage: Stage, kind: str) -> int:
     """How many session notes the dealer has of this kind."""
-    notes = b"".join(bytes(text) for (text,) in rows(stage.door.database, "SELECT notes FROM seal"))
-    words = [line.split(b" ")[:3] for line in notes.splitlines()]
-    return sum(word[0] == b"DLR1" and word[2] == kind.encode() for word in words)
+    return sum(each == kind for each, _ in noted(stage))
 
 
 def log_bytes(stage: Stage) -> int:
@@ -120,6 +128,38 @@ def test_said_without_end(stage: Stage, kind: str, made: Callable[[Wire], bytes]
     grown = log_bytes(stage) - before
     room = OF_A_NOTE * most + (OF_A_CONNECTION + OF_A_PING) * connections
     assert grown < room, "the log has grown by %d bytes, and %.0f may be" % (grown, room)
+
+
+def is_told(stage: Stage, number: int, at: int) -> bool:
+    """Whether a Logon of the dealer that can't be accepted (108=0) is answered, from one of its addresses."""
+    with Wire(stage.door.port, source="127.0.0.%d" % (2 + at)) as wire:
+        wire.number = number
+        assert wire.logon(b"DLR1", DEALER.password.encode(), heartbeat=b"0")
+        return wire.read_kind(b"5") is not None
+
+
+def test_refused_without_end(stage: Stage) -> None:
+    """A firm that has had all that it may have said goes on with Logons that are refused: some are told nothing, and these use up no
+    number. Each number of the session is in a note, and a start behind a kill goes on with the next.
+    """
+    stage.open(stage.other)
+    number = flooded(stage, question, 1)
+    with ThreadPoolExecutor(ADDRESSES) as pool:
+
+        def is_one_told_nothing() -> bool:
+            answers = pool.map(lambda at: is_told(stage, number, at), range(ADDRESSES))
+            return not all(list(answers))
+
+        until("a Logon is told nothing", LONG, is_one_told_nothing)
+    numbers = [used for _, used in noted(stage) if used > 0]
+    assert numbers == list(range(1, len(numbers) + 1)), "a number is in no note: %r" % numbers
+    stage.door.kill()
+    stage.door.start()
+    stage.door.wait_open()
+    with Wire(stage.door.port) as wire:
+        wire.number = number
+        assert wire.logon(b"DLR1", DEALER.password.encode())
+        assert wire.got(b"A").session_number == numbers[-1] + 1
 
 
 def test_no_more_than_a_firm_may_have_said(stage: Stage) -> None:
