@@ -269,7 +269,7 @@ def test_root_makes_nothing_for_another_user(stage: Stage, words: tuple[str, ...
     """The gateway's own user could not go on with a log or a checkpoint that root has made: it says so, and makes none."""
     write(stage, VENUE)
     shutil.chown(stage.folder, "daemon", "daemon")
-    command = [stage.door.programs.gateway, *words, stage.folder / "gateway.toml"]
+    command = [str(stage.door.programs.gateway), *words, str(stage.folder / "gateway.toml")]
     before = sorted(stage.folder.iterdir())
     done = subprocess.run(command, capture_output=True, text=True, timeout=LONG, check=False)
     expected = "%s belongs to daemon(1), who could not go on with what root makes" % stage.folder
