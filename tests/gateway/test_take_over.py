@@ -1,8 +1,16 @@
-"""Another gateway takes over, on a log whose copy for readers somebody changes meanwhile: it goes on with what is sealed."""
+"""Another gateway takes over, on a log whose copy for readers somebody changes meanwhile, and after it was killed at any call: it
+goes on with what is sealed."""
 
-from tests.gateway.door import Door
+import random
+from collections.abc import Iterator
+from contextlib import contextmanager
+
+from tests.gateway.door import Door, is_running
+from tests.gateway.settle import wait_all_on
 from tests.gateway.stage import Stage, check
 from tests.gateway.test_copy import Day, changes
+from tests.gateway.test_disk import shim
+from tests.gateway.test_each_call import REST
 from tests.gateway.test_reasons import (  # noqa: F401, the fixtures are called by their names
     follow,
     followed,
@@ -10,7 +18,9 @@ from tests.gateway.test_reasons import (  # noqa: F401, the fixtures are called 
     noting,
 )
 from tests.gateway.test_second_attack import TRADE
-from tests.gateway.test_seals import Intruder
+from tests.gateway.test_seals import Intruder, audited
+from tests.gateway.wait import LONG, until, within
+from tests.harness.options import Form
 
 
 def test_one_that_follows_reads_no_copy(followed: tuple[Stage, Door]) -> None:  # noqa: F811
@@ -34,3 +44,98 @@ def test_one_that_follows_reads_no_copy(followed: tuple[Stage, Door]) -> None:  
     stage.door = first
     day.check("the first one again")
     check(first.stop() == 0, first.last_words())
+
+
+class Killed:
+    """The second gateway of a stage, which can be ended by SIGKILL in the place of one of its next calls."""
+
+    def __init__(self, stage: Stage, second: Door) -> None:
+        self.stage, self.second, self.ended = stage, second, 0
+        self.ends = second.folder / "ends"
+        second.environment = shim(stage, DISK_END=str(self.ends))
+        follow(stage, second)
+
+    def follows(self) -> int:
+        """How often it has said that it stands by."""
+        return self.second.told.read_text(errors="replace").count("stands by")
+
+    @contextmanager
+    def at(self, call: int) -> Iterator[None]:
+        """From here on its calls are counted; one that was not ended behind it is ended there."""
+        fresh = self.ends.with_suffix(".fresh")
+        fresh.write_text("%d %d" % (self.second.running.pid, call))
+        fresh.rename(self.ends)
+        venues = self.second.children()
+        yield
+        self.ended += self.second.has_ended()
+        self.second.running.kill()
+        check(self.second.wait_end() == -9, "it ends: %s" % self.second.last_words())
+        self.ends.unlink()
+        until("its venue ends", LONG, lambda: not any(is_running(pid) for pid in venues))
+
+    def follow_again(self) -> None:
+        before = self.follows()
+        self.second.start()
+        until("it stands by again", LONG, lambda: self.follows() > before)
+        keeps_checkpoints(self.second)
+
+
+def calls_of(form: Form, seed: int, words: str) -> list[int]:
+    """At which of its next calls it is ended, one after the other."""
+    if form is Form.LONG:
+        return list(range(1, 100))
+    return sorted(random.Random("%s %d" % (words, seed)).sample(range(1, 60), 4))
+
+
+def is_whole(stage: Stage) -> None:
+    """Each firm has all, once, and the audit finds nothing."""
+    stage.auction()
+    stage.whole()
+    told = audited(stage, "--gateway-key", str(stage.door.keys / "gateway.pub"))
+    check(told.returncode == 0, "the audit finds: %s" % told.stdout)
+
+
+def test_killed_while_it_follows(
+    followed: tuple[Stage, Door], form: Form, seed: int  # noqa: F811
+) -> None:
+    """The second gateway is ended in the place of one call after the other: the first goes on, and in the end the second takes over
+    with all that there is."""
+    stage, second = followed
+    stage.open(*stage.firms)
+    killed = Killed(stage, second)
+    for call in calls_of(form, seed, "follows"):
+        with killed.at(call):
+            stage.auction()
+            within(REST, second.has_ended)
+        killed.follow_again()
+    check(killed.ended > 0, "it was never ended")
+    print("ended %d times at a call" % killed.ended)
+    stage.door.kill()
+    second.wait_open()
+    stage.door = second
+    wait_all_on(second, stage.firms)
+    is_whole(stage)
+
+
+def test_killed_while_it_takes_over(
+    followed: tuple[Stage, Door], form: Form, seed: int  # noqa: F811
+) -> None:
+    """The first gateway is killed, and the second in the place of one of its next calls, before it listens or soon after: the first
+    comes back, and goes on with what either has put there."""
+    stage, second = followed
+    stage.open(*stage.firms)
+    first, killed = stage.door, Killed(stage, second)
+    keeps_checkpoints(second)
+    for call in calls_of(form, seed, "takes over"):
+        stage.auction()
+        with killed.at(call):
+            first.kill()
+            until("it opens or ends", LONG, lambda: second.has_ended() or second.is_open())
+            within(REST, second.has_ended)
+        first.start()
+        first.wait_open()
+        wait_all_on(first, stage.firms)
+        killed.follow_again()
+    check(killed.ended > 0, "it was never ended")
+    print("ended %d times at a call" % killed.ended)
+    is_whole(stage)
