@@ -138,9 +138,12 @@ class Desk:
             if gap:
                 self.fill(gap, number)
                 gap = 0
-            self._write(written(kept[0], self.to.firm, number, kept[1], again(kept[2])))
+            self.write_again(number, *kept)
         if gap:
             self.fill(gap, last + 1)
+
+    def write_again(self, number: int, kind: str, fields: Fields, sending: str) -> None:
+        self._write(written(kind, self.to.firm, number, fields, again(sending)))
 
     def fill(self, begin: int, to: int) -> None:
         fields = [(123, "Y"), (36, str(to))]

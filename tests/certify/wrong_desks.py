@@ -103,29 +103,24 @@ class SendsAgainUnderNewNumbers(Desk):
 class SendsAgainAsNew(Desk):
     """Leaves PossDupFlag (43) out of what it sends again."""
 
-    def sends_again(self, begin: int, end: int) -> None:
-        for number in range(begin, (end or self.store.next - 1) + 1):
-            kept = self.store.sent[number]
-            self._write(written(kept[0], self.to.firm, number, kept[1]))
+    def write_again(self, number: int, kind: str, fields: Fields, sending: str) -> None:
+        self._write(written(kind, self.to.firm, number, fields))
 
 
 class SendsAgainWhatItIsNow(Desk):
     """Builds what is asked for anew, under its number: the price has moved."""
 
-    def sends_again(self, begin: int, end: int) -> None:
-        for number, (kind, fields, sending) in self.store.sent.items():
-            moved = [(tag, risen(it) if tag in PRICES else it) for tag, it in fields]
-            self.store.sent[number] = (kind, moved, sending)
-        super().sends_again(begin, end)
+    def write_again(self, number: int, kind: str, fields: Fields, sending: str) -> None:
+        moved = [(tag, risen(it) if tag in PRICES else it) for tag, it in fields]
+        super().write_again(number, kind, moved, sending)
 
 
 class SendsAgainAndAnew(Desk):
     """Sends what is asked for, and the same once more as something new."""
 
-    def sends_again(self, begin: int, end: int) -> None:
-        super().sends_again(begin, end)
-        acts = [one[:2] for one in self.store.sent.values() if one[0] in NAMES]
-        for kind, fields in acts[-1:]:
+    def write_again(self, number: int, kind: str, fields: Fields, sending: str) -> None:
+        super().write_again(number, kind, fields, sending)
+        if kind in NAMES:
             own = (NAMES[kind], self.name("again"))
             self.put(kind, [own if tag == own[0] else (tag, it) for tag, it in fields])
 
