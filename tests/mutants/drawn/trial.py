@@ -25,7 +25,7 @@ AT_ONCE = 20  # tests of one run of pytest, so that the first that fails ends it
 UNKNOWN = 5.0  # seconds of a file of tests of which nothing is known
 NOTHING_RUN = 5  # pytest's status where its words leave none of the tests
 SLOW = 10  # times what they took when they were recorded: so long tests may take on a busy machine
-LEAST = 60.0  # seconds that they may take anyway
+LEAST = 300.0  # seconds that they may take anyway: what they share, a fixture of a class, is in the time of one of them alone
 
 
 DURATIONS = read_durations(FILE.read_text())
