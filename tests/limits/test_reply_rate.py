@@ -9,7 +9,7 @@ import pytest
 from tests.gateway.ledger import rows
 from tests.gateway.stage import DEALER, Stage
 from tests.gateway.test_gaps import again, asked_from
-from tests.gateway.wait import LONG, until
+from tests.gateway.wait import LONG
 from tests.gateway.wire import Wire
 from tests.limits.flood import logged_on
 
@@ -20,7 +20,7 @@ TOLD = b"had to be answered by the session"
 OF_A_NOTE = 400  # bytes of the log, at most, also where each note is committed alone
 OF_A_CONNECTION = 2000  # bytes of it, with its Logon
 OF_A_PING = 16384  # bytes of it, with what else is written meanwhile
-ADDRESSES = 16  # from which a firm logs on at one time
+ADDRESSES, TRIES = 16, 6  # from which a firm logs on at one time, and how often from each
 IN_TIME = 5.0  # seconds, on a machine that has much else to do
 
 
@@ -130,27 +130,25 @@ def test_said_without_end(stage: Stage, kind: str, made: Callable[[Wire], bytes]
     assert grown < room, "the log has grown by %d bytes, and %.0f may be" % (grown, room)
 
 
-def is_told(stage: Stage, number: int, at: int) -> bool:
-    """Whether a Logon of the dealer that can't be accepted (108=0) is answered, from one of its addresses."""
+def refused(stage: Stage, number: int, at: int) -> None:
+    """A Logon of the dealer that can't be accepted (108=0), from one of its addresses: it is told so, or nothing."""
     with Wire(stage.door.port, source="127.0.0.%d" % (2 + at)) as wire:
         wire.number = number
         assert wire.logon(b"DLR1", DEALER.password.encode(), heartbeat=b"0")
-        return wire.read_kind(b"5") is not None
+        wire.read_kind(b"5")
 
 
 def test_refused_without_end(stage: Stage) -> None:
-    """A firm that has had all that it may have said goes on with Logons that are refused: some are told nothing, and these use up no
-    number. Each number of the session is in a note, and a start behind a kill goes on with the next.
-    """
+    """A firm that has had all that it may have said goes on with Logons that are refused: it has ten Logouts a second. Each number of
+    the session is in a note, and a start behind a kill goes on with the next."""
     stage.open(stage.other)
-    number = flooded(stage, question, 1)
+    began, number = time.monotonic(), flooded(stage, question, 1)
     with ThreadPoolExecutor(ADDRESSES) as pool:
-
-        def is_one_told_nothing() -> bool:
-            answers = pool.map(lambda at: is_told(stage, number, at), range(ADDRESSES))
-            return not all(list(answers))
-
-        until("a Logon is told nothing", LONG, is_one_told_nothing)
+        for _ in range(TRIES):
+            list(pool.map(lambda at: refused(stage, number, at), range(ADDRESSES)))
+    most = MOST + A_SECOND * (time.monotonic() - began) + ADDRESSES
+    count = said(stage, "0") + said(stage, "5")
+    assert MOST < count <= most, "it is told %d times, and %.0f may be" % (count, most)
     numbers = [used for _, used in noted(stage) if used > 0]
     assert numbers == list(range(1, len(numbers) + 1)), "a number is in no note: %r" % numbers
     stage.door.kill()
