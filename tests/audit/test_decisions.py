@@ -20,8 +20,12 @@ from mireseason_audit.order_events import (
     side_said,
 )
 from mireseason_audit.parties import Parties
+from mireseason_audit.request_lists import lists_of
 from mireseason_audit.requests import Request
+from mireseason_audit.sqlite_log import SqliteSource
 from mireseason_audit.statistics import Spread
+
+from tests.audit.common import DAY
 
 # ------------------------------------------------------------ quotes and figures
 
@@ -144,6 +148,27 @@ def test_which_second_day_shows_a_dealer_something() -> None:
     assert second_for([other, one], "b") is one
     assert second_for([one, other], "a") is other
     assert second_for([one], "a") is None and second_for([one], "d") is one
+
+
+def test_the_lists_of_requests() -> None:
+    """A firm's has what it asked or was asked; a bond's, an end's and an hour's what is of that, and those that have none are left out."""
+    with SqliteSource(DAY).open() as log:
+        day = log.day()
+    dealer = day.dealers[0].name
+    first, second = asked(1, ""), asked(2, "")
+    first.investor = next(firm.name for firm in day.firms if not firm.is_dealer)
+    second.dealers, second.moment = [dealer], "10:30:00.000"
+    found = {
+        (one.kind, one.key): keys_of(list(one.requests)) for one in lists_of(day, [first, second])
+    }
+    of_firms = {firm.name: found["firm", firm.name] for firm in day.firms}
+    assert {name: own for name, own in of_firms.items() if own} == {
+        first.investor: [1],
+        dealer: [2],
+    }
+    assert not any(own for (kind, _), own in found.items() if kind == "bond")
+    others = {key: own for key, own in found.items() if key[0] in ("end", "hour")}
+    assert others == {("end", "open"): [1, 2], ("hour", "09"): [1], ("hour", "10"): [2]}
 
 
 # ------------------------------------------------------------ events of orders
