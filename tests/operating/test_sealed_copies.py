@@ -335,6 +335,22 @@ def test_no_room(kept: Place, monkeypatch: pytest.MonkeyPatch) -> None:
     kept.is_refused("there is no room for")
 
 
+def test_a_file_that_grows(place: Path, monkeypatch: pytest.MonkeyPatch) -> None:
+    """No more of it is read than there was room for when it was looked at."""
+    file, text, room = place / "x.db", b"x" * 1000, os.statvfs
+
+    def grows(path: Path) -> os.statvfs_result:
+        with file.open("ab") as more:
+            more.write(b"y" * 1000)
+        return room(path)
+
+    file.write_bytes(text)
+    monkeypatch.setattr(os, "statvfs", grows)
+    digest = hashlib.sha256(text).hexdigest()
+    given_copies.GivenCopy(place, file.name).take_file(file.name, digest, place / "copy")
+    assert (place / "copy").read_bytes() == text and file.stat().st_size == 2000
+
+
 def test_a_log_that_was_changed(kept: Place) -> None:
     """It is kept as it came, with what the audit says of it, and without a seal: each look tells of it."""
     told_to_sqlite(kept, "UPDATE entry SET received = '08:00:00.000001' WHERE place = 2")
