@@ -1,5 +1,6 @@
 """Earlier days, which the desk reads from their journals."""
 
+import os
 import shutil
 from typing import Any
 
@@ -7,8 +8,8 @@ from tests.desk.conftest import House
 from tests.desk.view import View
 
 POINT = 256
-DAYS = 200  # journals, so that a look takes a while
-AT_ONCE = 50  # looks of one login
+AT_ONCE = 50  # looks that a login asks for
+OF_ONE = 4  # of one login, that wait for the disk
 
 
 def with_day(house: House, date: str) -> tuple[View, dict[str, Any]]:
@@ -69,18 +70,24 @@ def test_an_earlier_day_that_is_cut(house: House) -> None:
 
 
 def test_who_looks_without_end_holds_up_nobody(house: House) -> None:
-    """Most of its looks are refused while the first are not answered; a colleague's are answered."""
+    """While its first looks wait for the disk its others are refused; a colleague's is taken, and answered."""
     desk = house.investor
-    with_day(house, "20260101")
+    with_day(house, "20260105")
     desk.stop()
-    first = desk.data / "journal-20260101"
-    for count in range(DAYS):
-        shutil.copy2(first, desk.data / ("journal-2025%04d" % (count + 101)))
+    slow = desk.data / "journal-20260106"
+    shutil.copy2(desk.data / "journal-20260105", slow)
     desk.start()
     flood, colleague = house.view(desk, "lou"), house.view(desk, "tom")
+    slow.unlink()
+    os.mkfifo(slow)  # whoever opens it to read waits until somebody opens it to write
     for count in range(AT_ONCE):
         flood.send({"do": "find", "find": "nothing has this", "number": count + 1})
-    assert day(colleague, do="find", find="alder buy") != []
-    flood.until("all are answered", lambda: len(flood.said) == AT_ONCE)
-    refused = "Many look at earlier days just now: try again."
-    assert AT_ONCE > list(flood.said.values()).count(refused) > 0
+    flood.until("the others are refused", lambda: len(flood.said) == AT_ONCE - OF_ONE)
+    assert set(flood.said.values()) == {"Many look at earlier days just now: try again."}
+    colleague.send({"do": "find", "find": "alder buy", "number": AT_ONCE})
+    assert colleague.act(do="pass", request="none") == "The request has ended."
+    assert AT_ONCE not in colleague.said, colleague.said
+    with slow.open("r+b", buffering=0):
+        colleague.until("it is answered", lambda: colleague.said.get(AT_ONCE) == "")
+        flood.until("all are answered", lambda: len(flood.said) == AT_ONCE)
+    assert sum(len(part["requests"]) for part in colleague.answers["day"]) == 2
