@@ -11,6 +11,16 @@
 
 namespace desk {
 
+namespace {
+
+std::int64_t number_of(const std::string &text) {
+    std::int64_t number = 0;
+    std::from_chars(text.data(), text.data() + text.size(), number);
+    return number;
+}
+
+} // namespace
+
 std::unique_ptr<Day> Day::of(Role role) {
     if (role == Role::investor) {
         return std::make_unique<InvestorDay>();
@@ -25,9 +35,14 @@ void Day::apply(const Entry &entry) {
     case Entry::Kind::received:
         return apply_received(entry);
     case Entry::Kind::undelivered:
-        return apply_failure(
-            entry.bytes, "never delivered: the connection or the disk stalled, and it is too old",
-            false, entry.moment);
+        // The venue may ask for it more than once; by then another of its kind may be on its way.
+        if (sent_.contains(number_of(entry.bytes))) {
+            apply_failure(entry.bytes,
+                          "never delivered: the connection or the disk stalled, and it is too old",
+                          false, entry.moment);
+            sent_.erase(number_of(entry.bytes));
+        }
+        return;
     case Entry::Kind::note:
         return apply_note(entry);
     case Entry::Kind::session:
@@ -117,9 +132,7 @@ void Day::apply_received(const Entry &entry) {
 
 void Day::apply_failure(const std::string &number, const std::string &why, bool is_refusal,
                         Moment at) {
-    std::int64_t key = 0;
-    std::from_chars(number.data(), number.data() + number.size(), key);
-    const auto found = sent_.find(key);
+    const auto found = sent_.find(number_of(number));
     if (found == sent_.end()) {
         return notice(at, "A message of this desk was " + why, is_refusal);
     }

@@ -133,6 +133,9 @@ TEST_CASE_FIXTURE(Fixture, "a hit that was never delivered is told so, and may b
     CHECK(asked().pending.empty());
     CHECK(asked().state == State::open);
     CHECK(asked().told->text.rfind("Hit never delivered", 0) == 0);
+    send(9100, "35=AJ|34=4|50=T8|693=H2|117=Q1|694=1|");
+    day.apply(entry(Kind::undelivered, 9200, "3")); // the venue asked for the first once more
+    CHECK(asked().pending.size() == 1);
 }
 
 TEST_CASE("a request that was never delivered is over, and open no more") {

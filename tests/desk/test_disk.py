@@ -120,6 +120,10 @@ def test_what_the_disk_held_up_is_never_delivered(house: House, disk: Disk) -> N
     page.hit("DLR1")
     page.card_says("Bought 1,000,000 at 99 from DLR1")
     dealer.until("it is done", lambda: dealer.requests[shown]["state"] == "done")
+    view = house.view(desk)
+    (request,) = view.requests.values()
+    told = [one["text"] for one in request["history"]]
+    assert sum("never delivered" in one for one in told) == 1, told
 
 
 def test_what_gets_another_name_is_safe_with_it(house: House, disk: Disk) -> None:
