@@ -78,6 +78,12 @@ return bad;
 """
 
 
+TO_THE_END = (
+    "document.getElementById('body').scrollTo(0, document.getElementById('body').scrollHeight)"
+)
+TO_THE_BEGIN = "document.getElementById('body').scrollTo(0, 0)"
+
+
 def pictures() -> Path | None:
     return Path(os.environ["PICTURES"]) if "PICTURES" in os.environ else None
 
@@ -97,6 +103,9 @@ def look(page: Browser, name: str) -> None:
             )
             assert wide == [] and widest <= width, (where, wide)
             assert page.script(COVERED) == [], where
+            page.script(TO_THE_END)
+            assert page.script(COVERED) == [], "%s, at its end" % where
+            page.script(TO_THE_BEGIN)
             assert page.script(CONTRASTS) == [], where
             assert page.script(LABELS) == [], where
             folder = pictures()
