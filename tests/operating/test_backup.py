@@ -294,7 +294,30 @@ def with_member(name: str, kind: bytes = tarfile.REGTYPE) -> Callable[[bytes], b
     return made
 
 
+def given_again(end: str, times: int) -> Callable[[bytes], bytes]:
+    """The file with this end comes so often more, ahead of its own place, with other bytes."""
+
+    def made(data: bytes) -> bytes:
+        file = io.BytesIO()
+        with (
+            tarfile.open(fileobj=io.BytesIO(data)) as backup,
+            tarfile.open(fileobj=file, mode="w", format=tarfile.USTAR_FORMAT) as archive,
+        ):
+            for member in backup:
+                content = backup.extractfile(member)
+                assert content is not None
+                own = content.read()
+                for _ in range(times if member.name.endswith(end) else 0):
+                    archive.addfile(member, io.BytesIO(own[::-1]))
+                archive.addfile(member, io.BytesIO(own))
+        return file.getvalue()
+
+    return made
+
+
 FORGED = {
+    "a log that comes twice": (given_again(".db", 1), "too often"),
+    "what stands beside it, three times": (given_again("-wal", 2), "too often"),
     "cut": (cut, "nothing is restored"),
     "cut behind the log": (cut_behind(0), "the backup is cut off"),
     "cut behind all files": (cut_behind(-1), "the backup is cut off"),
@@ -471,7 +494,7 @@ def test_a_stream_of_somebody_else(stage: Stage, place: Path, name: str) -> None
 def test_who_has_what_is_restored(stage: Stage) -> None:
     """The gateway's user, as the folder of the log has it; what the backup has is read as that user, and not as root."""
     opened(stage)
-    data = backup(stage)
+    data = given_again("-wal", 1)(backup(stage))  # as where SQLite begins that file anew meanwhile
     stage.door.kill()
     lose_the_log(stage)
     (stage.folder / "gateway.toml").chmod(0o644)

@@ -4,8 +4,10 @@
 
 #include <cstdint>
 #include <filesystem>
+#include <functional>
 #include <memory>
 #include <string>
+#include <string_view>
 
 struct sqlite3;
 struct sqlite3_file;
@@ -13,8 +15,9 @@ struct sqlite3_file;
 namespace gateway {
 
 // The file, and what stands beside it (`-wal`): SQLite makes of both the log as it was when this
-// was made, or a little later, never a part of a commit. As long as this lives, nothing of either
-// is overwritten, and the second grows with each commit: so not for long. One thread at a time.
+// was made, or a little later, never a part of a commit. As long as this lives, the first stays as
+// it is, but for what the second has, and the second grows with each commit: so not for long. One
+// thread at a time.
 class SqliteSnapshot {
   public:
     // Throws std::runtime_error that names the file.
@@ -38,6 +41,11 @@ class SqliteSnapshot {
     };
     const File &log() const { return log_; }
     const File &beside() const { return beside_; }
+    // Calls `begin`, and then `take` with each piece of what stands beside the file. Where the
+    // writer begins that anew meanwhile, what was given is worth nothing: all is given once more,
+    // from `begin` on.
+    void give_beside(std::size_t piece, const std::function<void()> &begin,
+                     const std::function<void(std::string_view)> &take) const;
 
   private:
     struct Close {

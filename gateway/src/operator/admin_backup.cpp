@@ -85,13 +85,21 @@ class Stream {
     void put_file(const std::string &file, const SqliteSnapshot::File &from, const Source &source) {
         put(tar_header(file, from.size(), seconds()));
         for (std::uint64_t at = 0; at < from.size(); at += longest_piece) {
-            const auto room = source.disk.empty() ? std::nullopt : room_of(source.disk);
-            if (room && room->free < source.reserve) {
-                throw std::runtime_error("the log's disk is nearly full");
-            }
-            put(from.read(at, longest_piece));
+            put_piece(from.read(at, longest_piece), source);
         }
         put(tar_padding(from.size()));
+    }
+    // Of two files of one name the later one counts, for whoever unpacks the stream.
+    void put_beside(const std::string &file, const SqliteSnapshot &from, const Source &source) {
+        const std::uint64_t size = from.beside().size();
+        std::string padding; // of the one before
+        const auto begin = [&] {
+            put(padding + tar_header(file, size, seconds()));
+            padding = tar_padding(size);
+        };
+        from.give_beside(longest_piece, begin,
+                         [&](std::string_view piece) { put_piece(piece, source); });
+        put(padding);
     }
     void end() {
         put(tar_end());
@@ -100,6 +108,13 @@ class Stream {
     void fail(std::string_view why) { put_(std::string(piece_is_fault) + std::string(why)); }
 
   private:
+    void put_piece(std::string_view piece, const Source &source) {
+        const auto room = source.disk.empty() ? std::nullopt : room_of(source.disk);
+        if (room && room->free < source.reserve) {
+            throw std::runtime_error("the log's disk is nearly full");
+        }
+        put(piece);
+    }
     static std::uint64_t seconds() {
         return static_cast<std::uint64_t>(std::chrono::duration_cast<std::chrono::seconds>(
                                               std::chrono::system_clock::now().time_since_epoch())
@@ -117,7 +132,7 @@ void put_source(const Source &source, Stream &stream) {
     const SqliteSnapshot snapshot(source.log);
     const std::string log = source.log.filename();
     stream.put_file(log, snapshot.log(), source);
-    stream.put_file(log + "-wal", snapshot.beside(), source);
+    stream.put_beside(log + "-wal", snapshot, source);
     if (is_signed) {
         stream.put_file(source.checkpoint.filename(), checkpoint);
     }
