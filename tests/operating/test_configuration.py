@@ -14,6 +14,7 @@ from pathlib import Path
 
 import pytest
 
+from tests.admin.operator import is_root
 from tests.gateway.door import today
 from tests.gateway.stage import Stage
 from tests.gateway.wait import LONG
@@ -263,7 +264,7 @@ def test_what_ends_a_start_is_found(stage: Stage, name: str) -> None:
     assert stage.door.wait_end() == 1
 
 
-@pytest.mark.root
+@pytest.mark.skipif(not is_root(), reason="a folder of another user's needs root")
 @pytest.mark.parametrize("words", [(), ("--accept-loss",)], ids=["start", "accept-loss"])
 def test_root_makes_nothing_for_another_user(stage: Stage, words: tuple[str, ...]) -> None:
     """The gateway's own user could not go on with a log or a checkpoint that root has made: it says so, and makes none."""
