@@ -222,7 +222,7 @@ drawn_mutants() {
     [ -n "$since" ] && [ "$since" != "$(git rev-parse HEAD)" ] || since=$(git rev-parse --verify -q 'HEAD^') || return 0
     [ "$(what_is_left)" -ge "$least" ] || return 0
     told=$work/drawn
-    in_time 240 python3 -m tests.mutants.drawn --since "$since" --seed "$seed" --count 6 --jobs "$jobs" --below 15 --limit 100 \
+    in_time 240 python3 -m tests.mutants.drawn --since "$since" --seed "$seed" --count 6 --jobs "$jobs" --below 15 --limit 60 \
         --part audit keeper scripts --venue "$program" --gateway "$gateway" || tail -n 5 "$told"
     sed -n '/^passed\|^unseen/,/^  + /s/^/drawn: /p' "$told"
     sed -n 's/^all  *\([0-9]*\) *\([0-9]*\) *\([0-9]*\) *\([0-9]*\)$/drawn: \1 mistakes, \2 refused, \4 not/p' "$told"
