@@ -24,11 +24,10 @@ std::shared_ptr<const std::string> text_of(const json &message) {
 }
 
 OpenPage::OpenPage(DeskSite &site, const Trader &trader, std::string cookie)
-    : site_(site), trader_(trader), program_(nullptr), cookie_(std::move(cookie)), begin_(now()),
-      used_(begin_) {}
+    : site_(site), trader_(trader), program_(nullptr), cookie_(std::move(cookie)), begin_(now()) {}
 
 OpenPage::OpenPage(DeskSite &site, const Program &program)
-    : site_(site), trader_(program.acts_as), program_(&program), begin_(now()), used_(begin_) {}
+    : site_(site), trader_(program.acts_as), program_(&program), begin_(now()) {}
 
 void OpenPage::opened(std::shared_ptr<web::Socket> socket) {
     socket_ = std::move(socket);
@@ -171,7 +170,7 @@ void OpenPage::answer(std::uint64_t number, const Desk::Answer &answer) {
 }
 
 void OpenPage::uses() {
-    used_ = now();
+    used_ = std::chrono::steady_clock::now();
     if (!program_) {
         site_.logins().saw(cookie_);
     }

@@ -7,6 +7,7 @@
 #include "desk.h"
 #include "moment.h"
 
+#include <chrono>
 #include <cstdint>
 #include <memory>
 #include <string>
@@ -34,8 +35,9 @@ class OpenPage final : public web::SocketUser, public std::enable_shared_from_th
     bool is_program() const { return program_ != nullptr; }
     bool has_shown_token() const { return has_shown_token_; }
     const Trader &trader() const { return trader_; }
-    // When its trader last did something in it.
-    Moment used() const { return used_; }
+    // When its trader last did something in it: of two pages one was used later, whatever the clock
+    // of the day does.
+    std::chrono::steady_clock::time_point used() const { return used_; }
     void end();
     // The page is told why, and does not come back by itself.
     void end(const std::string &why);
@@ -60,7 +62,7 @@ class OpenPage final : public web::SocketUser, public std::enable_shared_from_th
     const Program *const program_; // null for a page
     const std::string cookie_;
     const Moment begin_;
-    Moment used_;
+    std::chrono::steady_clock::time_point used_ = std::chrono::steady_clock::now();
     std::shared_ptr<web::Socket> socket_; // null before it is open, and after it was closed
     bool has_shown_token_ = false;
     nlohmann::json told_trader_;
