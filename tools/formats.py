@@ -2,7 +2,7 @@
 """Makes what firms read of the venue's formats, from fix/formats.toml.
 
     tools/formats.py            writes the dictionaries fix/FIXT11.xml and fix/MIRESEASON.xml, and the tables
-                                between `formats:` marks in docs/FORMATS.md and docs/CONNECTING.md
+                                that docs/FORMATS.md and docs/CONNECTING.md mark as made by it
     tools/formats.py --check    says which of these are not as it would write them, and ends with 1
 """
 
@@ -18,11 +18,13 @@ from pathlib import Path
 from typing import Any
 from xml.sax.saxutils import quoteattr
 
+from made import filled, write
+
 ROOT = Path(__file__).resolve().parent.parent
+SCRIPT = "tools/formats.py"
 SOURCE = "fix/formats.toml"
 DICTIONARIES = {"transport": "fix/FIXT11.xml", "application": "fix/MIRESEASON.xml"}
 PAGES = ("docs/FORMATS.md", "docs/CONNECTING.md")
-MARKED = re.compile(r"(<!-- formats: ([A-Za-z -]+) -->\n).*?(<!-- formats end -->)", re.DOTALL)
 WIDTH = 112  # columns of a comment
 FIELDS = "fields of "  # and the name of a message
 SENDERS = {"S": "dealer", "Z": "dealer", "AG": "dealer", "R": "investor", "AJ": "investor"}
@@ -229,7 +231,7 @@ def table(source: Table, name: str) -> str:
 
 def page(source: Table, text: str) -> str:
     """A page with its tables made anew."""
-    return MARKED.sub(lambda mark: mark[1] + "\n" + table(source, mark[2]) + "\n" + mark[3], text)
+    return filled(text, SCRIPT, lambda name: table(source, name))
 
 
 def made(root: Path = ROOT) -> dict[str, str]:
@@ -244,16 +246,7 @@ def made(root: Path = ROOT) -> dict[str, str]:
 def main() -> int:
     parser = argparse.ArgumentParser()
     parser.add_argument("--check", action="store_true")
-    is_check = parser.parse_args().check
-    changed = 0
-    for file, text in made().items():
-        if (ROOT / file).read_text(encoding="utf-8") == text:
-            continue
-        changed += 1
-        print("%s is not as %s says" % (file, SOURCE) if is_check else "%s is written" % file)
-        if not is_check:
-            (ROOT / file).write_text(text, encoding="utf-8")
-    return 1 if is_check and changed else 0
+    return write(ROOT, made(), parser.parse_args().check)
 
 
 if __name__ == "__main__":

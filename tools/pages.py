@@ -2,7 +2,7 @@
 """Checks the pages (.md) of this repository.
 
     tools/pages.py [--venue PROGRAM]     names, links, commands, clauses, and what scripts print
-    tools/pages.py --words               how many words there are, page by page
+    tools/pages.py --words               how many words people wrote, and how many scripts, page by page
 
 PROGRAM is a built rfq_venue, or words as "python3 tests/model/program.py"; without it the commands
 that ask it are listed as not run. A finding is a line `PAGE:LINE: WHAT`, the last line
@@ -24,11 +24,24 @@ from page_checks.vocabulary import vocabulary_of
 from page_checks.written import check_written
 
 
+def is_main(path: str) -> bool:
+    """Whether a page is one of those that everybody reads."""
+    return path in ("README.md", "CONTRIBUTING.md", "SECURITY.md") or path.startswith("docs/")
+
+
 def print_words(pages: list[Page]) -> None:
-    """A line a page, the longest first, and the sum."""
-    for words, path in sorted(((page.words(), page.path) for page in pages), reverse=True):
-        print(f"{words:6} {path}")
-    print(f"{sum(page.words() for page in pages):6} words")
+    """A line a page, the longest first, and two sums: the words, and those of tables that scripts make."""
+    counted = {page.path: page.count() for page in pages}
+    print(" words   made")
+    for path, (words, made) in sorted(counted.items(), key=lambda one: one[1], reverse=True):
+        print(f"{words:6} {made:6} {path}")
+    for name, paths in (
+        ("README, CONTRIBUTING, SECURITY and docs/", filter(is_main, counted)),
+        ("all pages", iter(counted)),
+    ):
+        summed = [counted[path] for path in paths]
+        words, made = (sum(column) for column in zip(*summed))
+        print(f"{words:6} {made:6} {name}")
 
 
 def check_pages(root: Path, files: list[str], pages: list[Page], program: str | None) -> Checked:
@@ -39,7 +52,7 @@ def check_pages(root: Path, files: list[str], pages: list[Page], program: str | 
         print(f"{shown.page}:{shown.line}: not run here: {shown.command}")
     checked.add(check_names(pages, words))
     checked.add(check_links(pages, words))
-    checked.add(check_written(root))
+    checked.add(check_written(root, pages))
     checked.add(check_clauses(root))
     return checked
 

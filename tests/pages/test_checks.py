@@ -18,6 +18,7 @@ from page_checks.links import check_links
 from page_checks.names import check_names
 from page_checks.page import Page
 from page_checks.vocabulary import Vocabulary, ends_of, flags_in, names_in
+from page_checks.written import check_marks, fault_of_maker
 
 FILES = {
     "crates/desk/src/rules.rt": "pub fn price_for(ask: &Ask) -> bool\n    ensures grid { result ≡ true }\n{}\n",
@@ -117,6 +118,43 @@ class Checks(unittest.TestCase):
             "last",
         ]
         self.assertEqual(Page("a.md", lines).words(), 3)
+
+    def test_words_of_scripts(self) -> None:
+        """What stands between marks is counted apart."""
+        lines = [
+            "one",
+            "<!-- made by tools/x.py: y -->",
+            "two and three",
+            "<!-- made end -->",
+            "four",
+        ]
+        self.assertEqual(Page("a.md", lines).count(), (2, 3))
+
+    def test_marks(self) -> None:
+        """Each names a script that is asked, and has its end."""
+        first, last = "<!-- made by tools/x.py: y -->", "<!-- made end -->"
+        for lines, said in (
+            ([first, last, first, last], []),
+            (
+                [first.replace("/x", "/z"), last],
+                ["tools/z.py is none of the scripts that are asked"],
+            ),
+            ([first, first, last], ["a mark within another"]),
+            ([first], ["a mark without its end"]),
+            ([last], ["an end without a mark"]),
+            ([first.replace(": y", ""), "<!-- made  end -->"], ["a mark that is none"] * 2),
+        ):
+            found = check_marks([Page("a.md", lines)], ["tools/x.py"]).findings
+            self.assertEqual([finding.text for finding in found], said)
+
+    def test_makers(self) -> None:
+        """What a script says by --check is a finding where it ends with another status than 0."""
+        with tempfile.TemporaryDirectory() as folder:
+            for status, said in ((0, None), (1, "a.md; b.md")):
+                script = Path(folder) / "made.py"
+                text = f"import sys\nprint('a.md')\nprint('b.md')\nsys.exit({status})\n"
+                script.write_text(text, encoding="utf-8")
+                self.assertEqual(fault_of_maker(Path(folder), "made.py"), said)
 
 
 class Clauses(unittest.TestCase):

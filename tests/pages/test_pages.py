@@ -53,8 +53,8 @@ def test_links(pages: list[Page], words: Vocabulary) -> None:
     holds(check_links(pages, words))
 
 
-def test_what_scripts_print() -> None:
-    holds(check_written(ROOT))
+def test_what_scripts_write(pages: list[Page]) -> None:
+    holds(check_written(ROOT, pages))
 
 
 def test_clauses() -> None:

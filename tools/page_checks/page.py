@@ -8,6 +8,8 @@ from collections.abc import Iterator
 from dataclasses import dataclass, field
 from pathlib import Path
 
+import made
+
 FENCE = re.compile(r"^\s*```(.*)$")
 SPAN = re.compile(r"(?<!`)`([^`\n]+)`(?!`)")
 
@@ -90,15 +92,31 @@ class Page:
                 yield block
                 block = None
 
+    def count(self) -> tuple[int, int]:
+        """How many words it has outside of blocks: those that people wrote, and those that scripts made.
+        A word has a letter or a digit."""
+        written, by_script, inside = 0, 0, False
+        for _, line in self.prose():
+            if made.FIRST.fullmatch(line):
+                inside = True
+            elif line == made.LAST:
+                inside = False
+            elif inside:
+                by_script += words_of(line)
+            else:
+                written += words_of(line)
+        return written, by_script
+
     def words(self) -> int:
-        """How many words it has outside of blocks. A word has a letter or a digit."""
-        return sum(
-            1
-            for _, line in self.prose()
-            if not is_indented(line)
-            for word in line.split()
-            if any(map(str.isalnum, word))
-        )
+        """How many words people wrote."""
+        return self.count()[0]
+
+
+def words_of(line: str) -> int:
+    """How many words a line outside of fenced blocks has."""
+    if is_indented(line):
+        return 0
+    return sum(1 for word in line.split() if any(map(str.isalnum, word)))
 
 
 def is_indented(line: str) -> bool:
