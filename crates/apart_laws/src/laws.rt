@@ -7,11 +7,12 @@ ghost use Rattle.step_replay.specs.declared.steps.Step.{Step};
 ghost use Rattle.investor_views.specs.InvestorDues.{due_to_investor};
 ghost use Rattle.apart_laws.specs.Apart.{AreOneThere};
 
-/// A law: in every venue, where two days whose steps come one by one have the same steps on one
-/// side, and in neither anybody asks a dealer of the other side, what was due to each investor and
-/// to each dealer of that side is one list in both, and each firm there was sent the same messages,
-/// byte for byte. On the other side the days may differ in all messages, whatever they are and
-/// however many, in turns and in sweeps. It does nothing.
+/// Nothing on one side of a venue changes what is due to an investor (`investors`) or a dealer
+/// (`dealers`) on the other side, or what it is sent (`sent`).
+///
+/// The premises: on each of the two days, nobody asks a dealer of the other side, and all turns of
+/// a step's actor follow the step. On the first side the days may differ in all messages, whatever
+/// they are and however many, in turns and in sweeps.
 pub fn investors_are_apart()
     ensures investors { (config : Configuration) (side : ℕ → Bool) (steps others : List Step)
         (investor : ℕ) → side investor ≡ true → AreOneThere config side steps others

@@ -13,11 +13,13 @@ ghost use Rattle.day_weaving.specs.declared.weave_plan.Slot.{Slot};
 ghost use Rattle.day_weaving.specs.declared.weaving.WeaveFault.{WeaveFault};
 ghost use Rattle.step_replay.specs.declared.steps.Step.{Step};
 
-/// A law: an order that keeps what is directly before what names each action of the day exactly
-/// once. Where the orders of the desks and rooms name each action exactly once too, as they do on
-/// each day that is woven, no action stands in it before one that is directly before it. So where
-/// of some actions each has another of them directly before it, there is no such order. It does
-/// nothing.
+/// An order that keeps what is directly before what names each action of the day exactly once
+/// (`once`).
+///
+/// Where the orders of the desks and rooms name each action exactly once too, as they do on each
+/// day that is woven, no action stands in it before one that is directly before it (`before`). So
+/// where of some actions each has another of them directly before it, there is no such order
+/// (`circle`).
 pub fn orders_keep_what_is_before()
     ensures once { (day : RecordedDay) (slots : List Slot) → spec.KeepsOrder day slots
         → (action : ActionRef) → is_some (recorded.action_in day action) ≡ true
@@ -29,12 +31,12 @@ pub fn orders_keep_what_is_before()
         → form.AreNamedOnce day → spec.IsCircle day actions → spec.KeepsOrder day slots → ⊥ }
 {}
 
-/// A law: what is kept by counting is an order by what is directly before what. Where the orders of
-/// the desks and rooms name each action exactly once, a list of actions has each in its turn, as
-/// [`weave`](crate::weave) counts them, exactly where it has each action of the day once, behind all
-/// that are directly before it. So the steps of a day that is woven are its actions in such an
-/// order, and where of some actions each has another of them directly before it, there is no such
-/// order. It does nothing.
+/// Where the orders of the desks and rooms name each action exactly once, a list of actions has
+/// each in its turn, as `weave` counts them, exactly where it has each action of the day once,
+/// after all that are directly before it (`kept`, `counted`).
+///
+/// So the steps of a day that is woven are its actions in such an order (`woven`), and where of
+/// some actions each has another of them directly before it, there is no such order (`circle`).
 pub fn orders_are_kept_by_counting()
     ensures kept { (day : RecordedDay) (slots : List Slot) → form.AreNamedOnce day
         → spec.KeepsOrder day slots → order.IsOrder day slots }
@@ -48,16 +50,16 @@ pub fn orders_are_kept_by_counting()
         → form.AreNamedOnce day → spec.IsCircle day actions → order.IsOrder day slots → ⊥ }
 {}
 
-/// A law: a record that is of a day of a venue is not malformed. So no malformed record is woven.
-/// It does nothing.
+/// A record that is of a day of a venue is not malformed, so no malformed record is woven.
 pub fn well_formed_days_are_not_malformed()
     ensures { (config : Configuration) (day : RecordedDay) → form.IsWellFormed config day
         → form.IsMalformed config day → ⊥ }
 {}
 
-/// A law: where a day of a venue has an order that is kept, what is true of a fault of its weaving
-/// is that a firm differs, or that memory was refused. So such a day is woven, or has one of these
-/// faults; it is never called malformed or a cycle. It does nothing.
+/// Where a day of a venue has an order that is kept, what is true of a fault of its weaving is that
+/// a firm differs, or that memory was refused.
+///
+/// So such a day is woven, or has one of these faults; it is never called malformed or a cycle.
 pub fn days_with_an_order_are_no_cycle()
     ensures { (config : Configuration) (day : RecordedDay) (slots : List Slot) (fault : WeaveFault)
         → form.IsWellFormed config day → spec.KeepsOrder day slots

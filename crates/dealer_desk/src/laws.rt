@@ -36,7 +36,9 @@ pub fn the_same_facts_have_the_same_notes()
         → dealer_notes date row events ≡ dealer_notes date row others }
 {}
 
-/// There is a note, or none, for each message that a desk sent.
+/// There are as many notes as messages that a desk sent, each a note or none.
+///
+/// It ends at: what a note says, which `dealer_desk::DealerDesk::notes` ensures.
 pub fn each_message_has_its_note()
     ensures { (date : List ℕ) (row : DealerRow) (events : List DealerEvent)
         → length (dealer_notes date row events) ≡ length (dealer_output date row events) }
@@ -131,9 +133,12 @@ pub fn quotes_stand_as_their_words_were_settled()
         (book_at desk).quotes }
 {}
 
-/// No verdict asks a price, or who was the cover. At a desk without prices, and without Cover
-/// (694=4) told from Done Away (694=5), each message gets the verdict that it gets at the desk, and
-/// each event adds what it adds there, but for prices and covers.
+/// No verdict of a dealer's desk asks for a price that stands there, or who was the cover. It asks
+/// only for the price of the message itself.
+///
+/// At a desk without prices, and with Cover (694=4) and Done Away (694=5) as one, each message gets
+/// the verdict that it gets at the desk (`verdicts`). Each event adds what it adds there, except
+/// prices and covers (`kept`).
 pub fn no_verdict_asks_a_price()
     ensures verdicts { (book : DealerBook) (date : List ℕ) (row : DealerRow) (moment : ℕ)
         (bytes : List ℕ) → dealer_verdict date row (unpriced_book book) moment bytes

@@ -20,10 +20,9 @@ use step_replay::{Due, dealers_are_given_their_view};
 use venue_rows::{Traders, VenueConfig, rows_are_their_values};
 use venue_text::what_was_due_is_read_back;
 
-/// A law: where `dues` was due to a dealer on a day whose messages have bytes, as all have that
-/// lines spell, the text that `due` prints of it is read as the date, the dealer's row and the same
-/// list, and what `alone` prints for that text is what `replay` prints of the dealer for the day.
-/// It does nothing.
+/// On a day whose messages have bytes, as all have that lines spell, the text that `due` prints of
+/// a dealer is read as the date, the dealer's row and its list (`read`). What `alone` prints for
+/// that text is what `replay` prints of the dealer (`printed`).
 pub fn alone_prints_what_replay_prints(venue: &VenueConfig, dealer: u16, dues: &[Due])
     ensures read { (row : DealerRow) (steps : List Step)
         → spec.WasDue venue.now dealer row steps dues.now

@@ -12,9 +12,8 @@ ghost use Rattle.due_laws.specs.SaidSteps.{has_bytes};
 
 use dealer_desk::limits_are_kept;
 
-/// A law: each message that lines spell has a byte, be it said field by field, byte by byte or
-/// digit by digit, or cut out of pieces; and turns that come behind steps bring none. It does
-/// nothing.
+/// Each message that lines spell has a byte, be it said field by field, byte by byte or digit by
+/// digit, or cut out of pieces (`lines`). Turns that come after steps bring none (`live`).
 pub fn messages_have_bytes()
     ensures lines { (config : ConfigValues) (lines : Lines) (steps : List Step)
         → steps_of config lines ≡ Ok steps → list_all has_bytes steps ≡ true }
@@ -22,11 +21,12 @@ pub fn messages_have_bytes()
         → list_all has_bytes steps ≡ true → list_all has_bytes (live_steps steps) ≡ true }
 {}
 
-/// A law: due text can say all that is due to a dealer, on every day whose messages have bytes, and
-/// so on each that lines spell, in every venue that keeps its limits. Each investor that asks has a
-/// name that a firm may have, and the numbers of quotes and requests are short: a dealer's quotes
-/// are at most 4,096, and its requests no more than the venue has rooms, since each is shown to it
-/// once. It does nothing.
+/// Due text can say all that is due to a dealer, on every day whose messages have bytes (`steps`),
+/// and so on each that lines spell (`lines`), in every venue that keeps its limits.
+///
+/// Each investor that asks has a name that a firm may have. The numbers of quotes and requests are
+/// short: a dealer's quotes are at most 4,096, and its requests no more than the venue has rooms,
+/// since each is shown to it once.
 pub fn what_is_due_can_be_said()
     ensures steps { (config : Configuration) (steps : List Step) (dealer : ℕ)
         → KeepsLimits config → list_all has_bytes steps ≡ true

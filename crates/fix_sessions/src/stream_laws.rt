@@ -5,16 +5,14 @@ ghost use Rattle.fix_sessions.specs.Streams.{BeginNothing, IsMessage, IsSpoilt, 
 ghost use Rattle.fix_sessions.specs.declared.cuts.What.TheVariants as what;
 ghost use Rattle.fix_sessions.specs.declared.cuts.TheConstants.{MOST_MESSAGE};
 
-/// A law: a stream is cut where messages stand, whatever its bytes are.
+/// What is found in any stream of bytes is a whole message with the right length and the right sum
+/// (`found`).
 ///
-/// - What is found is a message: its length and its sum are right, and it stands there whole.
-/// - A message at the front is found; and one behind bytes that begin nothing.
-/// - A message with a wrong sum is passed over, and the search goes on behind it.
-/// - A message is passed over nowhere else: what is found, or waited for, begins no later than it, or
-///   it stands within one with a wrong sum.
-/// - What may begin a message waits for no more bytes than the longest has.
-///
-/// It does nothing.
+/// A message at the front is found (`first`), and one behind bytes that begin nothing (`again`). A
+/// message with a wrong sum is passed over, and the search goes on behind it (`spoilt`). A message
+/// is passed over only within one whose sum is wrong: otherwise what is found, or waited for,
+/// begins no later than it (`none_passed`). What may begin a message waits for no more bytes than
+/// the longest has (`waits`).
 pub fn a_stream_is_cut_where_messages_stand()
     ensures found { (bytes : List ℕ) (skip len : ℕ)
         → next_message bytes ≡ found_at skip (what.Message len)

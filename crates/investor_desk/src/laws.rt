@@ -31,8 +31,9 @@ pub fn facts_after_one_event_more()
         (event_note market (book_of (desk_after market events).facts) more) }
 {}
 
-/// Beside each message stands what is noted of its event, and nothing else is noted: there are as
-/// many notes as messages.
+/// There are as many notes as messages that a desk sent, each a note or none.
+///
+/// It ends at: what a note says, which `investor_desk::InvestorDesk::notes` ensures.
 pub fn each_message_has_its_note()
     ensures { (market : InvestorMarket) (events : List InvestorEvent)
         → length (investor_notes market events) ≡ length (investor_output market events) }
@@ -64,9 +65,11 @@ pub fn what_is_left_is_of_the_day()
         (IsOfDay desk.market) }
 {}
 
-/// No verdict asks a price. At a desk without prices each message gets the verdict that it gets at
-/// the desk, the same requests and quotes are known, and each event adds what it adds there, but
-/// for prices.
+/// No verdict of an investor's desk asks for a price that stands there.
+///
+/// At a desk without prices each message gets the verdict that it gets at the desk (`verdicts`),
+/// the same requests and quotes are known (`known`), and each event adds what it adds there, except
+/// prices (`kept`).
 pub fn no_verdict_asks_a_price()
     ensures verdicts { (market : InvestorMarket) (book : InvestorBook) (moment : ℕ)
         (bytes : List ℕ) → investor_verdict market (unpriced_book book) moment bytes

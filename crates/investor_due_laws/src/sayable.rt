@@ -12,11 +12,12 @@ ghost use Rattle.due_laws.specs.SaidSteps.{has_bytes};
 use dealer_desk::limits_are_kept;
 use investor_views::desks_send_their_view;
 
-/// A law: due text can say all that is due to an investor, on every day whose messages have bytes,
-/// and so on each that lines spell, in every venue that keeps its limits. Each dealer that quotes or
-/// declines has the name of a firm, and the numbers of requests and quotes are short: an investor's
-/// requests are at most 1,024, and of each dealer it is shown no more quotes than that dealer may
-/// give in a day. It does nothing.
+/// Due text can say all that is due to an investor, on every day whose messages have bytes
+/// (`steps`), and so on each that lines spell (`lines`), in every venue that keeps its limits.
+///
+/// Each dealer that quotes or declines has the name of a firm. The numbers of requests and quotes
+/// are short: an investor's requests are at most 1,024, and of each dealer it is shown no more
+/// quotes than that dealer may give in a day.
 pub fn what_is_due_to_an_investor_can_be_said()
     ensures steps { (config : Configuration) (steps : List Step) (investor : ℕ)
         → KeepsLimits config → list_all has_bytes steps ≡ true

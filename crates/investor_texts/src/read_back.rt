@@ -13,12 +13,13 @@ use investor_dues::InvestorDue;
 use market_terms::{Reply, ResponseRef};
 use venue_rows::Name;
 
-/// A law: what is written of what was due to an investor is read back as the same list, whatever
-/// lines stand before it. It does nothing.
+/// What is written of an investor's due list is read again as the same list, whatever lines stand
+/// before it.
 ///
-/// Due text can't say every value of the types: a message of no byte, a dealer that is named as the
-/// venue or its clock, and a number of more than nine digits. No day that lines spell has such a
-/// message or such a dealer (`what_is_due_to_an_investor_can_be_said` of investor_due_laws).
+/// It ends at: the lines of what the investor sees, for which it is only tested; values that due
+/// text can't say: a message of no byte, a dealer that is named as the venue or its clock, and a
+/// number of more than nine digits. (`investor_due_laws::what_is_due_to_an_investor_can_be_said`:
+/// no day that lines spell has them.)
 pub fn what_was_due_to_an_investor_is_read_back(date: &Date, dues: &[InvestorDue])
     ensures { list_all spec.is_sayable dues.now ≡ true → spec.AreReadBack date.now dues.now }
 {

@@ -17,10 +17,12 @@ ghost use Rattle.investor_views.specs.InvestorView.{investor_view};
 
 use step_replay::actions_do_what_comes_by_the_table;
 
-/// A law: what a desk sends for events, whatever they are, is the desk view of what was due by
-/// them; and what it sends for all that comes to it is the investor view of what is due by that.
-/// In a day that is replayed, the desk to which all came has the book of its investor's trail. It
-/// does nothing.
+/// What a desk sends for events, whatever they are, is the desk view of what was due by them
+/// (`by_events`). What it sends for all that comes to it is the investor view of what is due by
+/// that (`by_comings`).
+///
+/// In a day that is replayed, the desk to which all came has the book of its investor's trail
+/// (`by_trail`).
 pub fn desks_send_their_view()
     ensures by_events { (market : InvestorMarket) (events : List InvestorEvent)
         → investor_output market events

@@ -12,8 +12,8 @@ ghost use Rattle.investor_views.specs.InvestorView.{investor_view, seen_by};
 
 use step_replay::{actions_do_what_comes_by_the_table, firms_are_sent_one_list};
 
-/// A law: in every venue, after every list of steps, an investor was sent the investor view of the
-/// market that it sees and of what was due to it. It does nothing.
+/// After every list of steps, what an investor was sent is the investor view of its due list, by
+/// its [market](docs/PROOFS.md#investors).
 pub fn investors_are_sent_their_view()
     ensures { (config : Configuration) (steps : List Step) (investor : ℕ) (row : InvestorRow)
         → investor_numbered config investor ≡ Some row
@@ -23,10 +23,13 @@ pub fn investors_are_sent_their_view()
     actions_do_what_comes_by_the_table();
 }
 
-/// A law over two venues: where an investor sees one market and one list was due to it in both, it
-/// was sent the same messages in both, byte for byte. The limits of the dealers may differ, all
-/// other investors, the investor's number among the firms, the steps of every other firm and the
-/// words of all quotes. It does nothing.
+/// What an investor is sent is a function of its [market](docs/PROOFS.md#investors) and its due
+/// list: where both are the same in two venues, so is every byte.
+///
+/// All else may differ: the limits of the dealers, all other investors, the investor's number among
+/// the firms, the steps of every other firm and the words of all quotes.
+///
+/// It ends at: what the list itself tells; times and numbers on the wire.
 pub fn investors_are_isolated()
     ensures { (one other : Configuration) (steps others : List Step) (investor number : ℕ)
         (row again : InvestorRow)
@@ -39,8 +42,7 @@ pub fn investors_are_isolated()
     investors_are_sent_their_view();
 }
 
-/// A law: what a replay gives of an investor's day, and what a venue sends it that answers as steps
-/// come, are the investor view of what was due to it. It does nothing.
+/// A replay (`days`) and a live venue (`live`) give an investor the investor view of its due list.
 pub fn investors_are_given_their_view()
     ensures days { (config : Configuration) (steps : List Step) (investor : ℕ) (row : InvestorRow)
         → investor_numbered config investor ≡ Some row

@@ -14,8 +14,7 @@ ghost use Rattle.investor_views.specs.NoteView.{note_view};
 
 use step_replay::actions_do_what_comes_by_the_table;
 
-/// A law: in every venue, after every list of steps, the notes beside an investor's messages are
-/// those of the market that it sees and of what was due to it. It does nothing.
+/// The notes beside an investor's messages are the note view of its due list, by its market.
 pub fn investors_are_noted_their_view()
     ensures { (config : Configuration) (steps : List Step) (investor : ℕ) (row : InvestorRow)
         → investor_numbered config investor ≡ Some row
@@ -26,8 +25,8 @@ pub fn investors_are_noted_their_view()
     actions_do_what_comes_by_the_table();
 }
 
-/// A law over two venues: where an investor sees one market and one list was due to it in both, the
-/// same is noted beside its messages in both, whatever else differs. It does nothing.
+/// With the same market and the same due list in two venues, the same is noted beside an investor's
+/// messages, whatever else differs.
 pub fn notes_are_isolated()
     ensures { (one other : Configuration) (steps others : List Step) (investor number : ℕ)
         (row again : InvestorRow)

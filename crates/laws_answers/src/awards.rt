@@ -9,10 +9,12 @@ ghost use Rattle.step_replay.specs.VenueFacts.{of_room};
 ghost use Rattle.step_replay.specs.declared.steps.Step.{Step};
 ghost use Rattle.laws_answers.specs.Awards.{IsInTime};
 
-/// A law: an award is in time. Where a room ended by an award, it was open, the winner's quote stood
-/// in its book, and the moment of the award is before the request's deadline and before the end of the
-/// quote's validity. (It need not be after the quote was accepted: moments need not rise.) So it is in
-/// every venue, after every list of steps. It does nothing.
+/// An award is in time: its moment is before the request's deadline and before the end of the
+/// quote's validity.
+///
+/// A room that was awarded was open, and the winner's quote stood in its book (`specs/Awards`).
+///
+/// It ends at: the moment of the quote, since moments need not rise; that a hit in time is awarded.
 pub fn an_award_is_in_time()
     ensures { (config : Configuration) (steps : List Step) (room : RoomRef)
         (before after : List RoomFact) (award : End) (moment : ℕ)

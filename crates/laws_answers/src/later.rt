@@ -5,9 +5,10 @@ ghost use Rattle.step_replay.specs.AuditTrail as venue;
 ghost use Rattle.step_replay.specs.declared.steps.Step.{Step};
 ghost use Rattle.laws_answers.specs.Later.{BeginsWith};
 
-/// A law: a longer log takes nothing back. What a firm was sent after a list of steps is the
-/// beginning of what it is sent after each longer one, and so are the facts of the day. So a trade
-/// stands, whatever comes later. It does nothing.
+/// A longer log takes nothing back: what a firm was sent after a list of steps begins what it is
+/// sent after each longer list (`sent`), and so do the facts of the day (`facts`; `specs/Later`).
+///
+/// So a trade stands, whatever comes later.
 pub fn a_longer_log_takes_nothing_back()
     ensures sent { (config : Configuration) (steps more : List Step) (firm : ℕ)
         → BeginsWith (venue.sent_to config firm (venue.audit_trail config (steps ++ more)))

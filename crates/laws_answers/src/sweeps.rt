@@ -8,9 +8,10 @@ ghost use Rattle.step_replay.specs.declared.steps.Step.{Step};
 ghost use Rattle.step_replay.specs.declared.steps.Step.TheVariants as step;
 ghost use Rattle.laws_answers.specs.Overdue.{is_overdue};
 
-/// A law: a sweep leaves nothing overdue. After a sweep of one room of the venue, that room is not
-/// open with a deadline at or before the moment of the sweep; and after a `clock` line, which sweeps
-/// all rooms of the venue, no room is. It does nothing.
+/// After a sweep of a room of the venue, that room is not open with a deadline at or before the
+/// sweep's moment (`room`). After a `clock` line no room is (`clock`; `specs/Overdue`).
+///
+/// It ends at: a room still opening, which no sweep ends.
 pub fn a_sweep_leaves_nothing_overdue()
     ensures room { (config : Configuration) (steps : List Step) (room : RoomRef) (moment : ℕ)
         → has_room config room.investor room.n ≡ true

@@ -6,9 +6,15 @@ ghost use Rattle.step_replay.specs.declared.steps.Step.{Step};
 ghost use Rattle.step_replay.specs.declared.steps.Step.TheVariants as step;
 ghost use Rattle.laws_answers.specs.Answered.{Awaits, IsAnsweredOnce, numbers_used};
 
-/// A law: each message in its turn is answered. A message that uses up a number of its firm is
-/// answered at once by exactly one message; or it leaves a hit, a pass or the drops of a cancel of
-/// all, and is sent nothing yet. So it is in every venue, after every list of steps. It does nothing.
+/// For a message that uses up a number of its firm, the firm is sent exactly one message at once,
+/// or work is left.
+///
+/// The work is one duty (a hit, a pass, or the drops of a cancel of all), and the firm is sent
+/// nothing yet (`specs/Answered`).
+///
+/// It ends at: which messages use up a number (of those that a session takes:
+/// [each](docs/PROOFS.md#between-the-wire-and-the-venue)); what the one message says, which is the
+/// desk's definition; what a hit, a pass and a drop lead to.
 pub fn each_message_in_its_turn_is_answered()
     ensures { (config : Configuration) (steps : List Step) (firm moment : ℕ) (bytes : List ℕ)
         → numbers_used config firm

@@ -11,10 +11,8 @@ ghost use Rattle.laws_recovery.specs.Memory.{AreSound, Step, fresh, memory_after
 ghost use Rattle.laws_recovery.specs.Starts.{Act, AreSoundActs, IsReadable, IsRecovered, Stops, World, all_taken, first_world, found, world_after, world_after_all};
 ghost use Rattle.laws_recovery.specs.Used.{AreUsed, IsAbove};
 
-/// A law: a start is a fold. Where these notes are read up to a point, of what the venue gave, then with
-/// more notes behind them, and more that the venue gave, reading goes on from that point: it comes to
-/// what it comes to from the first note on. So a follower that reads batch by batch has what a start has.
-/// It does nothing.
+/// With more notes, and more that the venue gave, a start goes on from where fewer end. So a
+/// follower that reads batch by batch has what a start has.
 pub fn a_start_is_a_fold()
     ensures { (p q : Point) (notes later : List Sealed) (more : List Message)
         → reads_all (Some p) notes ≡ Some q
@@ -22,22 +20,17 @@ pub fn a_start_is_a_fold()
         ≡ reads_all (Some (with_more q more)) later }
 {}
 
-/// A law: what is recovered is the session. After every list of what happens to a gateway and its
-/// database, with kills, commits that fail, failovers and restarts of the venue's process anywhere, from
-/// the day's beginning on (`always`): of all that was put and is not lost, the notes are read, with what the
-/// session was told of the venue's messages, in the order in which the venue gives them; none is refused.
-/// And once these messages have their numbers, what is recovered is what the gateway has in memory: how
-/// often, behind which place and by which act the session was reset, how many messages of the venue it was
-/// given, and their hash; each field of its day but `is_open`, `is_suspended` and `was_taken`; and whatever
-/// is kept, by number, body and moment (but for the answer to a TestRequest that waits). `expected` and
-/// `had` may be lower; but numbers are used up in both, or in neither. Whenever the gateway ends, the next
-/// one refuses no note of what it finds (`readable`). `in_one_life` is the same of one gateway, without a
-/// database.
+/// What a start recovers is the session: the notes that were put and are not lost, with what the
+/// session was told, give what the gateway has in memory (`always`; of one gateway without a
+/// database, `in_one_life`).
 ///
-/// The one assumption is `found` of `specs/Starts`: the database commits a batch whole, at one term, or not
-/// at all. The premises: an act is carried out behind those before it, a reset behind its act and behind each
-/// entry before it, an entry behind the last reset, and no caller broke the numbers of a connection when the
-/// session is told of a message. It does nothing.
+/// That is how often, behind which place and by which act the session was reset, how many messages
+/// of the venue it was given, with their hash, its day, and whatever is kept, by number, body and
+/// moment. A start refuses no note of what it finds (`readable`).
+///
+/// It ends at: whether the venue is open, the firm suspended, and a message taken; an answer to a
+/// TestRequest that waits; `expected` and `had`, which may be lower (but numbers are used up in
+/// both, or in neither).
 pub fn recovered_is_the_session()
     ensures in_one_life { (names : Names) (steps : List Step)
         → AreSound names fresh steps
@@ -54,14 +47,12 @@ pub fn recovered_is_the_session()
         → IsReadable (found w.disk w.flight is_there) }
 {}
 
-/// A law: numbers leave once, across kills. The notes on disk are one sequence, whichever gateways have put
-/// them, and a message of the session's own leaves once its note is there. Of any notes that a start does not
-/// refuse: a number that a note of the session's epoch names is below the next one of the session that is
-/// recovered, and where it is 1, that is not free (`used`); so no number that left is free. And a number is
-/// above those that notes of its epoch named before it, or is 1 or none (`rise`). Under none of them a message
-/// of the venue is kept (`apart`). Of the venue's messages that may leave (`MayLeave`), now and later, until a
-/// reset is carried out, also after kills and failovers: under one number it is one message, with one body
-/// (`one`). It does nothing.
+/// Under one number one message of the venue may leave, now and later, until a reset is carried out
+/// (`one`).
+///
+/// Of any notes that a start does not refuse: a number that a note of this epoch names is not free
+/// (`used`), these numbers rise, but for 1 (`rise`), and no message of the venue is kept under one
+/// of them (`apart`).
 pub fn numbers_leave_once()
     ensures used { (given : List Message) (notes : List Sealed) (p : Point)
         → reads_all (Some (start given)) notes ≡ Some p
@@ -87,14 +78,12 @@ pub fn numbers_leave_once()
         → x ≡ y }
 {}
 
-/// A law: what left is what a start has under its number. A message of the venue leaves once its entry, and
-/// the notes of all lower numbers, are committed (`messages`): whatever a gateway has kept of the venue's
-/// messages, with its number, its body, its moment and whether it is a copy, a start has, whenever the
-/// gateway ends, if the venue gives it for the entries that are found, and if each note that is lost uses no
-/// number, or was put once the session was given it, and none is a reset. A Reject or a BusinessMessageReject
-/// leaves once its note is committed (`rejects`): of any notes that a start does not refuse, each is kept under
-/// its number, with its body and moment, until a reset or a Logon with 141=Y. That the gateway waits so before
-/// anything leaves is its duty, as is the order of what it has put. It does nothing.
+/// Whenever the gateway ends, a start has each message of the venue under the number under which it
+/// was kept, if the entries that are found give it, and each lost note uses no number or was put
+/// behind it, and is no reset (`messages`).
+///
+/// Once its note is there, a Reject or a BusinessMessageReject is kept until a reset or a Logon
+/// with 141=Y (`rejects`).
 pub fn what_left_is_recovered()
     ensures messages { (names : Names) (acts : List Act) (w : World) (is_there : Bool) (x : Kept) (p : Point)
         → AreSoundActs names (Some first_world) acts
@@ -112,18 +101,17 @@ pub fn what_left_is_recovered()
         → IsKept (kept_reject s) (gives_all p p.rest).kept }
 {}
 
-/// A law: nothing is lost or taken twice, across kills. After every list of what happens to a gateway and its
-/// database: a start refuses nothing of what it finds, so there is a gateway (`starts`). Of the entries by
-/// which the venue was given the firm's messages, and which are not lost, those behind the last reset have
-/// numbers that rise, so that none is taken twice (`once`); and the expected number is above them, so that
-/// none is asked for again (`below`). Wherever the gateway ends: if none of the notes that are lost is a reset
-/// or a Logon with 141=Y, each entry that is lost bears a number that the next gateway's session expects, or
-/// one above it, so that the message is asked for again (`again`). And what a note that is there had counted
-/// is not asked for again, until a reset or a Logon with 141=Y (`counted`): so what was answered is not taken
-/// too. In the turn that counts a message it is given to the venue, or answered, or the session's own: so
-/// `no_message_is_counted_and_dropped` of `session_laws`.
+/// Across kills, no message of a firm is taken twice, and one whose entry is lost is not counted.
 ///
-/// The premises are those of `recovered_is_the_session`. It does nothing.
+/// A start refuses no entry of the firm, so it ends nowhere (`starts`). Behind the last reset, the
+/// numbers of the entries that are not lost rise (`once`), and a higher one is expected (`below`).
+/// A lost entry has a number that the next session expects, or one above it, so it is not counted
+/// (the session's rules ask for it again), unless a reset or a Logon with 141=Y is lost with it
+/// (`again`). What a note has counted is not asked for again, until a reset or a Logon with 141=Y
+/// (`counted`).
+///
+/// It ends at: entries before the last reset; a reset, or a Logon with 141=Y, that is lost with an
+/// entry.
 pub fn nothing_is_lost_or_taken_twice()
     ensures starts { (names : Names) (acts : List Act)
         → AreSoundActs names (Some first_world) acts
@@ -149,10 +137,9 @@ pub fn nothing_is_lost_or_taken_twice()
         → s.note.expected ≤ (gives_all p p.rest).session.day.expected }
 {}
 
-/// A law: Rejects stand. A Reject or a BusinessMessageReject may leave once its note is committed (`MayAnswer`).
-/// After every list of acts, with kills, commits that fail and failovers, the gateway that is there keeps it
-/// under its number, with its body and moment, until a note behind it is a reset or a Logon with 141=Y. So it is
-/// sent again as it left. The premises are those of `recovered_is_the_session`. It does nothing.
+/// A Reject or a BusinessMessageReject may leave once its note is committed. Whichever gateway is
+/// there keeps it under its number, with body and moment, until a note behind it is a reset or a
+/// Logon with 141=Y.
 pub fn rejects_stand()
     ensures { (names : Names) (acts more : List Act) (w later : World) (s : Sealed)
         → AreSoundActs names (Some first_world) acts
@@ -164,15 +151,14 @@ pub fn rejects_stand()
         → IsKept (kept_reject s) later.memory.kept }
 {}
 
-/// A law: what has left stands, at whichever gateway. A message of the venue may leave once its entry is
-/// committed, and once each note that is not uses no number or was put behind it (`MayLeave`). What may leave
-/// as the venue's n-th message to the firm is the n-th that the committed entries give, with the moment of its
-/// entry (`given`). What may leave may leave ever after, with its number, its body and its moment, until an
-/// operator's reset is carried out: after every list of acts, with kills, commits that fail and failovers
-/// (`stays`). And a gateway that has lost its term and goes on, and commits nothing, says no message of the
-/// venue but what the next gateway keeps under that number (`next`).
+/// What left stands, at whichever gateway, until a reset is carried out: a message of the venue
+/// that may leave may leave ever after, under its number and as it was (`stays`).
 ///
-/// The premises are those of `recovered_is_the_session`; that a gateway waits so is its duty. It does nothing.
+/// It may leave once its entry is committed, and each note that is not is no reset, and uses no
+/// number or was put behind it. The n-th that may leave is the n-th that the committed entries give
+/// (`given`). A gateway that has lost its term says no other than the next one keeps (`next`).
+///
+/// It ends at: that a gateway waits so, which is tested.
 pub fn what_left_stands()
     ensures given { (names : Names) (acts : List Act) (w : World) (x : Kept)
         → AreSoundActs names (Some first_world) acts

@@ -13,9 +13,15 @@ ghost use Rattle.venue_rows.specs.Rows.{Configuration};
 
 use dealer_desk::{limits_are_kept, what_is_asked_is_of_the_day};
 
-/// A law: each accepted request is shown. Where no duty is left, as behind each line of a live day,
-/// each request of an investor that was accepted was shown once to each dealer that it names. So it is
-/// in every venue, after every list of steps. It does nothing.
+/// Each accepted request is shown once to each of the dealers that the venue read in it.
+///
+/// Its room stands at one place in the list of rooms that this dealer was shown (`specs/Shown`).
+///
+/// It ends at: days on which a duty is left; three things that definitions say, and no law: that
+/// these are the dealers whose names (448) the investor wrote (`InvestorRules`), that no other
+/// dealer is shown the request (`RoomSteps`; on threads [a record says
+/// so](docs/PROOFS.md#days-on-threads)), and that a QuoteRequest (35=R) is sent with each
+/// (`DealerOutput`).
 pub fn each_accepted_request_is_shown()
     ensures { (config : Configuration) (steps : List Step) (investor : ℕ)
         (request : AcceptedRequest) (dealer : ℕ)

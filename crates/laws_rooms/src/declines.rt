@@ -12,10 +12,11 @@ ghost use Rattle.venue_rows.specs.Rows.{Configuration};
 
 use dealer_desk::{limits_are_kept, what_is_asked_is_of_the_day};
 
-/// A law: each decline comes to its investor. Where no duty is left, as behind each line of a live day,
-/// of each dealer that declined in a room the room's investor was sent 297=11, with the request (131)
-/// and the dealer's name (448); or the request was closed at the investor's desk. So it is in every
-/// venue, after every list of steps. It does nothing.
+/// Of each dealer that declined in a room its investor was sent 35=AI with 297=11, the request's
+/// 131 and the dealer's name (448); or the request was closed at its desk (`specs/Declines`).
+///
+/// It ends at: days on which a duty is left; the order of what an investor is told; which further
+/// fields the messages have.
 pub fn each_decline_comes_to_its_investor()
     ensures { (config : Configuration) (steps : List Step) (room : RoomRef) (dealer : ℕ)
         → NoDutyIsLeft (venue.audit_trail config steps)

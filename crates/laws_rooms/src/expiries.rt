@@ -11,10 +11,12 @@ ghost use Rattle.venue_rows.specs.declared.investor_rows.InvestorRow.{InvestorRo
 
 use dealer_desk::{limits_are_kept, what_is_asked_is_of_the_day};
 
-/// A law: each expiry is told once. Where no duty is left, as behind each line of a live day, the
-/// messages 297=7 of an investor name, in order, its requests whose rooms a sweep ended: there is one
-/// for each such room, and none for any other. So it is in every venue, after every list of steps. It
-/// does nothing.
+/// An investor's messages 297=7 name, in order, its requests whose rooms a sweep ended, each once
+/// (`specs/Expiries`).
+///
+/// No room ends twice (`request_room::a_room_ends_once`).
+///
+/// It ends at: days on which a duty is left; which fields the messages have.
 pub fn each_expiry_is_told_once()
     ensures { (config : Configuration) (steps : List Step) (investor : ℕ) (row : InvestorRow)
         → investor_numbered config investor ≡ Some row

@@ -14,10 +14,11 @@ ghost use Rattle.venue_rows.specs.Rows.{Configuration};
 
 use dealer_desk::{limits_are_kept, what_is_asked_is_of_the_day};
 
-/// A law: each quote comes to its investor. Where no duty is left, as behind each line of a live day,
-/// each quote that took effect in a room was shown to the room's investor on that request, with its
-/// dealer, its price and its valid-until; or the request was closed at the investor's desk. So it is in
-/// every venue, after every list of steps. It does nothing.
+/// Each quote that took effect in a room was shown to its investor on that request, with its
+/// dealer, word, price and valid-until; or the request was closed at the investor's desk
+/// (`specs/Told`).
+///
+/// It ends at: days on which a duty is left; the order of what an investor is told; withdrawals.
 pub fn each_quote_comes_to_its_investor()
     ensures { (config : Configuration) (steps : List Step) (room : RoomRef) (quote : PostedQuote)
         → NoDutyIsLeft (venue.audit_trail config steps)

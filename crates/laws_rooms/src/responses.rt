@@ -10,10 +10,15 @@ ghost use Rattle.venue_rows.specs.declared.investor_rows.InvestorRow.{InvestorRo
 
 use dealer_desk::{limits_are_kept, what_is_asked_is_of_the_day};
 
-/// A law: each hit and each pass is answered, in order. Where no duty is left, as behind each line of a
-/// live day, take the messages 35=AI of an investor that have 693 and are not 297=9. Their 693, their 52
-/// and their 117 are, as one list, those of its messages that left a hit or a pass, in their order. So
-/// it is in every venue, after every list of steps. It does nothing.
+/// Each hit and each pass that a message left as a duty is answered once, in order, and nothing
+/// else is.
+///
+/// The answers are the investor's messages 35=AI that have 693 and are not 297=9. They bear the
+/// 693, the 52 and the k of 117=Qk that stand in the duty, as the desk read them
+/// (`specs/Responses`).
+///
+/// It ends at: days on which a duty is left; which fields the answers have; whether an answer is an
+/// award or a refusal.
 pub fn each_response_is_answered()
     ensures { (config : Configuration) (steps : List Step) (investor : ℕ) (row : InvestorRow)
         → investor_numbered config investor ≡ Some row

@@ -12,11 +12,10 @@ ghost use Rattle.venue_rows.specs.Rows.{Configuration};
 
 use dealer_desk::{limits_are_kept, what_is_asked_is_of_the_day};
 
-/// A law: where no duty is left, no room is opening (`opening`): a room that was opened is open, or has
-/// ended. And each dealer that the request of a room names was shown it, under a number of its own
-/// (`shown`). On a live day no duty is left behind a line (`no_duty_is_left_on_a_live_day`), so there
-/// no sweep meets a room that is opening. So it is in every venue, after every list of steps. It does
-/// nothing.
+/// No room is opening: one that was opened is open, or has ended (`opening`). Each dealer that the
+/// request of a room names was shown it (`shown`).
+///
+/// It ends at: days on which a duty is left.
 pub fn no_room_is_left_opening()
     ensures opening { (config : Configuration) (steps : List Step) (room : RoomRef)
         → NoDutyIsLeft (venue.audit_trail config steps)

@@ -16,11 +16,11 @@ ghost use Rattle.wire_messages.specs.ToVenue.{IsGiven};
 
 use crossing_laws::what_is_taken_crosses;
 
-/// A law: what a session takes is counted. Take whatever bytes of a firm a session gives the venue,
-/// and what `to_venue` makes of them under the number that the firm's desk expects next. While that
-/// is a number that a message can bear (at most 999,999,999), the desk neither drops it nor finds it
-/// out of sequence: it uses up its number, whatever stands at the desk, and whatever the message
-/// says. It does nothing.
+/// The venue counts what a session gives it: under the number that the desk expects, while that is
+/// at most 999,999,999, the message is neither dropped nor out of sequence.
+///
+/// So it is at a dealer's desk (`dealer`) and an investor's (`investor`), whatever stands there,
+/// and whatever the message says.
 pub fn what_a_session_takes_is_counted()
     ensures dealer { (names : Names) (s : Session) (connection : ℕ) (clock : Clock)
         (bytes given : List ℕ) (is_known : Bool) (denial : Option Denial) (number : ℕ)

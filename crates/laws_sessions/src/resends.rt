@@ -15,13 +15,16 @@ ghost use Rattle.session_laws.specs.Days.{Event, after};
 ghost use Rattle.session_laws.specs.Kept.{Entry, IsKept, Within};
 ghost use Rattle.laws_sessions.specs.Fed.{IsDue, IsFed, MayResend, times_left, wants_number};
 
-/// A law: a resend comes to its end. A ResendRequest that names numbers which have left makes the
-/// session want each of them again (`asked`). Take a session that is not spent, on a connection that has
-/// settled, whose resend has not gone past what has left. Let it be handed what it wants, as it was
-/// kept, turn by turn, and let nothing else come. Then it wants no number after as many turns as
-/// numbers are left to be sent again, and as many more as are left to be sent at first. And once it
-/// wants none, each kept message that was asked for has left once, unless it is the answer to a
-/// TestRequest; and so has each that had not left before. It does nothing.
+/// A resend comes to its end, if nothing else comes.
+///
+/// A ResendRequest for numbers that have left makes the session want each of them again (`asked`).
+/// If its connection has settled and holds no Reject back, it is handed what it wants, and nothing
+/// else comes, it wants no number after as many turns as numbers are left (`ends`). Each kept
+/// message that was asked for (except an answer to a TestRequest), and each that had not left, has
+/// then left once (`leaves`). The premises: the session's numbers are not used up, and its resend
+/// has not gone past what has left.
+///
+/// It ends at: a line that has not settled; whatever else comes meanwhile.
 pub fn a_resend_comes_to_its_end()
     ensures asked { (a : Live) (now : ℕ) (m : Origin) (first last : Reading) (low high : ℕ)
         → asked_of (highest_left a.line) first last ≡ asked.Numbers low high

@@ -16,11 +16,14 @@ ghost use Rattle.venue_rows.specs.declared.dealer_rows.DealerRow.{DealerRow};
 use dealer_desk::{limits_are_kept, what_is_asked_is_of_the_day};
 use trade_laws::no_duty_is_left_on_a_live_day;
 
-/// A law: on a live day a cancel of all is answered by one report for each quote that was droppable, in
-/// their order: 297=17, or 297=5 where the quote was lifted. Take a message of a dealer whose verdict is
-/// that drops follow, on a day whose steps come one by one and leave no duty, before it and behind it
-/// (`no_duty_is_left_on_a_live_day`). Behind its line the dealer was sent these reports more, and
-/// nothing else. It does nothing.
+/// After the line by which a dealer cancels all its quotes, it was sent one 35=AI more for each
+/// quote that was droppable, in the order of acceptance, and nothing else.
+///
+/// Each has the quote's 117, the moment of the message, and 297=17, or 297=5 if the quote was
+/// lifted (`specs/Cancels`).
+///
+/// It ends at: days whose steps do not come one by one, or leave a duty; which fields the reports
+/// have.
 pub fn a_cancel_of_all_is_answered()
     ensures { (config : Configuration) (steps : List Step) (dealer moment last : ℕ)
         (row : DealerRow) (bytes : List ℕ) → dealer_numbered config dealer ≡ Some row

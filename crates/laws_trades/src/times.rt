@@ -18,14 +18,17 @@ ghost use Rattle.venue_rows.specs.declared.dealer_rows.DealerRow.{DealerRow};
 
 use laws_answers::an_award_is_in_time;
 
-/// A law: a trade has a time, which is that of the hit. Where a room was awarded at a moment, a
-/// message of its investor came at that moment by which it hit a quote on that request (`hit`); and a
-/// room is awarded at one moment (`once`). A dealer's notice 694=1 bears it (`dealers`): the room of the
-/// request that it names was awarded at the moment of the notice (52). So does an investor's answer
-/// 297=0 to a hit (`investors`): each message to an investor is what an event at its desk says, at the
-/// moment of the event, and where it is such an answer a room of the investor was awarded then. That
-/// the moment is before the deadline and in the quote's validity says `an_award_is_in_time`. So it is
-/// in every venue, after every list of steps. It does nothing.
+/// Both messages of a trade bear the moment of the award, at which a message of the investor came.
+///
+/// A room is awarded at one moment (`once`). At that moment a message of its investor came in its
+/// turn which, for some list of what may stand at the investor's desk, hits a quote on that request
+/// (`hit`). A dealer's notice 694=1 bears in 52 (60 on the wire) the moment at which the room of
+/// its request was awarded (`dealers`), and an investor's answer 297=0 to a hit one at which a room
+/// of the investor was (`investors`; `specs/TradeTimes`).
+///
+/// It ends at: which fields the messages have; that this list is what stood there as the message
+/// came (that the answer bears the 52 of the hit that it answers:
+/// `laws_rooms::each_response_is_answered`); that the room is that of the answer's 131.
 pub fn a_trade_has_a_time()
     ensures hit { (config : Configuration) (steps : List Step) (room : RoomRef) (moment : ℕ)
         → IsAwarded (venue.audit_trail config steps).facts room moment

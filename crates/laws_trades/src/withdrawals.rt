@@ -15,12 +15,15 @@ ghost use Rattle.venue_rows.specs.declared.dealer_rows.DealerRow.{DealerRow};
 use shown_laws::quotes_are_shown_once;
 use step_replay::no_quote_is_lifted_and_withdrawn;
 
-/// A law: what is confirmed as withdrawn is never traded. Each message that a dealer is sent is what
-/// an event at its desk says (`said`). Where it is 297=17 with the QuoteID (117) of a quote, or 297=0
-/// of a quote that replaces it, that quote is lifted by no hit (`unlifted`), and no trade is of it
-/// (`untraded`): neither before nor behind the message. By `both_sides_of_a_trade_agree` each 297=0
-/// to a hit and each 694=1 is of a trade where no duty is left. So it is in every venue, after every
-/// list of steps. It does nothing.
+/// A quote whose withdrawal was confirmed is never traded.
+///
+/// Each message to a dealer is what an event at its desk says (`said`). If it says that a quote is
+/// withdrawn (297=17 with its QuoteID, 117) or replaced (297=0 of the new one), no hit lifts that
+/// quote (`unlifted`), and no `Trade` is of it (`untraded`), before or after the message
+/// (`specs/Withdrawals`).
+///
+/// It ends at: days on which a duty is left: on others each 297=0 to a hit and each 694=1 is of a
+/// `Trade`; which fields the messages have.
 pub fn what_is_withdrawn_is_never_traded()
     ensures said { (config : Configuration) (steps : List Step) (dealer : ℕ) (row : DealerRow)
         (bytes : List ℕ) → dealer_numbered config dealer ≡ Some row

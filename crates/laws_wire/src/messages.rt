@@ -9,12 +9,11 @@ ghost use Rattle.step_replay.specs.declared.steps.Step.{Step};
 ghost use Rattle.venue_rows.specs.Rows.{Configuration};
 ghost use Rattle.wire_laws.specs.Carried.{IsMade};
 
-/// A law: each message that a firm is sent is one of the venue's. It is the text of one of the messages
-/// of `OutMessage` (`written`); whoever reads it as a frame reads one of the venue's types in MsgType
-/// (35): 3, R, S, AG, AI or AJ (`typed`); and what is made of it for the wire is no Heartbeat (35=0),
-/// whatever is told beside it (`kept`). So of what a session keeps of the venue's messages none is an
-/// answer to a TestRequest, which alone a gap fill may cover. So it is in every venue, after every list
-/// of steps. It does nothing.
+/// Each message that a firm is sent is one that the venue writes (`written`), whoever reads it
+/// reads one of its types (`typed`), and what the wire makes of it is no 35=0, so that no gap fill
+/// may cover it (`kept`).
+///
+/// The types (35) are 3, R, S, AG, AI and AJ.
 pub fn each_message_is_of_a_type_of_the_venue()
     ensures written { (config : Configuration) (steps : List Step) (firm : ℕ) (bytes : List ℕ)
         → In bytes (venue.sent_to config firm (venue.audit_trail config steps))

@@ -179,9 +179,9 @@ fn settlement_taken(asked: Option<u32>, settlement: Option<Settled>) -> Option<S
     Some(settled)
 }
 
-/// A law: whatever the liftings were that no dealer saw, where each event of a desk had a
-/// settlement exactly where it asked a word, and all settlements of one word agree, what the desk
-/// sent is the dealer view of what was due by its events. It does nothing.
+/// Where each event of a desk had a settlement exactly where it asked a word, and all settlements
+/// of one word agree, what the desk sent is the dealer view of what was due by its events, whatever
+/// the liftings were that no dealer saw.
 pub fn recorded_dealers_are_sent_their_view()
     ensures { (date : List ℕ) (row : DealerRow) (events : List DealerEvent)
         (word_of : ℕ → Option Settled)

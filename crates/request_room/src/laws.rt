@@ -27,15 +27,22 @@ pub fn an_ended_room_changes_no_more()
         → room_after (events ++ more) ≡ room_after events }
 {}
 
-/// A room ends once at most, and is awarded once at most.
+/// A request is awarded at most once: its room ends at most once (`ends`), and is awarded at most
+/// once (`awards`).
+///
+/// It ends at: that a venue has one room for a request, which `RoomRef` says.
 pub fn a_room_ends_once()
     ensures ends { (events : List RoomEvent) → length (filter is_ending (room_after events)) ≤ 1 }
     ensures awards { (events : List RoomEvent) → length (filter is_award (room_after events)) ≤ 1 }
 {}
 
-/// The cover of an award is the best of the quotes of the other dealers: no other's is better, and
-/// each other's that was posted earlier is worse. It is never the winner's, and there is one
-/// exactly where another dealer's quote stands.
+/// Of any book `cover_of`, by which the definition of a hit names the cover, gives the best quote
+/// of another dealer (`best`, `another`), and nothing only where there is none (`none`).
+///
+/// No other's quote is better, and each other's that was posted earlier is worse.
+///
+/// It ends at: that the cover of an award is that of its room's book, which the definition of a hit
+/// says.
 pub fn the_cover_is_the_best_other_quote()
     ensures best { (side : Side) (winner : ℕ) (book : List PostedQuote)
         → IfSome (cover_of side winner book) (λ cover. IsBest side (others winner book) cover) }
@@ -66,9 +73,11 @@ pub fn an_awarded_word_was_lifted()
         (λ winner. (moment : ℕ) × Contains events (event.Hit winner.1 moment (Some Lifted)))) }
 {}
 
-/// No step asks a price but to find the cover. In a room without prices, and without who was the
-/// cover, each step does what it does in the room, but for both; a hit meets the same checks, and
-/// the same dealers are heard.
+/// A room's step asks for prices only to find the cover.
+///
+/// In a room without prices, and without who was the cover, each step does what it does in the
+/// room, except for both (`kept`), a hit meets the same checks (`hits`), and the same dealers are
+/// heard (`heard`).
 pub fn no_step_asks_a_price()
     ensures kept { (facts : List RoomFact) (more : RoomEvent)
         → map unpriced (event_facts (map unpriced facts) (unpriced_event more))

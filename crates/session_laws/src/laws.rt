@@ -28,12 +28,15 @@ ghost use Rattle.session_laws.specs.Restarts.{restarted};
 ghost use Rattle.session_laws.specs.Sent.{AreHanded, AreTurnsRight, Ascends, IsTurnRight, all_news};
 ghost use Rattle.session_laws.specs.Stamps.{is_of_kept, leads_body, without_header};
 
-/// A law: nothing without a Logon. From a session that no connection has, after every list of
-/// events: a message leaves on a connection only if a Logon of the firm with right credentials came
-/// on it, and the connection has the session since; or if the event is that Logon. The venue is given
-/// a message only if it came on a connection that is logged on so. And bytes move the expected number
-/// only on such a connection. The premise is that `question` was asked of the very bytes that
-/// `came` judges. It does nothing.
+/// Nothing reaches the venue, or leaves, before a Logon of the firm with right credentials.
+///
+/// From a session that no connection has, after every list of events: the venue is given nothing
+/// from a connection until such a Logon has come on it, and only while it has the session since
+/// (`taken`). Otherwise the session sends something there only in the turn of such a Logon
+/// (`sent`), and bytes that come there move the expected number only if they are one (`moved`). The
+/// premise: `question` was asked of the very bytes that `came` judges.
+///
+/// It ends at: the verdict on credentials, which is the gateway's.
 pub fn nothing_without_a_logon()
     ensures sent { (names : Names) (s : Session) (events : List Event) (e : Event)
         → s.phase ≡ phase.Away
@@ -51,8 +54,8 @@ pub fn nothing_without_a_logon()
         → IsLoggedOn names s events connection ⊎ IsLogon names connection e }
 {}
 
-/// A law: each message once. Between two resets by an operator the numbers of what the venue is given
-/// rise, so that none is given twice. It does nothing.
+/// Between two resets by an operator, the numbers under which the venue is given messages rise, so
+/// it is given none twice under one number.
 pub fn each_message_is_taken_once()
     ensures { (names : Names) (s : Session) (events : List Event)
         → without_resets events ≡ true
@@ -60,18 +63,22 @@ pub fn each_message_is_taken_once()
         → Rises (if s.day.was_taken then s.day.expected else 1) (taken names s events) }
 {}
 
-/// A law: no message is counted and dropped. Bytes move the expected number only in these ways: by one,
-/// if they are one message with right length and right sum and one readable 34 that equals it (or if
-/// they are more than 65,536 bytes and such a 34 ends with SOH among the first 65,536); to a higher one,
-/// by the firm's own SequenceReset, in reset mode or as a gap fill; by one, on a Logon that bears it and
-/// is answered; or to 1, by a Logon with 141=Y and 34=1 that is counted at once and answered, while the
-/// venue has been given nothing of the firm. In the turn that counts a message, it is given to the
-/// venue, or it is answered (by a Reject or a BusinessMessageReject that names its number in 45, or by a
-/// Logout; a TestRequest by a Heartbeat with its 112), or it is the session's own (Logon, Heartbeat,
-/// ResendRequest, Reject, SequenceReset, Logout); one that is not read any further, for its BeginString
-/// or its length, may end the connection with no Logout. Nothing else but an operator's reset moves the
-/// number. And where the day's mark says that the venue has been given nothing, that is so since the
-/// last reset by an operator. It does nothing.
+/// Every message that uses up a number is passed on, answered, or the session's own. (One that is
+/// read no further, because of its version or length, may end the connection instead.)
+///
+/// Bytes move the expected number by one, on a message that bears it; to a higher one, by the
+/// firm's SequenceReset, in reset mode or as a gap fill; or to 1, by its Logon with 141=Y, which is
+/// counted at once, while the venue has been given nothing of it. Else only an operator's reset
+/// moves it (`bytes`, `others`). The message has the right length, the right sum and one readable
+/// 34, or it has more than 65,536 bytes and such a 34 ends with SOH among the first 65,536. In the
+/// turn that counts it, it is given to the venue, answered, or the session's own (35=A, 0, 2, 3, 4
+/// or 5); or it is read no further and ends the connection. Any Logout answers; a Reject or a
+/// BusinessMessageReject only if its RefSeqNum (45) is the message's number; a Heartbeat with its
+/// 112 a TestRequest. An answer may be kept in that turn, and leave later. Where the day's mark
+/// says that the venue has been given nothing, that is so since the last reset by an operator
+/// (`marked`).
+///
+/// It ends at: what the session does with its own; when an answer leaves that is kept.
 pub fn no_message_is_counted_and_dropped()
     ensures bytes { (names : Names) (s : Session) (connection : ℕ) (clock : Clock) (bytes : List ℕ)
         (is_known : Bool) (denial : Option Denial)
@@ -87,12 +94,15 @@ pub fn no_message_is_counted_and_dropped()
         → taken names s events ≡ [] }
 {}
 
-/// A law: what leaves. Between two resets by an operator what is kept for the firm leaves without 43
-/// under numbers that rise, so in the order in which it was kept, and each at most once; and it is kept
-/// under numbers that rise. Whatever leaves is kept under its number, with 43 or without, or is a
-/// message of the session's own; and a gap fill covers no number under which a message of the venue or
-/// a Reject is kept: at each event, and so after every list of them. The premise is that what is kept is
-/// handed back as it was kept. It does nothing.
+/// Between two resets by an operator, what is kept for the firm leaves for the first time in its
+/// order and at most once (`in_order`). What leaves again was kept.
+///
+/// It is kept under numbers that rise (`kept`). A gap fill covers nothing that was kept except a
+/// Heartbeat (an answer to a TestRequest), which is not sent again. Whatever leaves is kept under
+/// its number, or is the session's own: in each turn (`right`), and so after every list of events
+/// (`always`). The premise: what is kept is handed back as it was kept.
+///
+/// It ends at: whether what is kept leaves at all.
 pub fn what_leaves_was_given()
     ensures in_order { (names : Names) (s : Session) (events : List Event)
         → s.phase ≡ phase.Away
@@ -114,19 +124,22 @@ pub fn what_leaves_was_given()
         → AreTurnsRight names s kept events }
 {}
 
-/// A law: what is kept of the venue's messages, in the order of their numbers, is what the venue gave, in
-/// the order in which it gave them: each once, and none is lost. Between two resets by an operator, after
-/// every list of events; the Rejects that a Logon with 141=Y drops are the session's own. It does nothing.
+/// What is kept of the venue's messages is what the venue gave, in its order: each once, and none
+/// is lost.
+///
+/// Between two resets by an operator. The Rejects that a Logon with 141=Y drops are the session's
+/// own.
 pub fn what_is_kept_was_given()
     ensures { (names : Names) (s : Session) (kept : List Entry) (events : List Event)
         → without_resets events ≡ true
         → of_venue (all_kept names s kept events) ≡ of_venue kept ++ given_bodies names s events }
 {}
 
-/// A law: what leaves of a message that is kept, with 43 or without, is what is kept, field by field. Only
-/// the header behind MsgType (35) is the session's: SenderCompID (49), TargetCompID (56), MsgSeqNum (34),
-/// PossDupFlag (43), SendingTime (52), OrigSendingTime (122) and PossResend (97). The premise is that what
-/// is kept does not begin with one of these fields behind its 35. It does nothing.
+/// What leaves of a kept message is what is kept, field by field, except the session's fields of
+/// the header behind MsgType (35): 49, 56, 34, 43, 52, 122 and 97.
+///
+/// The premise: the body begins with none of these. (What the wire makes of a message of the venue
+/// begins with 1181.)
 pub fn what_leaves_is_what_is_kept()
     ensures { (names : Names) (date : List ℕ) (moment : ℕ) (said : Said)
         → is_of_kept said.word ≡ true
@@ -134,12 +147,11 @@ pub fn what_leaves_is_what_is_kept()
         → without_header (said_fields names date moment said) ≡ kept_fields said.word }
 {}
 
-/// A law: a session is bounded. A turn sends at most two messages. Each number of a session, and of what
-/// it says, is one that a message may have, with at most nine digits, and its heartbeat is at most 300
-/// seconds: after every list of events, whatever a firm sends, and whatever an operator orders. By its
-/// type a session has numbers and marks alone, so it holds no message of a firm. And a frame, as `write`
-/// and `keep` make one of whatever they are given, has at most 4,096 bytes: two that leave and one that is
-/// kept fit into 12,288. It does nothing.
+/// A turn sends at most two messages (`two`), each number of a session is one that a message may
+/// have (`numbers`, `said`, `begins`), and a frame has at most 4,096 bytes (`framed`).
+///
+/// So it is after every list of events, whatever a firm sends, and whatever an operator orders. By
+/// its type a session has numbers and marks alone, so it holds no message of a firm.
 pub fn a_session_is_bounded()
     ensures two { (t : Turn) → length (sent_by t) ≤ 2 }
     ensures numbers { (names : Names) (s : Session) (events : List Event)
@@ -152,11 +164,10 @@ pub fn a_session_is_bounded()
         → length bytes ≤ 4096 }
 {}
 
-/// A law: a restart and a failover change nothing. A session that is made of what was kept of its day
-/// is what the first one is once its connections are gone; so it does what that one would have done,
-/// whatever comes. And what is kept is what a resend gives: under the number that is asked for, with 43,
-/// whether it had left or not. (By `what_leaves_was_given` what was kept before a connection leaves on it
-/// in no other way.) It does nothing.
+/// A session made of what was kept goes on as the first one would have, once its connections are
+/// gone (`one`, `two`, `waits`, `from_then_on`), and a resend gives what is kept (`resent`).
+///
+/// It ends at: what is handed back, which is the gateway's.
 pub fn a_restart_changes_nothing()
     ensures one { (s : Session) (connection : ℕ)
         → has s.phase connection ≡ true
@@ -184,8 +195,8 @@ pub fn a_restart_changes_nothing()
         ≡ said line.again way.Leaves (word.Again stored.body stored.is_copy stored.first) }
 {}
 
-/// A law: a message of the venue that had left before it was kept is given again by a start, under
-/// the same number, with the same bytes, and the day goes on as it did. It does nothing.
+/// A message of the venue that a session made of what was kept is given again stands as before:
+/// under the same number, with the same bytes (`kept`), and the day goes on as it did (`day`).
 pub fn a_message_is_given_again_as_it_was()
     ensures day { (s : Session) (moment later : ℕ) (body : List Field)
         → is_spent s ≡ false

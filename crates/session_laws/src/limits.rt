@@ -5,8 +5,8 @@ ghost use Rattle.fix_sessions.specs.declared.cuts.TheConstants as cuts;
 ghost use Rattle.fix_sessions.specs.declared.state.TheConstants as state;
 ghost use Rattle.fix_sessions.specs.declared.texts.TheConstants as texts;
 
-/// The limits of a session are these numbers. Definitions name them by constants of the code, and so
-/// would hold of others, too. It does nothing.
+/// The waits of a session, its last number, and the lengths of what it reads, keeps and says are
+/// the numbers of the pages. (Definitions name them by constants of the code.)
 pub fn session_limits_are_as_written()
     // The last number that is used up, the bytes of the longest message that is read, and those of
     // the longest body that is kept.

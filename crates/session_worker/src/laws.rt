@@ -24,8 +24,11 @@ ghost use Rattle.step_replay.specs.EachLemmas.{Every};
 
 use step_replay::dealers_are_sent_their_view;
 
-/// A law: on a day on threads a dealer was sent the dealer view of the date, its own row and what
-/// was due to it, however the threads ran. It does nothing.
+/// On a day on threads each dealer was sent the dealer view of its due list, read off the events at
+/// its desk (`recorded_days/specs/DayDues`; `recorded_days::DayRecord::due`).
+///
+/// So the headline holds for two such days, and for one such day and a list of steps
+/// (`dealers_are_isolated_on_threads`).
 pub fn dealers_of_a_day_are_sent_their_view()
     ensures { (config : Configuration) (inboxes : List (List Inbound)) (sweeps : List Sweep)
         (day : RecordedDay) (dealer : ℕ) (row : DealerRow)
@@ -34,11 +37,12 @@ pub fn dealers_of_a_day_are_sent_their_view()
         ≡ option_map (dealer_view config.date row) (day_dues_of config day dealer) }
 {}
 
-/// The headline of days on threads: where a dealer has one date, one row and one list of what was
-/// due to it on two of them, it was sent the same messages on both, byte for byte; and so where one
-/// of the two is a list of steps that is replayed. The threads may have run in any way, and what
-/// came from all other firms may differ, with the numbers of the firms, the bonds and all other
-/// rows. It does nothing.
+/// With one date and one row, equal due lists of a dealer give equal messages, byte for byte, on
+/// two days on threads (`days`), and on one such day and in a list of steps that is replayed
+/// (`replayed`).
+///
+/// The threads may have run in any way. What came from all other firms may differ, with the numbers
+/// of the firms, the bonds and all other rows.
 pub fn dealers_are_isolated_on_threads()
     ensures days { (one other : Configuration) (inboxes others : List (List Inbound))
         (sweeps clocked : List Sweep) (day later : RecordedDay) (dealer number : ℕ)
@@ -59,10 +63,10 @@ pub fn dealers_are_isolated_on_threads()
     dealers_are_sent_their_view();
 }
 
-/// A law: each check of a day decides what it is for. It finds no dealer, no room and no action at
-/// fault exactly where the promise is kept, so what [`crate::run_day`] promises of a record is what
-/// it checked, and no day that keeps it is refused for it. The rooms are those of a venue. It does
-/// nothing.
+/// Each check of a day on threads finds no fault exactly where its sentence in `DayPromises` is
+/// true, so no day that keeps them is refused.
+///
+/// For quotes and replies that is the test of one room. The rooms are those of a venue.
 pub fn checks_decide_what_is_promised()
     ensures told { (config : Configuration) (rooms : List DayRoom) (dealers : List DealerLists)
         → names_of rooms ≡ rooms_of_venue config

@@ -21,9 +21,8 @@ ghost use Rattle.shown_laws.specs.ShownRequests.{ComesFromARequest, IsWrittenReq
 ghost use Rattle.shown_laws.specs.ShownRequests.{ShowsWhatWasAsked, at_dealer, at_investor};
 ghost use Rattle.shown_laws.specs.ShownRequests.{room_of};
 
-/// A law: each request that was accepted is what its investor wrote, and each request that a dealer
-/// was shown is a request that was accepted. So it is in every venue, after every list of steps. It
-/// does nothing.
+/// Each request that was accepted is what its investor wrote (`accepted`), and each that a dealer
+/// was shown is one that was accepted (`shown`).
 pub fn requests_are_shown_as_written()
     ensures accepted { (config : Configuration) (steps : List Step) (investor : ℕ)
         (request : AcceptedRequest)
@@ -36,9 +35,9 @@ pub fn requests_are_shown_as_written()
         → ComesFromARequest config (venue.audit_trail config steps).facts ask }
 {}
 
-/// A law: each quote that was accepted is what its dealer wrote, on a request that its investor
-/// wrote, and each quote that an investor was shown is a quote that was accepted: its price, its
-/// valid-until and its dealer. So it is in every venue, after every list of steps. It does nothing.
+/// Each quote that was accepted is what its dealer wrote, on a request that its investor wrote
+/// (`accepted`), and each quote that an investor was shown is one that was accepted: its price, its
+/// valid-until and its dealer (`shown`).
 pub fn quotes_are_shown_as_written()
     ensures accepted { (config : Configuration) (steps : List Step) (dealer : ℕ)
         (quote : AcceptedQuote)
@@ -50,9 +49,10 @@ pub fn quotes_are_shown_as_written()
         → ComesFromAQuote config (venue.audit_trail config steps).facts investor shown }
 {}
 
-/// A law: the quotes of one dealer on one request are shown in the order in which they were
-/// accepted: by the dealer's own numbers, which count its accepted quotes as they came. So it is in
-/// every venue, after every list of steps. It does nothing.
+/// The quotes of a dealer on one request are shown in the order in which they came: by the dealer's
+/// own numbers, which count its accepted quotes.
+///
+/// It ends at: quotes of two dealers, or on two requests.
 pub fn quotes_are_shown_in_order()
     ensures order { (config : Configuration) (steps : List Step) (investor : ℕ)
         → AreShownInOrder config (venue.audit_trail config steps).facts investor }
@@ -61,8 +61,8 @@ pub fn quotes_are_shown_in_order()
         → AreNumberedAsTheyCame (venue.audit_trail config steps).facts dealer }
 {}
 
-/// A law: each accepted quote is shown at most once, and came in a message of its own: no two have
-/// one QuoteID (117). So it is in every venue, after every list of steps. It does nothing.
+/// A quote is shown at most once (`once`), and came in a message of its own (`own`): no two have
+/// one QuoteID (117).
 pub fn quotes_are_shown_once()
     ensures once { (config : Configuration) (steps : List Step) (investor : ℕ)
         → AreShownOnce config (venue.audit_trail config steps).facts investor }
@@ -71,15 +71,16 @@ pub fn quotes_are_shown_once()
         → AreOfTheirOwn (venue.audit_trail config steps).facts dealer }
 {}
 
-/// A law over the bytes that firms were sent, in every venue, after every list of steps: it says
-/// what whoever reads them as a frame finds there. Where an investor reads that it is shown a quote
-/// (35=S), it reads what the dealer wrote that it finds in 448: price (132 or 133), bond (48) and
-/// valid-until (62) of one accepted Quote of that dealer; on a request of its own: side (54),
-/// quantity (134 or 135) and 131 are as the investor wrote them. Of these messages there is one for
-/// each quote that the investor was shown, in their order. Where a dealer reads that it is shown a
-/// request (35=R), it reads what the investor wrote that it finds in 448: bond (48), side (54),
-/// quantity (38) and deadline (126); this in a venue whose configuration keeps its limits, since a
-/// dealer whose name has an SOH could read anything behind it. It does nothing.
+/// What is shown was quoted: of messages read as frames, a Quote shows an investor what its dealer
+/// wrote (`investors`), and a QuoteRequest shows a dealer what its investor wrote (`dealers`), read
+/// as prices, bonds and moments.
+///
+/// There is one Quote for each quote that the investor was shown, in their order (`in_turn`). What
+/// a dealer is shown needs a configuration that keeps its limits, since a dealer whose name has an
+/// SOH could read anything after it.
+///
+/// It ends at: made-up lists; bytes that are no frame; that the request names the dealer which is
+/// shown it; that there is a QuoteRequest for each request that a dealer was shown.
 pub fn what_is_shown_was_quoted()
     ensures investors { (config : Configuration) (steps : List Step) (investor : ℕ)
         (row : InvestorRow) (message : List ℕ)

@@ -7,10 +7,14 @@ ghost use Rattle.step_replay.specs.AuditTrail as venue;
 ghost use Rattle.step_replay.specs.declared.steps.Step.{Step};
 ghost use Rattle.silence_laws.specs.Silence.{AreOneBesides, brings_hit, has_hit};
 
-/// A law: in every venue, where two days are one but for the steps of other dealers, and nobody
-/// hits a quote in either, what was due to a dealer is one list in both, and it was sent the same
-/// messages, byte for byte. The days may differ in the messages of other dealers, whatever they are
-/// and however many, and in their turns. It does nothing.
+/// If two days of one venue differ only in messages and turns of other dealers, and nobody hits a
+/// quote on either, a dealer's due lists are the same (`due`), and it is sent the same bytes
+/// (`sent`).
+///
+/// The messages of the other dealers may be any, and any number.
+///
+/// It ends at: all that comes after the first hit of a day, of whichever investor, on whichever
+/// request. (Tests: there only the cover tells whether another dealer quoted.)
 pub fn dealers_are_silent_to_each_other()
     ensures due { (config : Configuration) (steps others : List Step) (dealer : ℕ)
         (row : DealerRow) → dealer_numbered config dealer ≡ Some row
@@ -24,9 +28,8 @@ pub fn dealers_are_silent_to_each_other()
         ≡ venue.sent_to config dealer (venue.audit_trail config others) }
 {}
 
-/// A law: a hit takes a message. In a day to which none comes that is a hit, a QuoteResponse
-/// (35=AJ) whose QuoteRespType (694) is 1, of a firm that is no dealer, nobody hits. It does
-/// nothing.
+/// A day to which no QuoteResponse (35=AJ) with 694=1 comes from a firm that is no dealer has no
+/// hit.
 pub fn a_hit_takes_a_message()
     ensures { (config : Configuration) (steps : List Step)
         → list_any (brings_hit config) steps ≡ false → has_hit config steps ≡ false }

@@ -8,11 +8,10 @@ ghost use Rattle.step_replay.specs.VenueFacts.{of_dealer};
 ghost use Rattle.step_replay.specs.declared.steps.Step.{Step};
 ghost use Rattle.step_laws.specs.AskedWords.{HasStep, WouldLift, WouldWithdraw};
 
-/// A law: every word that is settled was settled by a withdrawal or a hit of that day, in every
-/// venue, after every list of steps. Where a quote's word is withdrawn, one of the steps is a
-/// message of its dealer, or the turn of a drop of its dealer, which asked the word to withdraw it;
-/// where it is lifted, one of the steps is the turn of a hit which asked it to lift it. Each of them
-/// is judged by the day before it. It does nothing.
+/// Each settled word was settled by something of that day that asked it: a message of its dealer or
+/// the turn of a drop of its dealer (`withdrawn`), or the turn of a hit (`lifted`).
+///
+/// Each of them is judged by the day before it.
 pub fn settled_words_were_asked()
     ensures withdrawn { (config : Configuration) (steps : List Step) (dealer : ℕ) (row : DealerRow)
         (quote : ℕ) → dealer_numbered config dealer ≡ Some row

@@ -8,10 +8,10 @@ ghost use Rattle.step_replay.specs.DutyEffects.{duty_effect};
 ghost use Rattle.step_replay.specs.VenueFacts.{Fact};
 ghost use Rattle.venue_laws.specs.Conditions.{has_word_asked, is_met};
 
-/// A law: an action whose test fails does nothing, whatever facts stand: it adds no fact, and leaves
-/// no duty. So it is with each duty and its test, and with a dealer's message that asks a word which
-/// the venue does not have. (In a venue no test fails: `venue_laws::steps_meet_their_tests`.) It
-/// does nothing.
+/// A duty whose test (`venue_laws/specs/Conditions`) fails does nothing (`duties`), and neither
+/// does a dealer's message that asks a word which the venue does not have (`messages`).
+///
+/// They add no fact and leave no duty, whatever facts stand.
 pub fn actions_that_fail_their_tests_do_nothing()
     ensures duties { (config : Configuration) (facts : List Fact) (actor : Actor) (duty : Duty)
         → is_met config facts actor duty ≡ false

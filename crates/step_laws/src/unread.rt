@@ -19,11 +19,10 @@ ghost use Rattle.step_laws.specs.Unread.{IsUnread, IsSameDealer, IsSameInvestor}
 
 use fix_fields::frame_of_is_the_reading;
 
-/// A law: bytes that are no frame, and a frame without a readable MsgSeqNum (34), change nothing at
-/// a dealer's desk but the list of its events. They are dropped, whenever they come; they ask no
-/// word and leave nothing to be done; and whatever comes behind them finds the desk as if they had
-/// not come: its numbers, requests and quotes, and every message that the dealer is sent, byte for
-/// byte. It does nothing.
+/// Bytes that are no frame, and a frame without a readable MsgSeqNum (34), change only a dealer's
+/// desk's list of events: whatever follows finds the desk as if they had not come (`unheard`).
+///
+/// They are dropped, whenever they come (`dropped`), ask no word and leave no duty (`silent`).
 pub fn a_dealers_desk_hears_no_unread_bytes()
     ensures dropped { (date : List ℕ) (row : DealerRow) (book : DealerBook) (moment : ℕ)
         (bytes : List ℕ) → IsUnread bytes
@@ -40,7 +39,11 @@ pub fn a_dealers_desk_hears_no_unread_bytes()
     frame_of_is_the_reading();
 }
 
-/// A law: the same of an investor's desk. It does nothing.
+/// Bytes that are no frame, and a frame without a readable MsgSeqNum (34), change only an
+/// investor's desk's list of events: whatever follows finds the desk as if they had not come
+/// (`unheard`).
+///
+/// They are dropped, whenever they come (`dropped`), and leave no duty (`silent`).
 pub fn an_investors_desk_hears_no_unread_bytes()
     ensures dropped { (market : InvestorMarket) (book : InvestorBook) (moment : ℕ)
         (bytes : List ℕ) → IsUnread bytes

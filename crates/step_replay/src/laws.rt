@@ -18,8 +18,12 @@ ghost use Rattle.step_replay.specs.StepFaults.{firms_of};
 ghost use Rattle.step_replay.specs.VenueFacts.{Fact, of_dealer};
 ghost use Rattle.step_replay.specs.declared.steps.Step.{Step};
 
-/// A law: in every venue, after every list of steps, a dealer was sent the dealer view of the date,
-/// its own row and what was due to it. It does nothing.
+/// What a dealer is sent is a function of the date, its row and its [due
+/// list](docs/PROOFS.md#the-headline).
+///
+/// After every list of steps the messages are the dealer view of these three.
+///
+/// It ends at: what the list itself tells; times and numbers on the wire.
 pub fn dealers_are_sent_their_view()
     ensures { (config : Configuration) (steps : List Step) (dealer : ℕ) (row : DealerRow)
         → dealer_numbered config dealer ≡ Some row
@@ -27,10 +31,12 @@ pub fn dealers_are_sent_their_view()
         ≡ dealer_view config.date row (venue.due_to dealer (venue.audit_trail config steps)) }
 {}
 
-/// The headline, a law over two venues: where a dealer has one date, one row and one list of what
-/// was due to it in both, it was sent the same messages in both, byte for byte. The steps of every
-/// firm may differ, and their order, the numbers of the firms, the bonds and all other rows. It
-/// does nothing.
+/// With one date and one row, equal due lists of a dealer give equal messages, byte for byte.
+///
+/// The two venues may differ in the steps of every firm and their order, the numbers of the firms,
+/// the bonds and all other rows.
+///
+/// It ends at: what the list itself tells; times and numbers on the wire.
 pub fn dealers_are_isolated()
     ensures { (one other : Configuration) (steps others : List Step) (dealer number : ℕ)
         (row : DealerRow) → one.date ≡ other.date
@@ -41,8 +47,9 @@ pub fn dealers_are_isolated()
         ≡ venue.sent_to other number (venue.audit_trail other others) }
 {}
 
-/// A law: in every venue, after every list of steps, no quote of a dealer is both lifted and
-/// withdrawn. It does nothing.
+/// No quote of a dealer is both lifted and withdrawn.
+///
+/// It ends at: the messages that tell of it: `laws_trades::what_is_withdrawn_is_never_traded`.
 pub fn no_quote_is_lifted_and_withdrawn()
     ensures { (config : Configuration) (steps : List Step) (dealer : ℕ) (row : DealerRow)
         (quote : ℕ) → dealer_numbered config dealer ≡ Some row
@@ -51,9 +58,9 @@ pub fn no_quote_is_lifted_and_withdrawn()
         ≡ false }
 {}
 
-/// A law: a firm's messages are one list, whoever gives it. What a replay gives of its day, what it
-/// was sent by the audit trail, and, where steps come one by one, what the venue gives of it, are
-/// the same messages in one order. It does nothing.
+/// A firm's messages are one list, whoever gives it: what a replay gives of its day (`days`), what
+/// it was sent by the audit trail, and, where steps come one by one, what the venue gives of it
+/// (`live`) are the same messages in one order.
 pub fn firms_are_sent_one_list()
     ensures days { (config : Configuration) (steps : List Step) (firm : ℕ)
         → nat_lt firm (firms_of config) ≡ true
@@ -65,8 +72,8 @@ pub fn firms_are_sent_one_list()
         ≡ venue.sent_to config firm (live_trail config steps) }
 {}
 
-/// A law: what a replay gives of a dealer's day, and what a venue sends it that answers as steps
-/// come, are the dealer view of what was due to it. It does nothing.
+/// What a replay gives of a dealer's day, and what a venue sends it that answers as steps come, are
+/// the dealer view of its due list.
 pub fn dealers_are_given_their_view()
     ensures days { (config : Configuration) (steps : List Step) (dealer : ℕ) (row : DealerRow)
         → dealer_numbered config dealer ≡ Some row
@@ -80,10 +87,10 @@ pub fn dealers_are_given_their_view()
         ≡ dealer_view config.date row (venue.due_to dealer (live_trail config steps)) }
 {}
 
-/// A law: what an action of the venue adds and leaves is what comes by the market's table. The table
-/// gives of a duty (`placed`) or a sweep (`swept`) the one place where it is done and what comes
-/// there, and the place's own line says what that adds; where nothing comes, nothing happens. It does
-/// nothing.
+/// What an action of the venue adds and leaves is what comes by the market's table: it gives of a
+/// duty (`placed`) or a sweep (`swept`) the one place where it is done and what comes there.
+///
+/// The place's own line says what that adds; where nothing comes, nothing happens.
 pub fn actions_do_what_comes_by_the_table()
     ensures duties { (config : Configuration) (facts : List Fact) (by : Actor) (duty : Duty)
         → duty_effect config facts by duty ≡ effect_where config facts (placed config by duty) }

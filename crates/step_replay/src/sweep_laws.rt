@@ -11,8 +11,8 @@ ghost use Rattle.step_replay.specs.declared.live.LiveVenue.{LiveVenue};
 ghost use Rattle.step_replay.specs.declared.steps.Step.{Step};
 ghost use Rattle.step_replay.specs.declared.steps.Step.TheVariants as step;
 
-/// A law: a sweep of a room that is not due changes nothing, so nothing is sent. A room is due that
-/// is open, where the deadline of its request has come. It does nothing.
+/// A sweep of a room that is not due changes nothing, so nothing is sent. A room is due that is
+/// open, where the deadline of its request has come.
 pub fn sweeps_of_rooms_that_are_not_due_do_nothing()
     ensures one { (config : Configuration) (trail : AuditTrail) (room : RoomRef) (moment : ℕ)
         → may_expire (of_room room trail.facts) moment ≡ false

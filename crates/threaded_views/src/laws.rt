@@ -21,10 +21,11 @@ use investor_views::{
 };
 use venue_laws::steps_meet_their_tests;
 
-/// A law: on a day on threads an investor was sent the desk view of the market that it sees and of
-/// what was due to it, however the threads ran. Where each event at its desk fits what stood there,
-/// that is the investor view. On a day that a list of steps sends as it is recorded, as one that is
-/// woven, it was sent the investor view of what was due to it by these steps. It does nothing.
+/// On threads, an investor's due list is read off the events at its desk, and what it was sent is
+/// the desk view of that (`sent`). This is the investor view if the day is woven (`woven`), and
+/// wherever each event fits what stood at the desk before it (`fitting`).
+///
+/// It ends at: that each event fits, which `KeepsDay` does not say.
 pub fn investors_of_a_day_are_sent_their_view()
     ensures sent { (config : Configuration) (inboxes : List (List Inbound)) (sweeps : List Sweep)
         (day : RecordedDay) (investor : ℕ) (row : InvestorRow)
@@ -47,8 +48,8 @@ pub fn investors_of_a_day_are_sent_their_view()
     investors_are_given_their_view();
 }
 
-/// A law: what is due to an investor in a list of steps fits what stands at its desk, item by item,
-/// so its desk view is its investor view. It does nothing.
+/// What is due to an investor in a list of steps fits what stands at its desk, item by item, so its
+/// desk view is its investor view.
 pub fn lists_of_a_replay_fit()
     ensures { (config : Configuration) (steps : List Step) (investor : ℕ) (row : InvestorRow)
         → investor_numbered config investor ≡ Some row
@@ -59,11 +60,12 @@ pub fn lists_of_a_replay_fit()
     desks_send_their_view();
 }
 
-/// A law over two days on threads: where an investor sees one market and one list was due to it on
-/// both, it was sent the same messages on both, byte for byte; and so where one of the two is a
-/// list of steps that is replayed. The threads may have run in any way, and all may differ that is
-/// not of that market or that list: the limits of the dealers, all other investors, the numbers of
-/// the investors, what came from all other firms and the words of all quotes. It does nothing.
+/// The same market and the same due list gave an investor the same bytes on two days on threads
+/// (`days`), and on one such day and in a list of steps that is replayed (`replayed`).
+///
+/// The threads may have run in any way. All else may differ: the limits of the dealers, all other
+/// investors, the numbers of the investors, what came from all other firms and the words of all
+/// quotes.
 pub fn investors_are_isolated_on_threads()
     ensures days { (one other : Configuration) (inboxes others : List (List Inbound))
         (sweeps clocked : List Sweep) (day later : RecordedDay) (investor number : ℕ)

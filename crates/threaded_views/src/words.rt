@@ -9,10 +9,11 @@ ghost use Rattle.recorded_days.specs.declared.actions.Sweep.{Sweep};
 ghost use Rattle.session_worker.specs.KeptDays.{KeepsDay};
 ghost use Rattle.threaded_views.specs.DayWords.{HasWon, WasAsked};
 
-/// A law: on a day on threads a word has one settlement. Whoever asked it, at a dealer's desk or in
-/// a room, was told the same, however the threads ran; and where its quote won, that it is lifted.
-/// So no dealer was told that a quote is withdrawn which traded, and no investor that a quote is its
-/// own which a dealer had withdrawn. It does nothing.
+/// On a day on threads all who asked a word were told one settlement (`asked`): lifted, where its
+/// quote won (`won`).
+///
+/// So no dealer was told that a quote is withdrawn which traded, and no investor that a quote is
+/// its own which a dealer had withdrawn.
 pub fn words_of_a_day_have_one_settlement()
     ensures asked { (config : Configuration) (inboxes : List (List Inbound)) (sweeps : List Sweep)
         (day : RecordedDay) (word : ℕ) (one other : Settled)

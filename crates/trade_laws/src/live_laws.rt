@@ -8,10 +8,13 @@ ghost use Rattle.step_replay.specs.declared.live.LiveVenue.{LiveVenue};
 ghost use Rattle.step_replay.specs.declared.steps.Step.{Step};
 ghost use Rattle.trade_laws.specs.LiveDuties.{NoDutyIsLeft};
 
-/// A law: on a live day no duty is left behind a line. Where no actor of a live venue has a duty
-/// left, as at the start of the day, none has one after the next step or sweep that it answered
-/// (`Answers`, `AnswersSweeps`: what `LiveVenue::step` and `LiveVenue::sweep` ensure where they are
-/// Ok). It does nothing.
+/// After each line that it answers, the live venue has no work left.
+///
+/// No actor has a duty at the start (`start`), and none has one after a step (`step`) or a sweep
+/// (`sweep`) that the venue answers (`Answers`, `AnswersSweeps`) if none had before. So laws that
+/// end at days on which a duty is left hold after each line of `live`, and of what it prints.
+///
+/// It ends at: what was put into the queues; a venue to which memory was refused.
 pub fn no_duty_is_left_on_a_live_day()
     ensures start { (config : Configuration) → NoDutyIsLeft (live_trail config []) }
     ensures step { (config : Configuration) (steps : List Step) (next : Step)

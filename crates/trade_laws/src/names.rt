@@ -12,12 +12,15 @@ ghost use Rattle.trade_laws.specs.TradeNames.{NamesOneTrade, hits_of, notices_to
 
 use dealer_desk::{limits_are_kept, what_is_asked_is_of_the_day};
 
-/// A law: a trade has one name, in every venue whose configuration keeps its limits, after every
-/// list of steps. The k-th hit of an investor on a quote of this dealer that was answered 297=0, and
-/// the k-th notice 694=1 that this dealer was told on a request of this investor, are of one
-/// request: the dealer's list of rooms begins the investor's. So the day, the two names and k name
-/// a trade; each side counts k in its own list, by the names (448) that stand in it. It does
-/// nothing.
+/// A trade has one name: by the firms' names (448), as they stand at each firm's desk, the rooms of
+/// a dealer's notices 694=1 on an investor's requests begin the list of those of the investor's
+/// answers 297=0 to hits of the dealer's quotes.
+///
+/// So the k-th of each is of one request, and the day, the two names and k name a trade. The
+/// premise: the configuration keeps its limits.
+///
+/// It ends at: two firms of one name, which no program takes (`KeepsLimits`); the `trade` lines
+/// from which TradeID (1003) is made, which are tested.
 pub fn a_trade_has_one_name()
     ensures { (config : Configuration) (steps : List Step) (investor dealer : ℕ)
         (buyer : InvestorRow) (seller : DealerRow) → KeepsLimits config
@@ -29,11 +32,10 @@ pub fn a_trade_has_one_name()
     what_is_asked_is_of_the_day();
 }
 
-/// A law: a trade has its name on both sides. Where no duty is left, as behind each line of a live day,
-/// the list of the rooms of an investor's hits on quotes of a dealer that were answered 297=0, and the
-/// list of the rooms of that dealer's notices 694=1 on requests of that investor, are one. So each trade
-/// has one place k in both, and no other trade of the two has it. So it is in every venue whose
-/// configuration keeps its limits, after every list of steps. It does nothing.
+/// Where no duty is left, the two lists of `a_trade_has_one_name` are one: each trade has one place
+/// in both.
+///
+/// It ends at: days on which a duty is left; what `a_trade_has_one_name` ends at.
 pub fn a_trade_is_named_on_both_sides()
     ensures { (config : Configuration) (steps : List Step) (investor dealer : ℕ)
         (buyer : InvestorRow) (seller : DealerRow) → KeepsLimits config

@@ -13,13 +13,16 @@ ghost use Rattle.trade_laws.specs.SentTrades.{AnswerIsOfTrade, NoticeIsOfTrade, 
 
 use dealer_desk::{limits_are_kept, what_is_asked_is_of_the_day};
 
-/// A law: both sides of a trade are sent it alike, in every venue whose configuration keeps its
-/// limits and is of a date, after every list of steps that leaves no duty. It says what whoever
-/// reads a message as a frame finds there. Where an investor reads an answer 297=0 to its hit of Qk,
-/// it is of a trade whose quote was shown as Qk, and the dealer of that quote was sent a notice 694=1
-/// with its 117, bond, side, quantity and price. Where a dealer reads a notice 694=1, it bears the
-/// 117, bond, side, quantity and price of a trade, and its investor was sent the answer. It does
-/// nothing.
+/// The same of sent messages, as anyone reads them as frames (`frame_of`): both sides of a trade
+/// are sent it.
+///
+/// A QuoteStatusReport (35=AI) with a QuoteRespID (693) and 297=0 is of a trade, and its 117 is the
+/// Qk of that; it bears no bond, quantity or price (`answers`). A QuoteResponse (35=AJ) with 694=1
+/// is of one, field by field (`notices`). The other side was sent its message, which has no other
+/// reading. The premises: the configuration keeps its limits, and the day is a date.
+///
+/// It ends at: days on which a duty is left; bytes that are no frame (of at most 4,096): the type
+/// `SentMessage` says that each is one.
 pub fn both_sides_of_a_trade_are_sent_it()
     ensures answers { (config : Configuration) (steps : List Step) (investor : ℕ)
         (buyer : InvestorRow) (message : List ℕ) → KeepsLimits config → IsDate config.date

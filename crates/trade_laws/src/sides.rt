@@ -15,12 +15,18 @@ ghost use Rattle.trade_laws.specs.Trades.{Trade, answered, at_investor};
 
 use dealer_desk::{limits_are_kept, what_is_asked_is_of_the_day};
 
-/// A law: both sides of a trade agree, in every venue, after every list of steps that leaves no
-/// duty. Each answer 297=0 to an investor's hit of Qk is of a trade: the dealer that Qk names was
-/// told 694=1 of that request once, by a notice with the 117 of the quote that Qk showed, its bond,
-/// side, quantity and price; nobody else was; the word of that quote is lifted, and no other word of
-/// the request's quotes is. And each notice 694=1 is of a trade, so it has such an answer. It does
-/// nothing.
+/// Both sides of a trade agree: each hit of Qk that was awarded (`answers`), and each 694=1 that a
+/// dealer was told (`notices`), is of a `Trade`.
+///
+/// Only the dealer that Qk names was told 694=1 of that request, once, with the 117 of a quote of
+/// its on that request, which has the price and the valid-until that Qk showed, and with the bond,
+/// side and quantity that were asked for. Of the words of that request's quotes only this quote's
+/// is lifted.
+///
+/// It ends at: days on which a duty is left: there the notice may be to come; by which of two
+/// quotes with one price and one valid-until the dealer knows the trade: that this quote has the
+/// word of Qk. (`Trade.moment` is the notice's; that it is the award's,
+/// `laws_trades::a_trade_has_a_time` says.)
 pub fn both_sides_of_a_trade_agree()
     ensures answers { (config : Configuration) (steps : List Step)
         (investor request quote price : ℕ) (dealer : List ℕ)

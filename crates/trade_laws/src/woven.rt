@@ -16,10 +16,13 @@ ghost use Rattle.trade_laws.specs.SentTrades.{AnswerIsOfTrade, NoticeIsOfTrade, 
 use crate::sent::both_sides_of_a_trade_are_sent_it;
 use step_replay::firms_are_sent_one_list;
 
-/// A law: both sides of a trade are sent it alike on a day on threads, where a list of steps that
-/// leaves no duty sends it as it is recorded, as the steps do into which `weave` makes the day. What
-/// `both_sides_of_a_trade_are_sent_it` says of the messages of a firm, it says of those that stand in
-/// the record. It does nothing.
+/// The same of the messages in the record of a day on threads that a list of steps sends, as the
+/// steps do into which `weave` makes a day.
+///
+/// The premises are those of `both_sides_of_a_trade_are_sent_it`, of these steps.
+///
+/// It ends at: days on which a duty is left (no theorem says that a day did all its duties); a
+/// record that no list of steps sends (`weave` gives one wherever it is Ok).
 pub fn both_sides_of_a_trade_are_sent_it_on_threads()
     ensures answers { (config : Configuration) (day : RecordedDay) (steps : List Step)
         (investor : ℕ) (buyer : InvestorRow) (sent : List (List ℕ)) (message : List ℕ)

@@ -6,8 +6,8 @@ ghost use Rattle.input_lines.specs.declared.step_lines.TheConstants as stepped;
 ghost use Rattle.live_runs.specs.declared.live.TheConstants as live;
 ghost use Rattle.step_replay.specs.declared.steps.TheConstants as replay;
 
-/// The limits of an input are these numbers. Contracts name them by constants of the code, and so
-/// would hold of others, too. It does nothing.
+/// The limits of an input are the numbers of the pages. (Contracts name them by constants of the
+/// code, and so would hold of others, too.)
 pub fn inputs_have_these_limits()
     // The bytes of an input, and the lines of a day that is answered line by line.
     ensures bytes { input.MOST_INPUT ≡ 16777216 }

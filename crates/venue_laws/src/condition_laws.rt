@@ -11,11 +11,11 @@ ghost use Rattle.step_replay.specs.declared.steps.Step.{Step};
 
 use dealer_desk::{limits_are_kept, what_is_asked_is_of_the_day};
 
-/// A law: a duty's test never fails, in every venue, after every list of steps. The duty that
-/// stands first in the queue of an actor meets the test of its action, and a message of a dealer
-/// asks no word but one that the venue has. What comes from outside, as a sweep of a room that the
-/// venue does not have or a message of a firm that it does not know, may fail its test. It does
-/// nothing.
+/// In a venue the duty that an actor does next meets its test (`duties`), and no dealer's message
+/// asks a word which the venue does not have (`messages`).
+///
+/// It ends at: what comes from outside and may fail its test, such as a sweep of a room, or a
+/// message of a firm, that the venue does not have.
 pub fn steps_meet_their_tests()
     ensures duties { (config : Configuration) (steps : List Step) (actor : Actor) (duty : Duty)
         (rest : List Duty)

@@ -11,8 +11,8 @@ ghost use Rattle.venue_rows.specs.declared.dealer_rows.TheConstants.DealerRow as
 ghost use Rattle.venue_rows.specs.declared.investor_rows.TheConstants.InvestorRow as investor;
 ghost use Rattle.venue_rows.specs.declared.traders.TheConstants.Traders as traders;
 
-/// The limits of the market's messages and of a configuration are these numbers. Contracts name
-/// them by constants of the code, and so would hold of others, too. It does nothing.
+/// The limits of the market's messages and of a configuration are the numbers of the pages.
+/// (Contracts name them by constants of the code, and so would hold of others, too.)
 pub fn limits_are_as_written()
     // A frame, its body, and the milliseconds of a day.
     ensures frame { frames.MOST_FRAME ≡ 4096 }

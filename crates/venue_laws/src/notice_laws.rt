@@ -22,11 +22,12 @@ ghost use Rattle.step_replay.specs.declared.steps.Step.{Step};
 
 use dealer_desk::{limits_are_kept, what_is_asked_is_of_the_day, words_are_asked_event_by_event};
 
-/// A law: every word that a dealer asks is settled as the dealer view says, in every venue, after
-/// every list of steps. Where a message of its own or a drop asked the word of a quote, the first
-/// settlement that stands behind it is of that quote, and it is *lifted* where a lifting of the
-/// quote that counts stands before it in what was due to the dealer, else *withdrawn*. Each
-/// settlement in the dealer's trail is the one that the view gives at its place. It does nothing.
+/// If a lifting of a quote that [counts](docs/MARKET.md#a-dealers-day-alone) stands in the due list
+/// before the quote's dealer asks its word, the word was settled lifted; else withdrawn.
+///
+/// Where a message of the dealer or a drop asks the word of a quote, the first settlement that
+/// stands behind it is of that quote (`asked`). Each settlement in the dealer's trail is the one
+/// that the dealer view gives at its place (`answered`).
 pub fn words_are_settled_as_the_view_says()
     ensures asked { (config : Configuration) (steps : List Step) (dealer : ℕ) (row : DealerRow)
         (before after : List DealerEntry) (entry : DealerEntry) (quote : ℕ)
@@ -44,8 +45,11 @@ pub fn words_are_settled_as_the_view_says()
     words_are_asked_event_by_event();
 }
 
-/// A law: a closing notice of a request comes after the dealer was shown the request, and at most
-/// once, in every venue, after every list of steps. It does nothing.
+/// A dealer has at most one closing notice of a request (`once`), after it was shown the request
+/// (`after`).
+///
+/// It ends at: that the notice is sent: these are facts at the dealer's desk, and `DealerOutput`
+/// says that each sends a message.
 pub fn notices_come_once_after_their_requests()
     ensures after { (config : Configuration) (steps : List Step) (dealer : ℕ) (row : DealerRow)
         (before after : List DealerEntry) (request : ℕ) (close : Close) (moment : ℕ)
@@ -59,9 +63,8 @@ pub fn notices_come_once_after_their_requests()
         ≤ 1 }
 {}
 
-/// A law: a closing notice of a hit (QuoteRespType 694=1) names the quote that was lifted, in every
-/// venue, after every list of steps: the dealer's live quote on that request, whose word was lifted
-/// before the notice. It does nothing.
+/// A dealer's notice of a hit (694=1) names the quote that was lifted: the dealer's live quote on
+/// that request, whose word was lifted before the notice.
 pub fn a_hit_notice_names_the_lifted_quote()
     ensures { (config : Configuration) (steps : List Step) (dealer : ℕ) (row : DealerRow)
         (before after : List DealerEntry) (request moment : ℕ)
@@ -74,11 +77,12 @@ pub fn a_hit_notice_names_the_lifted_quote()
     what_is_asked_is_of_the_day();
 }
 
-/// A law: where no actor has a duty left to be done, and a room has ended, each dealer that the
-/// room's request names was told once, as the end says for it: that it was hit, that its quote was
-/// the cover, that it was done away, that the request was passed or that it expired. It was shown
-/// that request, and of all its closing notices of it there is one. So it is in every venue, after
-/// every list of steps. It does nothing.
+/// Where a room has ended and no duty is left, each dealer that the room's request names has
+/// exactly one closing notice of it, which says how the request ended for that dealer. The dealer
+/// was shown the request.
+///
+/// It ends at: days on which a duty is left; that the notice is sent: these are facts at the
+/// dealer's desk, and `DealerOutput` says that each sends a message.
 pub fn each_named_dealer_is_told_once()
     ensures { (config : Configuration) (steps : List Step) (room : RoomRef) (end : End) (dealer : ℕ)
         → ((actor : Actor) → venue.pending actor (venue.audit_trail config steps) ≡ [])

@@ -7,9 +7,11 @@ ghost use Rattle.venue_laws.specs.WorkedVenue.{venue};
 use fix_fields::frame_of_is_the_reading;
 use market_terms::Close;
 
-/// Two days that differ in the price of DLR2 alone are price-alike for DLR1; what is due to it on
-/// each, by the definitions, is what was written down beforehand, and the one is told Cover where
-/// the other is told Done Away. It does nothing: its proof computes each day.
+/// Two days that differ in the price of DLR2 alone are price-alike for DLR1 (`alike`). What is due
+/// to it on each, by the definitions, is what was written down beforehand: the one is told Cover
+/// where the other is told Done Away (`dear`, `cheap`).
+///
+/// The proof computes each day.
 pub fn definitions_give_the_priced_days()
     ensures alike { IsPriceAlike venue 0 (days.day_with days.dear) (days.day_with days.cheap) }
     ensures dear { days.due_with days.dear ≡ days.wanted_with Close.Cover }

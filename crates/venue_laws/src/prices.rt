@@ -8,10 +8,12 @@ ghost use Rattle.step_replay.specs.declared.steps.Step.{Step};
 use dealer_desk::{limits_are_kept, what_is_asked_is_of_the_day};
 use fix_fields::frame_of_is_the_reading;
 
-/// A law, blindness to prices: in every venue, where two days are one but for the prices of other
-/// dealers, what was due to a dealer is one in both, but that a closing notice with Cover may stand
-/// against one with Done Away. So of another's prices a dealer can learn who was the cover, and
-/// nothing else. It changes nothing.
+/// If two days of one venue differ only in lawful prices in other dealers' messages, a dealer's due
+/// lists are the same, except that a notice as the cover in one may be one as done away in the
+/// other.
+///
+/// It ends at: prices that are not lawful; days that differ in more, such as in what an investor
+/// does about a price.
 pub fn price_law()
     ensures { (config : Configuration) (steps others : List Step) (dealer : ℕ)
         → IsPriceAlike config dealer steps others

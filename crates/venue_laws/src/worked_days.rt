@@ -3,8 +3,9 @@ ghost use Rattle.std.specs.Prelude.{◌≡◌, map};
 ghost use Rattle.venue_laws.specs.WorkedDays as days;
 
 /// On each worked day each firm is sent, by the definitions of the audit trail, what was written
-/// down beforehand, byte for byte; and on two of them what is due to a dealer is what was written
-/// down. It does nothing: its proof computes each day.
+/// down beforehand, byte for byte; on two of them what is due to a dealer is what was written down.
+///
+/// The proof computes each day.
 pub fn definitions_give_the_worked_days()
     ensures sent { map days.sent_in days.worked_days ≡ map days.wanted_in days.worked_days }
     ensures too_late { days.due_in days.cancelled_too_late ≡ days.wanted_too_late }

@@ -20,9 +20,9 @@ ghost use Rattle.venue_text.specs.declared.live_form.LiveForm.{LiveForm};
 
 use step_replay::{dealers_are_given_their_view, firms_are_sent_one_list};
 
-/// A law: what lines of steps bring does not depend on how they come. Where the parts of two
-/// inputs are the same lines, they bring the same steps, and so the same messages, and the same
-/// faults. It does nothing.
+/// In what pieces an input comes makes no difference to what its lines bring: where the parts of
+/// two inputs are the same lines, they bring the same steps, and so the same messages, and the same
+/// faults.
 pub fn lines_bring_the_same_however_they_come()
     ensures { (config : ConfigValues) (parts others : List Lines)
         → spec.lines_in parts ≡ spec.lines_in others
@@ -30,8 +30,8 @@ pub fn lines_bring_the_same_however_they_come()
         ≡ spec.taken_by config (nothing_taken config) others }
 {}
 
-/// A law: without marks and notes all that is printed for lines are the messages of all their steps,
-/// which are those of each line behind those of the lines before. It does nothing.
+/// Without marks and notes all that is printed for lines are the messages of all their steps, which
+/// are those of each line after those of the lines before.
 pub fn without_marks_a_day_is_its_messages()
     ensures gained { (config : Configuration) (taken more : List Step)
         → live_messages config (taken ++ more)
@@ -41,11 +41,12 @@ pub fn without_marks_a_day_is_its_messages()
         ≡ live_text frames config (spec.taken_in config lines).steps }
 {}
 
-/// A law: what `replay --live FIRM` prints is what `live` prints of that firm, line for line. For a
-/// line of steps `live` prints the messages that it brings, a line each, and behind them its mark,
-/// where the form has marks. Of these lines of messages, line of steps behind line of steps, those
-/// of a firm are all that is printed of it at the end of the same day. Of a dealer they are what
-/// `alone` prints of what was due to it on that day. It does nothing.
+/// What `replay --live FIRM` prints is what `live` prints of that firm, line for line.
+///
+/// For a line of steps `live` prints the messages that it brings, a line each, and after them its
+/// mark, where the form has marks (`line`). Of these lines of messages, those of a firm are all
+/// that is printed of it at the end of the same day (`firm`). Of a dealer they are what `alone`
+/// prints of its due list on that day (`dealer`).
 pub fn a_firm_is_printed_what_live_prints_of_it()
     ensures line { (form : LiveForm) (config : Configuration) (taken : Taken) (k : ℕ)
         (line : List ℕ) → line_text form config taken k line
@@ -65,8 +66,8 @@ pub fn a_firm_is_printed_what_live_prints_of_it()
     dealers_are_given_their_view();
 }
 
-/// A law: what `replay --live --notes FIRM` prints of a dealer is what `alone --notes` prints of what
-/// was due to it on that day, with every reason and every name of a trade. It does nothing.
+/// What `replay --live --notes` prints of a dealer is what `alone --notes` prints of its due list
+/// on that day, with every reason and every name of a trade.
 pub fn a_dealer_is_printed_what_its_desk_notes()
     ensures { (frames : Bool) (config : Configuration) (name : List ℕ) (dealer : ℕ)
         (row : DealerRow) (steps : List Step) → firm_by name (values_of config) ≡ Ok dealer

@@ -10,13 +10,12 @@ use fix_fields::{Date, Moment, moment_text};
 use quote_messages::{Ask, Close};
 use step_replay::Due;
 
-/// A law: what is written of what was due to a dealer is read back as the same list, whatever lines
-/// stand before it, and whole due text as its date, its dealer's values and the list. It does
-/// nothing.
+/// What is written of a dealer's due list is read again as the same list, whatever lines stand
+/// before it (`list`), and a whole due text as its date, its dealer's values and the list (`text`).
 ///
-/// Due text can't say every value of the types: a message of no byte, a request of a firm that is
-/// named as the venue or its clock, and a number of more than nine digits. No day that lines spell
-/// has such a message or such a request (`what_is_due_can_be_said` of the crate due_laws).
+/// It ends at: values that due text can't say: a message of no byte, a request of a firm that is
+/// named as the venue or its clock, and a number of more than nine digits.
+/// (`due_laws::what_is_due_can_be_said`: no day that lines spell has them.)
 pub fn what_was_due_is_read_back(date: &Date, dues: &[Due])
     ensures list { list_all spec.is_sayable dues.now ≡ true
         → spec.AreReadBack date.now dues.now }

@@ -15,11 +15,13 @@ ghost use Rattle.wire_laws.specs.Carried.{AreCarried, AreMade, AreRead, AreSame}
 
 use session_laws::{what_is_kept_was_given, what_leaves_is_what_is_kept};
 
-/// A law: what is kept of the venue's messages, in the order of its numbers, reads back as the messages
-/// that the venue sent, each in its place, but for 45 of a Reject. And two sessions that are given the
-/// same messages keep the same, whether they read back or not. Between two resets by an operator, after
-/// every list of events. The premise is that the session is given what `to_firm` gives of the venue's
-/// messages, in their order. It does nothing.
+/// Until an operator's reset, what a session keeps of the venue's messages reads back as these,
+/// each in its place, except 45 of a Reject, and 49 and 56, if none has a field that the wire adds
+/// (`AreCarried`; `read`).
+///
+/// Two sessions that are given the same messages keep the same, whether they read back or not
+/// (`same`). The premise: the session is given what `to_firm` gives of the venue's messages, in
+/// their order.
 pub fn what_is_kept_reads_back()
     ensures read { (names : Names) (s : Session) (events : List Event) (frames : List (List ℕ))
         (tolds : List (Option Field)) → without_resets events ≡ true
@@ -36,9 +38,8 @@ pub fn what_is_kept_reads_back()
     what_is_kept_was_given();
 }
 
-/// A law: whatever leaves of a message of the venue's, with 43 or without, is what is kept of it, field
-/// by field; only the header behind MsgType (35) is the session's: 49, 56, 34, 52, 43, 122 and 97. It
-/// does nothing.
+/// What leaves of a message of the venue is what is kept of it, field by field, for the first time
+/// (`first`) and again (`again`), with the session's header: 49, 56, 34, 52, 43, 122 and 97.
 pub fn what_leaves_is_the_venues()
     ensures first { (names : Names) (date : List ℕ) (moment reference : ℕ) (said : Said)
         (told : Option Field) (m : VenueMessage) (is_copy : Bool)

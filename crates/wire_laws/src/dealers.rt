@@ -19,10 +19,12 @@ ghost use Rattle.wire_laws.specs.Carried.{AreCarried, AreMade, AreRead, AreSame}
 use crate::carrying::what_is_kept_reads_back;
 use step_replay::dealers_are_isolated;
 
-/// A law: take what is kept for a dealer in the order of its numbers, and read it back: it is the dealer
-/// view of its due list. What is told beside the messages is a function of the notes beside them
-/// (`words`), and so of the date, the row and the due list too. The name of a trade (1003) counts the
-/// trades before it, so it is no function of its own note alone. It does nothing.
+/// What is kept for a dealer reads back as the dealer view of its due list, as far as the session
+/// was given it.
+///
+/// The premises are those of `what_is_kept_reads_back`. What is told beside the messages is a
+/// function of the notes beside them (`words`). The name of a trade (1003) counts the trades before
+/// it, so it is no function of its own note alone.
 pub fn dealers_are_read_back()
     ensures { (date : List ℕ) (row : DealerRow) (dues : List Due)
         (words : List (Option DealerNote) → List (Option Field))
@@ -35,12 +37,17 @@ pub fn dealers_are_read_back()
     what_is_kept_reads_back();
 }
 
-/// The headline on the wire, a law over two venues: where a dealer has one date, one row, and one list
-/// of what was due to it in both, and both have the same words for what is noted, then what is kept of
-/// its n-th message (1181=n) is the same in both, byte for byte, but for 45 of a Reject. And whatever
-/// leaves of it is that, but for the session's header (`what_leaves_is_the_venues`). The sessions may
-/// differ in all that comes to them, as the steps of all firms may. Nothing is asked of the messages,
-/// nor of what is told beside them, but that it is the same in both. It does nothing.
+/// A dealer's n-th message [on the wire](docs/PROOFS.md#on-the-wire) is a function of the date, its
+/// row, its due list and the words for what its desk notes, until an operator resets its session.
+///
+/// What is kept of the message with 1181=n is the same in two venues, byte for byte, except 45 of a
+/// Reject, where both have one. Whatever leaves of it is that, with the session's header
+/// (`what_leaves_is_the_venues`). Nothing is asked of the messages but that each is a frame
+/// (`AreMade`). The sessions may differ in all that comes to them, as the steps of all firms may.
+///
+/// It ends at: an operator's reset; 45 of a Reject; the session's header; the words of a refusal
+/// and the name of a trade, which the law supposes to be the same; whether both have an n-th
+/// message; the gateway, which hands over each message (tested).
 pub fn dealers_are_isolated_on_the_wire()
     ensures { (one other : Configuration) (steps others : List Step) (dealer number : ℕ)
         (row : DealerRow) (words : List (Option DealerNote) → List (Option Field))

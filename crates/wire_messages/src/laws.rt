@@ -5,10 +5,11 @@ ghost use Rattle.fix_fields.specs.Frame.{Field, value_of};
 ghost use Rattle.wire_messages.specs.ToFirm.{IsTold, VenueMessage, has_added, referred, to_firm, without_added};
 ghost use Rattle.wire_messages.specs.ToVenue.{cut_to_milliseconds, has_tag, to_venue, unnamed};
 
-/// A law: the wire reads back. The message on the wire, without the fields that the wire adds, is the
-/// venue's: MsgType and the fields behind the header, in their order and with every byte, but that 45
-/// of a Reject is the session's. What stood in 34 stands in 1181, and what stood in 52 in 60. It
-/// holds of a message that has none of the added fields itself. It does nothing.
+/// On the wire a message of the venue, without what was added, is the venue's again if it has none
+/// of the added fields itself: in order, with every byte, except 45 of a Reject, which is the
+/// session's (`message`, `unreferred`).
+///
+/// What stood in 34 stands in 1181 (`number`), and what stood in 52 in 60 (`moment`).
 pub fn the_wire_reads_back()
     ensures message { (reference : ℕ) (told : Option Field) (m : VenueMessage) → IsTold told
         → has_added told m.behind ≡ false
@@ -22,8 +23,8 @@ pub fn the_wire_reads_back()
         → map (referred kind 0) fields ≡ fields }
 {}
 
-/// A law: two messages that are one on the wire are one, but for 45 of a Reject, and for the names
-/// of the header. It does nothing.
+/// Two messages of the venue that have none of the added fields, and are one on the wire, are one,
+/// except for 45 of a Reject and the names in 49 and 56.
 pub fn the_wire_tells_messages_apart()
     ensures { (reference : ℕ) (told : Option Field) (m other : VenueMessage) → IsTold told
         → has_added told m.behind ≡ false → has_added told other.behind ≡ false
@@ -33,9 +34,9 @@ pub fn the_wire_tells_messages_apart()
         ≡ map (referred other.kind reference) other.behind) }
 {}
 
-/// A law: what the venue is given has the fields of the firm's message, in their order and with every
-/// byte, but for the named ones: 34 is the venue's count, 52 is cut to milliseconds, and 43, 97 and
-/// 122 are left out. It does nothing.
+/// The venue is given the fields of a firm's message, byte for byte and in order (`rest`), except
+/// 34, which is the venue's count (`number`), 52, which is cut to milliseconds (`moment`), and 43,
+/// 97 and 122, which are left out (`left_out`).
 pub fn the_rest_is_the_firms()
     ensures rest { (number : ℕ) (fields : List Field)
         → unnamed (to_venue number fields) ≡ unnamed fields }
