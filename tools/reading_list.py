@@ -13,6 +13,7 @@ from __future__ import annotations
 import re
 import sys
 from dataclasses import dataclass
+from functools import cache
 from pathlib import Path
 
 HEADLINE = ("dealers_are_sent_their_view", "dealers_are_isolated")
@@ -47,6 +48,7 @@ class Declared:
     name: str
 
 
+@cache
 def laws_of(root: Path) -> dict[str, Law]:
     """Each public function without arguments and result that has a contract, by its name."""
     found: dict[str, Law] = {}
@@ -134,34 +136,53 @@ def row_of(crate: str, files: dict[str, int], types: dict[str, int]) -> str:
     return f"| `{crate}` | {', '.join(named)} | {sum(files.values()) + sum(types.values())} |"
 
 
-def reading_list(root: Path, names: tuple[str, ...] = HEADLINE) -> str:
-    """The list of some laws as a table, a line a crate, the highest first."""
+@dataclass(frozen=True)
+class Read:
+    """What is read of a crate: the lines of its files of definitions, and of types and constants."""
+
+    crate: str
+    files: dict[str, int]
+    types: dict[str, int]
+
+    def lines(self) -> int:
+        """How many lines."""
+        return sum(self.files.values()) + sum(self.types.values())
+
+
+def read_for(root: Path, names: tuple[str, ...]) -> list[Read]:
+    """What is read of each crate to judge some laws, the highest crate first."""
     laws = [law_named(root, name) for name in names]
-    cited = [file for law in laws for file in cited_by(law.text, law.contract)]
-    files = below(root, cited)
-    declared = declared_in(list(files.values()))
+    files = below(root, [file for law in laws for file in cited_by(law.text, law.contract)])
+    declared = sorted(declared_in(list(files.values())), key=lambda d: (d.file, d.name))
     listed = (root / "crates.txt").read_text(encoding="utf-8").split("\n")
     crates = [line.split(":")[0].split()[0] for line in listed if ":" in line and line[0] != "#"]
-    rows: list[str] = []
-    total = 0
+    found: list[Read] = []
     for crate in reversed(crates):
         counts = {
             file: lines_of(text) for (one, file), text in sorted(files.items()) if one == crate
         }
-        types = {
-            one.name: lines_declared(root, one)
-            for one in sorted(declared, key=lambda d: (d.file, d.name))
-            if one.crate == crate
-        }
+        types = {one.name: lines_declared(root, one) for one in declared if one.crate == crate}
         types = {name: count for name, count in types.items() if count}
         if counts or types:
-            rows.append(row_of(crate, counts, types))
-            total += sum(counts.values()) + sum(types.values())
+            found.append(Read(crate, counts, types))
+    return found
+
+
+def lines_to_read(root: Path, names: tuple[str, ...]) -> int:
+    """How many lines are read to judge some laws."""
+    return sum(one.lines() for one in read_for(root, names))
+
+
+def reading_list(root: Path, names: tuple[str, ...] = HEADLINE) -> str:
+    """The list of some laws as a table, a line a crate, the highest first."""
+    read = read_for(root, names)
     head = [
         "| crate | files of `specs/` and types and constants of `src/`, with their lines | lines |",
         "|---|---|---|",
     ]
-    return "\n".join([*head, *rows, f"| | {len(files)} files | {total} |"]) + "\n"
+    rows = [row_of(one.crate, one.files, one.types) for one in read]
+    files, total = sum(len(one.files) for one in read), sum(one.lines() for one in read)
+    return "\n".join([*head, *rows, f"| | {files} files | {total} |"]) + "\n"
 
 
 def main() -> int:

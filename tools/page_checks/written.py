@@ -18,7 +18,7 @@ PROMISES = "tools/promises.py"
 READING = "tools/reading_list.py"
 
 # Scripts that make tables, or files: each says by `--check` what is not as it would write it.
-MAKERS = ["tools/formats.py"]
+MAKERS = ["tools/formats.py", "tools/laws.py"]
 
 
 def fault_of_promises(root: Path, crate: str) -> str | None:
