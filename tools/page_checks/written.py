@@ -18,7 +18,13 @@ PROMISES = "tools/promises.py"
 READING = "tools/reading_list.py"
 
 # Scripts that make tables, or files: each says by `--check` what is not as it would write it.
-MAKERS = ["tools/formats.py", "tools/laws.py", "tools/reasons.py", "tools/conformance.py"]
+MAKERS = [
+    "tools/formats.py",
+    "tools/laws.py",
+    "tools/reasons.py",
+    "tools/conformance.py",
+    "tools/commands.py",
+]
 
 
 def fault_of_promises(root: Path, crate: str) -> str | None:
