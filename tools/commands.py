@@ -1,7 +1,7 @@
 #!/usr/bin/python3
-"""Makes the tables of the program's commands and flags, from the texts of its help.
+"""Makes the tables of the program's commands, flags and lines of input, from the texts of its help.
 
-    tools/commands.py            writes the tables that docs/PROGRAM.md marks as made by it
+    tools/commands.py            writes the tables that docs/PROGRAM.md and docs/FORMATS.md mark as made by it
     tools/commands.py --check    says whether they are not as it would write them, and ends with 1 then
 """
 
@@ -10,6 +10,7 @@ from __future__ import annotations
 import argparse
 import re
 import sys
+from collections.abc import Iterator
 from dataclasses import dataclass
 from pathlib import Path
 
@@ -20,12 +21,16 @@ ROOT = Path(__file__).resolve().parent.parent
 SCRIPT = "tools/commands.py"
 TABLE = "crates/command_arguments/src/table.rt"
 TEXTS = "crates/command_arguments/src/help.rt"
-PAGES = ("docs/PROGRAM.md",)
+INPUTS = "crates/command_arguments/src/inputs.rt"
+PAGES = ("docs/PROGRAM.md", "docs/FORMATS.md")
 TEXT = re.compile(r'const (\w+): &str =\s+"([^"]*)";')
 FLAG = re.compile(r'const (\w+): FlagLine = FlagLine \{\s+name: "(\w+)",\s+help: (\w+),')
 ARGUMENT = re.compile(
     r'const (\w+): ArgumentLine = ArgumentLine \{\s+shown: "(\w+)",\s+required: (\w+),'
 )
+INPUT = re.compile(r'const (\w+): &str = "\\\n(.*?)";', re.DOTALL)
+LISTED = re.compile(r"  (\S.*?)(?: {2,}(\S.*))?")  # what the help lists, and what it says of that
+ASKED = re.compile(r"(line|part)s (\d) to (\d) of (\w+)")
 COMMAND = re.compile(
     r'CommandLine \{\s+name: "(\w+)",\s+about: (\w+),\s+input: \w+,\s+flags: &\[([^]]*)\],'
     r"\s+argument: (None|Some\((\w+)\)),"
@@ -47,6 +52,7 @@ class Help:
 
     commands: list[Command]
     flags: dict[str, str]
+    inputs: dict[str, str]  # what a command reads, with the lists of its parts
 
 
 def read(root: Path = ROOT) -> Help:
@@ -63,11 +69,37 @@ def read(root: Path = ROOT) -> Help:
         shown = "%s %s" % (name, arguments[argument]) if argument else name
         names = [flags[one][0] for one in taken.split(", ") if one]
         commands.append(Command(shown, texts[about], names))
-    return Help(commands, dict(flags.values()))
+    inputs = INPUT.findall((root / INPUTS).read_text(encoding="utf-8"))
+    unescaped = {name: text.replace('\\"', '"') for name, text in inputs}
+    return Help(commands, dict(flags.values()), unescaped)
+
+
+def lists(text: str) -> Iterator[list[list[str]]]:
+    """The lists of a text of the help, each a name and what is said of it, over as many lines as that has."""
+    found: list[list[str]] = []
+    for line in [*text.split("\n"), ""]:
+        if not line.startswith("  "):
+            if found:
+                yield found
+            found = []
+        elif line.startswith(" " * 8):
+            found[-1][1] = (found[-1][1] + " " + line.strip()).strip()
+        elif (listed := LISTED.fullmatch(line)) is not None:
+            found.append([listed[1], listed[2] or ""])
+
+
+def listed(told: Help, what: str, first: int, last: int, name: str) -> str:
+    """Some of the lists of an input, in one table of lines, or of their parts."""
+    chosen = [line for one in list(lists(told.inputs[name]))[first - 1 : last] for line in one]
+    lines = [["`%s`" % form, said] for form, said in chosen]
+    return rows([what, "says"], [[cell.replace("|", "\\|") for cell in line] for line in lines])
 
 
 def table(told: Help, name: str) -> str:
-    """What stands between two marks of this name: the commands, or the flags."""
+    """What stands between two marks of this name: the commands, the flags, or lists of an input."""
+    asked = ASKED.fullmatch(name)
+    if asked is not None:
+        return listed(told, asked[1], int(asked[2]), int(asked[3]), asked[4])
     if name == "commands":
         lines = [["`%s`" % one.shown, one.about] for one in told.commands]
         return rows(["command", "does"], lines)
