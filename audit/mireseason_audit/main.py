@@ -30,6 +30,7 @@ from .command import Work, checked, evidence_of, seal_path
 from .day_commands import do_acts, do_export, do_stats, do_trades
 from .faults import Unreadable, Wrong
 from .frame import printable
+from .items import checks_text
 from .log import Source
 from .parties import read_parties
 from .record_commands import do_record, do_transparency
@@ -61,6 +62,8 @@ def parser_of() -> argparse.ArgumentParser:
     commands = Commands(parser)
     text = "holds what was sent, and the record, against the venue"
     check = commands.add("check", text, do_check)
+    check.epilog = checks_text()
+    check.formatter_class = argparse.RawDescriptionHelpFormatter
     check.add_argument("--json", action="store_true", help="as JSON")
     with_evidence(check)
     seal = commands.add("seal", "signs what the log has", do_seal)

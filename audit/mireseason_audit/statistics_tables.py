@@ -76,50 +76,92 @@ KEYS: tuple[Column[FigureRow], ...] = (
     Column("key", "which", lambda row: row.key),
 )
 ANSWERS: tuple[Column[FigureRow], ...] = (
-    Column("requests", "that were accepted", lambda row: row.figures.requests),
-    Column("asked", "dealers on them", lambda row: row.figures.asked),
-    Column("answered", "with at least one quote", lambda row: row.figures.answered),
-    Column("declined", "without a quote", lambda row: row.figures.declined),
-    Column("silent", "", lambda row: row.figures.silent),
+    Column("requests", "requests that were accepted", lambda row: row.figures.requests),
+    Column("asked", "dealers asked on them", lambda row: row.figures.asked),
+    Column(
+        "answered", "of these, with at least one accepted quote", lambda row: row.figures.answered
+    ),
+    Column("declined", "of these, declined without one", lambda row: row.figures.declined),
+    Column("silent", "of these, the others", lambda row: row.figures.silent),
     Column(
         "response_ms",
-        "median, from the request to the first quote",
+        "milliseconds from the request to a dealer's first accepted quote, median",
         lambda row: row.figures.response_ms.at(50),
     ),
-    Column("response_ms_90", "90th of a hundred", lambda row: row.figures.response_ms.at(90)),
-    Column("response_ms_99", "99th", lambda row: row.figures.response_ms.at(99)),
+    Column(
+        "response_ms_90",
+        "of these times, the 90th of a hundred",
+        lambda row: row.figures.response_ms.at(90),
+    ),
+    Column(
+        "response_ms_99",
+        "of these times, the 99th of a hundred",
+        lambda row: row.figures.response_ms.at(99),
+    ),
 )
 OUTCOMES: tuple[Column[FigureRow], ...] = (
-    Column("won", "of those that answered", counted("won")),
-    Column("cover", "", counted("cover")),
-    Column("done_away", "", counted("done away")),
-    Column("passed", "", counted("passed")),
-    Column("expired", "", counted("expired")),
-    Column("hit_ratio", "won of answered in a hundred; of others, awarded of quoted on", hit_ratio),
+    Column("won", "of those that answered, told so by 694", counted("won")),
+    Column("cover", "likewise", counted("cover")),
+    Column("done_away", "likewise", counted("done away")),
+    Column("passed", "likewise", counted("passed")),
+    Column("expired", "likewise", counted("expired")),
+    Column(
+        "hit_ratio",
+        "of a dealer, won in a hundred answered; of others, requests awarded in a hundred quoted on",
+        hit_ratio,
+    ),
 )
 DISTANCES: tuple[Column[FigureRow], ...] = (
-    Column("trades", "", lambda row: row.figures.trades),
-    Column("covers", "that could be hit", lambda row: row.figures.from_cover.count),
-    Column("from_cover", "median, points better", lambda row: row.figures.from_cover.at(50)),
-    Column("from_cover_most", "", lambda row: row.figures.from_cover.greatest),
-    Column("covers_lapsed", "whose 62 had passed", lambda row: row.figures.covers_lapsed),
-    Column("not_best", "hits that were not the best", lambda row: row.figures.not_best),
-    Column("from_best", "of these, median, points worse", lambda row: row.figures.from_best.at(50)),
-    Column("from_best_most", "", lambda row: row.figures.from_best.greatest),
+    Column("trades", "trades", lambda row: row.figures.trades),
+    Column("covers", "covers that could be hit", lambda row: row.figures.from_cover.count),
+    Column(
+        "from_cover",
+        "points by which the winner was better than the cover, median",
+        lambda row: row.figures.from_cover.at(50),
+    ),
+    Column("from_cover_most", "the same, most", lambda row: row.figures.from_cover.greatest),
+    Column(
+        "covers_lapsed",
+        "covers whose 62 had passed, counted apart",
+        lambda row: row.figures.covers_lapsed,
+    ),
+    Column(
+        "not_best",
+        "hits of a quote while a better one could have been hit",
+        lambda row: row.figures.not_best,
+    ),
+    Column(
+        "from_best",
+        "of these, points by which it was worse, median",
+        lambda row: row.figures.from_best.at(50),
+    ),
+    Column("from_best_most", "the same, most", lambda row: row.figures.from_best.greatest),
 )
 LIVES: tuple[Column[FigureRow], ...] = (
-    Column("quotes", "that were accepted", lambda row: row.figures.quotes.total()),
-    Column("replaced", "", ended("replaced")),
-    Column("withdrawn", "", ended("withdrawn")),
+    Column("quotes", "quotes that were accepted", lambda row: row.figures.quotes.total()),
+    Column("replaced", "quotes that ended so", ended("replaced")),
+    Column("withdrawn", "likewise", ended("withdrawn")),
     Column(
         "fades",
-        "withdrawn while they could be hit, and a hit of the request came later",
+        "quotes withdrawn while they could be hit, if a hit of the same request came later",
         lambda row: row.figures.fades,
     ),
-    Column("lapsed", "whose 62 passed before they ended", lambda row: row.figures.lapsed),
-    Column("life_ms", "median, while it could be hit", lambda row: row.figures.life_ms.at(50)),
-    Column("life_ms_90", "90th of a hundred", lambda row: row.figures.life_ms.at(90)),
-    Column("life_ms_99", "99th", lambda row: row.figures.life_ms.at(99)),
+    Column("lapsed", "quotes whose 62 passed before they ended", lambda row: row.figures.lapsed),
+    Column(
+        "life_ms",
+        "milliseconds from a quote's acceptance until it could no longer be hit, median",
+        lambda row: row.figures.life_ms.at(50),
+    ),
+    Column(
+        "life_ms_90",
+        "of these times, the 90th of a hundred",
+        lambda row: row.figures.life_ms.at(90),
+    ),
+    Column(
+        "life_ms_99",
+        "of these times, the 99th of a hundred",
+        lambda row: row.figures.life_ms.at(99),
+    ),
 )
 FIGURES: Table[FigureRow] = Table(
     "figures", "what the figures are of", KEYS + ANSWERS + OUTCOMES + DISTANCES + LIVES

@@ -332,14 +332,12 @@ def test_a_pipe_in_the_place_of_a_file(stage: Stage, name: str) -> None:
 
 
 def test_the_pages_have_the_defaults() -> None:
-    """The example, what the package installs as comments, and what the page of hosts says: a key each, and the same figure."""
+    """The example, what the package installs as comments, and what the gateway's page says: a key each, and the same figure."""
     example = tomllib.loads((ROOT / "examples/gateway/gateway.toml").read_text())["limits"]
     installed = (ROOT / "install/packages/config/gateway.toml").read_text()
     taken = re.sub("(?m)^# ", "", installed[installed.index("# [limits]") :])
     assert tomllib.loads(taken)["limits"] == example
-    rows = re.findall(
-        r"(?m)^\| `(\w+)` \| ([\d,]+) \|", (ROOT / "install/hosts/README.md").read_text()
-    )
+    rows = re.findall(r"(?m)^\| `(\w+)` \| ([\d,]+) \|", (ROOT / "gateway/README.md").read_text())
     assert {key: int(figure.replace(",", "")) for key, figure in rows} == example
 
 
