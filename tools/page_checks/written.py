@@ -24,6 +24,7 @@ MAKERS = [
     "tools/reasons.py",
     "tools/conformance.py",
     "tools/commands.py",
+    "tools/crates.py",
 ]
 
 
