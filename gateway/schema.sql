@@ -1,5 +1,5 @@
--- The log of one day of the gateway: what came, what was sent, and the stores of the FIX sessions.
--- One text for SQLite and PostgreSQL. Whoever reads it needs SELECT alone; only the gateway writes.
+-- The tables of the gateway's log of one day: what came, what was sent, and the stores of the FIX sessions. SQLite and
+-- PostgreSQL share this text. A reader needs SELECT alone; only the gateway writes.
 
 -- The form of these tables: one row, the same in SQLite and PostgreSQL. A gateway of another form refuses the
 -- log, so no day has two. (Forms 1, in SQLite, and 2, in PostgreSQL, had no table connection, and neither

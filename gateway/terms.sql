@@ -1,5 +1,5 @@
--- Beside schema.sql, in PostgreSQL alone: which gateway speaks. Several may have the log open. One writes it, in a term
--- of its own, and the others follow; a gateway whose term is over can put nothing there.
+-- Beside schema.sql, in PostgreSQL alone: which gateway speaks. Several gateways may have the log open. One writes it,
+-- in a term of its own, and the others follow. A gateway whose term is over can write nothing there.
 
 -- One row. backend and began are the connection of the gateway that speaks, as pg_stat_activity has them, and seen is
 -- when it last said that it is there.

@@ -1,4 +1,5 @@
-// The oracle: what is done for firms, and who may have it done.
+// The oracle of the fuzzer: it notes what sessions do for a firm, and ends the process if nobody
+// has shown that firm's password on the connection.
 #ifndef GATEWAY_FUZZ_BOOK_H
 #define GATEWAY_FUZZ_BOOK_H
 

@@ -1,9 +1,9 @@
-// Fuzzes the reader of configurations: whatever an operator's files have become, the gateway reads
-// them and says what is wrong, within its stack and within seconds.
+// Fuzzes the reader of configurations. Whatever an operator's files contain, the gateway has to say
+// what is wrong with them, within its stack and within seconds.
 //
-// Each input is a text of TOML. It is read as the venue's configuration, as the firms' credentials
-// and as the gateway's own file, beside two others that are right. With a stack of 1 MiB
-// (`ulimit -s 1024`) a text that gets past the limits of depth ends the fuzzer.
+// Each input is a text of TOML. The fuzzer reads it as the venue's configuration, as the firms'
+// credentials and as the gateway's own file, each time beside two right files. With a stack of
+// 1 MiB (`ulimit -s 1024`) a text that gets past the limits of depth ends the fuzzer.
 //
 // usage: config_fuzz [options of libFuzzer] [CORPUS ..]
 #include "common/toml_bounds.h"

@@ -1,5 +1,6 @@
-// Fuzzes what faces the network, from bytes to sessions: each input is what connections bring, and
-// runs by strangers, and by who knows the passwords, whole and in pieces.
+// Fuzzes what faces the network, from bytes to sessions. Each input is what a few connections
+// bring. The fuzzer runs it as strangers and as somebody who knows the passwords, in whole messages
+// and in pieces.
 //
 // usage: door_fuzz [options of libFuzzer] [CORPUS ..]
 #include "book.h"

@@ -1,4 +1,4 @@
-// Two firms' sessions, and what connections bring to them.
+// What the fuzzer runs: two firms' sessions, and the connections that bring it its input.
 #ifndef GATEWAY_FUZZ_RIG_H
 #define GATEWAY_FUZZ_RIG_H
 

@@ -1,4 +1,4 @@
-// What connections bring, as messages of fields that can be changed one by one.
+// The fuzzer's input as messages: the mutator can change each field by itself.
 #ifndef GATEWAY_FUZZ_SCRIPT_H
 #define GATEWAY_FUZZ_SCRIPT_H
 

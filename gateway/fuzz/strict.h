@@ -1,5 +1,5 @@
-// A second reading of a message, written from docs/FORMATS.md: what the first one lets through is
-// held against it.
+// Reads a message a second time, by docs/FORMATS.md alone: the fuzzer asks it about each message
+// that a session accepted.
 #ifndef GATEWAY_FUZZ_STRICT_H
 #define GATEWAY_FUZZ_STRICT_H
 

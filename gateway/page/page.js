@@ -1,5 +1,5 @@
-// Puts what the gateway says now in the place of what it said, every two seconds; and says so where
-// it does not answer.
+// Brings the gateway's page up to date every two seconds, and says so if the gateway does not
+// answer.
 "use strict";
 
 const EVERY = 2000; // milliseconds

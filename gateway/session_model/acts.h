@@ -1,4 +1,4 @@
-// What a session may do, whatever the reason.
+// The steps that a session can take, whatever the reason: to write a message, to end, to wait.
 #ifndef SESSION_MODEL_ACTS_H
 #define SESSION_MODEL_ACTS_H
 

@@ -1,4 +1,4 @@
-// What C hands in, and what it is handed.
+// Turns the arguments of the C calls into this model's types, and its answers into theirs.
 #ifndef SESSION_MODEL_ARGUMENTS_H
 #define SESSION_MODEL_ARGUMENTS_H
 

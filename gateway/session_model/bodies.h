@@ -1,4 +1,4 @@
-// The session's own messages, behind the header, and the words of Text (58).
+// Writes the bodies of the session's own messages, and the words of Text (58).
 #ifndef SESSION_MODEL_BODIES_H
 #define SESSION_MODEL_BODIES_H
 

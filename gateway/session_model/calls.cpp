@@ -1,4 +1,4 @@
-// The calls of fix_sessions.h.
+// Implements the calls of fix_sessions.h that take a session.
 #include "arguments.h"
 #include "cutter.h"
 #include "events.h"

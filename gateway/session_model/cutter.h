@@ -1,4 +1,4 @@
-// How a stream is cut into messages: docs/FORMATS.md, "What comes over the network".
+// Cuts a stream of bytes into messages: docs/FORMATS.md, "What comes over the network".
 #ifndef SESSION_MODEL_CUTTER_H
 #define SESSION_MODEL_CUTTER_H
 

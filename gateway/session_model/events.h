@@ -1,4 +1,4 @@
-// A message that came, and a connection that is gone.
+// What a session does when a message comes, and when a connection is gone.
 #ifndef SESSION_MODEL_EVENTS_H
 #define SESSION_MODEL_EVENTS_H
 

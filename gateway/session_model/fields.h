@@ -1,4 +1,4 @@
-// The fields of a body, and its faults: docs/FORMATS.md, "What comes over the network".
+// Reads the fields of a body, and finds its faults: docs/FORMATS.md, "What comes over the network".
 #ifndef SESSION_MODEL_FIELDS_H
 #define SESSION_MODEL_FIELDS_H
 

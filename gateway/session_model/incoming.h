@@ -1,4 +1,4 @@
-// A message as it came: what its bytes say to the session.
+// A message that came, as the session reads it.
 #ifndef SESSION_MODEL_INCOMING_H
 #define SESSION_MODEL_INCOMING_H
 

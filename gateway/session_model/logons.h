@@ -1,5 +1,5 @@
-// A Logon of the firm with right credentials, where no other connection has the session: rows 4 to
-// 9 of docs/SESSIONS.md, "The first message of a connection".
+// Judges a Logon with right credentials while no other connection has the session: rows 4 to 9 of
+// docs/SESSIONS.md, "The first message of a connection".
 #ifndef SESSION_MODEL_LOGONS_H
 #define SESSION_MODEL_LOGONS_H
 

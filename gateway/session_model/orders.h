@@ -1,4 +1,4 @@
-// What an operator orders: docs/SESSIONS.md, "An operator".
+// What a session does on an operator's order: docs/SESSIONS.md, "An operator".
 #ifndef SESSION_MODEL_ORDERS_H
 #define SESSION_MODEL_ORDERS_H
 

@@ -1,5 +1,5 @@
-// A firm's session as it follows from what is sealed: the second implementation of the function of
-// docs/RECOVERY.md. It is pure, and has nothing of the gateway's.
+// Recovers a firm's session from what is sealed: the second implementation of the function of
+// docs/RECOVERY.md. It is pure, and uses nothing of the gateway.
 #ifndef SESSION_MODEL_RECOVERED_H
 #define SESSION_MODEL_RECOVERED_H
 

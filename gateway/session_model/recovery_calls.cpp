@@ -1,4 +1,4 @@
-// The calls of session_recovery.h, by the second implementation.
+// Implements the calls of session_recovery.h with the second implementation.
 #include "recovered.h"
 
 #include "recovery/session_recovery.h"

@@ -1,4 +1,4 @@
-// Gaps, and what leaves again: docs/SESSIONS.md, "A resend".
+// How a session asks for missing messages, and sends its own again: docs/SESSIONS.md, "A resend".
 #ifndef SESSION_MODEL_RESENDS_H
 #define SESSION_MODEL_RESENDS_H
 

@@ -1,5 +1,5 @@
-// What the venue gives, and what leaves of what is kept: docs/SESSIONS.md, "What the venue sends"
-// and "A resend".
+// How a session numbers, keeps and sends the venue's messages: docs/SESSIONS.md, "What the venue
+// sends" and "A resend".
 #ifndef SESSION_MODEL_SENDING_H
 #define SESSION_MODEL_SENDING_H
 

@@ -1,4 +1,4 @@
-// After a Logon: docs/SESSIONS.md, "Settling".
+// When a session has settled after a Logon: docs/SESSIONS.md, "Settling".
 #ifndef SESSION_MODEL_SETTLING_H
 #define SESSION_MODEL_SETTLING_H
 

@@ -1,4 +1,4 @@
-// The calls of fix_sessions.h that ask no session.
+// Implements the calls of fix_sessions.h that take no session.
 #include "arguments.h"
 #include "cutter.h"
 #include "ticking.h"

@@ -1,4 +1,4 @@
-// What time does, and what an operator orders: docs/SESSIONS.md, "Time", "Settling", "An operator".
+// What a session does as time passes: docs/SESSIONS.md, "Time", "Settling", "An operator".
 #ifndef SESSION_MODEL_TICKING_H
 #define SESSION_MODEL_TICKING_H
 

@@ -1,4 +1,4 @@
-// What one event does: the session as it becomes, and what is to be done for it.
+// A turn: the session after one event, and what the caller has to do for it.
 #ifndef SESSION_MODEL_TURN_H
 #define SESSION_MODEL_TURN_H
 

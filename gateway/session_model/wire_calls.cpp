@@ -1,4 +1,4 @@
-// The calls of fix_sessions.h between the wire and the venue.
+// Implements the calls of fix_sessions.h between the wire and the venue.
 #include "arguments.h"
 #include "wires.h"
 

@@ -1,4 +1,5 @@
-// A message between the wire and the venue: gateway/README.md, "Between the wire and the venue".
+// Translates messages between the wire and the venue: gateway/README.md, "Between the wire and the
+// venue".
 #ifndef SESSION_MODEL_WIRES_H
 #define SESSION_MODEL_WIRES_H
 

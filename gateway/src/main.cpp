@@ -1,4 +1,4 @@
-// mireseason-gateway CONFIG
+// The program mireseason-gateway: reads its arguments, and runs the service or what they ask for.
 #include "base/patient_stderr.h"
 #include "base/private_file.h"
 #include "common/moment.h"

@@ -1,4 +1,4 @@
-// What the tests need: a check that says what was wanted and what came.
+// A check for the unit tests: it prints what was wanted and what came.
 #ifndef GATEWAY_TESTS_CHECK_H
 #define GATEWAY_TESTS_CHECK_H
 

@@ -1,4 +1,4 @@
-// Connections to a page: those that wait for their peer make room for who comes.
+// Connections to a page: those that wait for their peer make room for a newcomer.
 #define DOCTEST_CONFIG_IMPLEMENT_WITH_MAIN
 #include <doctest/doctest.h>
 

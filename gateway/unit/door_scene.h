@@ -1,4 +1,5 @@
-// Connections without a network: bytes in, what is said, and what the host is told.
+// Plays connections without a network: a test puts bytes in, and sees what is said and what the
+// host is told.
 #ifndef GATEWAY_TESTS_DOOR_SCENE_H
 #define GATEWAY_TESTS_DOOR_SCENE_H
 

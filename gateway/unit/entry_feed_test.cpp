@@ -1,5 +1,6 @@
-// What the venue is given while it is being committed: it is there before the commit is done, it is
-// kept until the database has it, and where the commit fails it is never taken for committed.
+// Tests entries that the venue is given while they are being committed: each is there before its
+// commit is done, is kept until the database has it, and is never taken for committed if the commit
+// fails.
 #define DOCTEST_CONFIG_IMPLEMENT_WITH_MAIN
 #include <doctest/doctest.h>
 

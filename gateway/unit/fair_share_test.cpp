@@ -1,5 +1,5 @@
-// Each firm's share of the log: the order of what was received, how much of a batch and of what the
-// venue has not answered is one firm's, and who goes first where many wait.
+// Tests the firms' shares of the log: the order of what was received, how much of a batch and of
+// the unanswered entries one firm may have, and who goes first if many wait.
 #define DOCTEST_CONFIG_IMPLEMENT_WITH_MAIN
 #include <doctest/doctest.h>
 

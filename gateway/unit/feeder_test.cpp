@@ -1,5 +1,5 @@
-// What feeds the venue: the log from its begin, entries as they are committed, a process that reads
-// nothing for a while, a chain that is broken, how much is kept, and how a process ends.
+// Tests what feeds the venue: the log from its begin, entries as they are committed, a process that
+// reads nothing for a while, a broken chain, how much is kept, and how a process ends.
 #define DOCTEST_CONFIG_IMPLEMENT_WITH_MAIN
 #include <doctest/doctest.h>
 

@@ -1,5 +1,5 @@
-// What the venue gave for an entry that is still being committed: it leaves once that is on disk,
-// in its order, whichever way it goes. Each message that is said is held against the log (Ear).
+// Tests what the venue gives for an entry that is still being committed: it leaves once the entry
+// is on disk, in its order, whichever way it goes. An Ear checks each message against the log.
 #define DOCTEST_CONFIG_IMPLEMENT_WITH_MAIN
 #include <doctest/doctest.h>
 

@@ -1,4 +1,4 @@
-// The stretch of a session's numbers that is in memory while they leave.
+// Tests which stretch of a session's numbers is in memory while they leave.
 #define DOCTEST_CONFIG_IMPLEMENT_WITH_MAIN
 #include <doctest/doctest.h>
 

@@ -1,6 +1,6 @@
-// TLS answers an update of keys (TLS 1.3) before it reads on. Whoever asks for such answers and
-// reads none of them has the connection's thread wait, and not work. And such a record says
-// nothing, but it was read.
+// TLS 1.3 answers an update of keys before it reads on. If a peer asks for such answers and reads
+// none of them, the connection's thread waits, and does not work. And such a record says nothing,
+// but it was read.
 #define DOCTEST_CONFIG_IMPLEMENT_WITH_MAIN
 #include <doctest/doctest.h>
 

@@ -1,5 +1,5 @@
-// What anybody may cause is told ten times a minute of each kind, and counted; and as what it may
-// stand in a line.
+// Tests how often the gateway tells of what anybody can cause: ten times a minute of each kind, and
+// the rest is counted. And how a stranger's text looks in a line.
 #define DOCTEST_CONFIG_IMPLEMENT_WITH_MAIN
 #include <doctest/doctest.h>
 

@@ -2,9 +2,9 @@
 //
 // usage: log_bench CONNECTION LOGS THREADS SECONDS
 //
-// LOGS logs, each a schema that is dropped after it where this role may; in each of them THREADS
-// threads that append a message of 200 bytes and wait until it is committed, again and again.
-// Prints the messages a second of all logs together, and how long one waited.
+// It makes LOGS logs, each in a schema that it drops afterwards if its role may. In each of them
+// THREADS threads append a message of 200 bytes and wait until it is committed, again and again. It
+// prints the messages a second of all logs together, and how long one waited.
 #include "check.h"
 #include "log/log.h"
 #include "log_schema.h"

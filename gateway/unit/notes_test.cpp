@@ -1,4 +1,4 @@
-// Lines of the log that the venue ignores, and the requests that they come of.
+// Lines of the log that the venue ignores, and the requests that they come from.
 #define DOCTEST_CONFIG_IMPLEMENT_WITH_MAIN
 #include <doctest/doctest.h>
 

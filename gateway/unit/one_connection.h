@@ -1,4 +1,4 @@
-// A connection of its own, over a pair of sockets, with TLS or without: its other side, and the
+// One connection over a pair of sockets, with TLS or without. A test has its other side, and the
 // host of the one session that it may have.
 #ifndef GATEWAY_TESTS_ONE_CONNECTION_H
 #define GATEWAY_TESTS_ONE_CONNECTION_H

@@ -1,5 +1,5 @@
-// The calls of session_recovery.h, whichever implementation stands behind them, held against the
-// second one on the days that a model of the rules drew.
+// Compares the calls of session_recovery.h, by whichever implementation is linked, with the second
+// implementation: on the days that a model of the rules drew.
 #define DOCTEST_CONFIG_IMPLEMENT_WITH_MAIN
 #include <doctest/doctest.h>
 

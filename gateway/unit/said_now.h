@@ -1,4 +1,4 @@
-// Messages of firm F, at the moment of now.
+// Messages that firm F says at this moment.
 #ifndef GATEWAY_TESTS_SAID_NOW_H
 #define GATEWAY_TESTS_SAID_NOW_H
 

@@ -1,5 +1,6 @@
-// Seals and checkpoints: what somebody who may write the database, and has no key, can make a start
-// believe; a log that was cut off, was put back, or is another's; and a signer that is in time.
+// Tests seals and checkpoints: what somebody who may write the database, and has no key, can make a
+// start believe; a log that was cut off, was put back, or is another's; and a signer that is in
+// time.
 #define DOCTEST_CONFIG_IMPLEMENT_WITH_MAIN
 #include <doctest/doctest.h>
 

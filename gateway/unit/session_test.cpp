@@ -1,5 +1,5 @@
-// What a session does with each message that comes on its connection, without a network: the rows
-// of docs/SESSIONS.md, and that nothing is taken of a firm that was sent a Logout.
+// Tests what a session does with each message that comes, without a network: the rows of
+// docs/SESSIONS.md. After a Logout was sent to a firm, nothing is taken from it.
 #define DOCTEST_CONFIG_IMPLEMENT_WITH_MAIN
 #include <doctest/doctest.h>
 

@@ -1,5 +1,5 @@
-// The date and the time of day, which stand still but where a test moves them: so a test does the
-// same at any time, and takes no longer than its work.
+// A clock that stands still until a test moves it: so a test does the same at any time, and takes
+// no longer than its work.
 #ifndef GATEWAY_TESTS_STILL_CLOCK_H
 #define GATEWAY_TESTS_STILL_CLOCK_H
 

@@ -1,4 +1,4 @@
-// The header of a file within a stream, by POSIX.1-1988 and, of a large file, as GNU tar has it.
+// The header of a file within a stream: by POSIX.1-1988, and for a large file as GNU tar has it.
 #define DOCTEST_CONFIG_IMPLEMENT_WITH_MAIN
 #include <doctest/doctest.h>
 

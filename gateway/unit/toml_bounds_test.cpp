@@ -1,4 +1,4 @@
-// Texts that no parser of TOML is given, since it would take its stack or all memory.
+// Texts that are kept from the parser of TOML, since they would use up its stack or all memory.
 #define DOCTEST_CONFIG_IMPLEMENT_WITH_MAIN
 #include <doctest/doctest.h>
 

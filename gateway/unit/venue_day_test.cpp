@@ -1,5 +1,5 @@
-// A venue's day whose process ends between the start of the gateway and the first session, and one
-// whose program does not say what it is.
+// A venue's day whose process ends between the gateway's start and the first session, and one whose
+// program does not say what it is.
 #define DOCTEST_CONFIG_IMPLEMENT_WITH_MAIN
 #include <doctest/doctest.h>
 

@@ -1,5 +1,6 @@
-// Who a venue's day lets in, and what it puts into its log of them: Logons judged, connections and
-// the messages that came on them, strangers, and connections that their gateway left open.
+// Tests whom a venue's day lets in, and what it writes about them into its log: Logons judged,
+// connections and the messages that came on them, strangers, and connections that their gateway
+// left open.
 #define DOCTEST_CONFIG_IMPLEMENT_WITH_MAIN
 #include <doctest/doctest.h>
 

@@ -1,4 +1,4 @@
-// Any bytes as printable ASCII, from which they can be had again.
+// Writes any bytes as printable ASCII, and reads that back.
 #ifndef GATEWAY_BASE_ESCAPED_H
 #define GATEWAY_BASE_ESCAPED_H
 

@@ -1,4 +1,4 @@
-// Files that are copied, and compared by their SHA-256.
+// Copies files, and compares them by their SHA-256.
 #ifndef GATEWAY_BASE_FILE_COPY_H
 #define GATEWAY_BASE_FILE_COPY_H
 

@@ -1,4 +1,5 @@
-// How often something is told that anybody may cause. Plain C++: `session` may use it too.
+// Limits how often the gateway tells of what anybody can cause. Plain C++: `session` may use it
+// too.
 #ifndef GATEWAY_BASE_LIMITER_H
 #define GATEWAY_BASE_LIMITER_H
 

@@ -1,4 +1,4 @@
-// The word that somebody meant who wrote another.
+// Guesses which word somebody meant who mistyped one.
 #ifndef GATEWAY_BASE_NEAREST_WORD_H
 #define GATEWAY_BASE_NEAREST_WORD_H
 

@@ -1,4 +1,4 @@
-// Events to standard error, whose reader may stop.
+// Writes events to standard error, even while their reader takes none.
 #ifndef GATEWAY_BASE_PATIENT_STDERR_H
 #define GATEWAY_BASE_PATIENT_STDERR_H
 

@@ -1,4 +1,4 @@
-// A pause that a stop ends.
+// A pause that ends early when its thread is asked to stop.
 #ifndef GATEWAY_BASE_PAUSE_H
 #define GATEWAY_BASE_PAUSE_H
 

@@ -1,4 +1,4 @@
-// Somebody's text as it may stand in a line for the operator or in a row of the log.
+// Makes a stranger's text safe for a line of the operator's and for a row of the log.
 #ifndef GATEWAY_BASE_PRINTABLE_H
 #define GATEWAY_BASE_PRINTABLE_H
 

@@ -1,4 +1,4 @@
-// Files that have secrets.
+// Opens files that hold secrets, and refuses those that others may read.
 #ifndef GATEWAY_BASE_PRIVATE_FILE_H
 #define GATEWAY_BASE_PRIVATE_FILE_H
 

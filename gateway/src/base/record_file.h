@@ -1,4 +1,4 @@
-// A file of records that has no name.
+// Files without a name in their folder, and records of one size in such a file.
 #ifndef GATEWAY_BASE_RECORD_FILE_H
 #define GATEWAY_BASE_RECORD_FILE_H
 

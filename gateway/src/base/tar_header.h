@@ -1,4 +1,4 @@
-// The form in which several files are one stream: POSIX.1-1988 tar (ustar).
+// Sends several files as one stream: POSIX.1-1988 tar (ustar).
 #ifndef GATEWAY_BASE_TAR_HEADER_H
 #define GATEWAY_BASE_TAR_HEADER_H
 

@@ -1,4 +1,4 @@
-// Addresses that a firm may come from.
+// The addresses from which a firm may connect.
 #ifndef GATEWAY_CONFIG_ADDRESS_RANGE_H
 #define GATEWAY_CONFIG_ADDRESS_RANGE_H
 

@@ -1,4 +1,4 @@
-// By whom a dealer's quotes are cancelled on a day that goes on.
+// Which trader's name the gateway's cancels of a dealer's quotes have on a day that goes on.
 #ifndef GATEWAY_CONFIG_CANCEL_TRADERS_H
 #define GATEWAY_CONFIG_CANCEL_TRADERS_H
 

@@ -1,4 +1,4 @@
-// Which firms may log on where each has to have an admitted report of mireseason-certify.
+// Which firms may log on if each needs an admitted report of mireseason-certify.
 #ifndef GATEWAY_CONFIG_CERTIFIED_FIRMS_H
 #define GATEWAY_CONFIG_CERTIFIED_FIRMS_H
 

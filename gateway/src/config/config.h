@@ -1,5 +1,5 @@
-// What the gateway is told: its own file, the credentials, and the firms of the venue's
-// configuration.
+// Everything that the gateway is configured with: its own file, the credentials, and the firms of
+// the venue's configuration.
 #ifndef GATEWAY_CONFIG_CONFIG_H
 #define GATEWAY_CONFIG_CONFIG_H
 

@@ -1,4 +1,4 @@
-// A part of a file of TOML: keys with their kinds and limits, and faults that name them.
+// Reads one part of a TOML file: each key has a kind and limits, and a fault names its key.
 #ifndef GATEWAY_CONFIG_CONFIG_SECTION_H
 #define GATEWAY_CONFIG_CONFIG_SECTION_H
 

@@ -1,4 +1,4 @@
-// What a firm may know of the venue's configuration.
+// Writes the part of the venue's configuration that a firm may see.
 #ifndef GATEWAY_CONFIG_CONFIGURATION_FOR_FIRM_H
 #define GATEWAY_CONFIG_CONFIGURATION_FOR_FIRM_H
 

@@ -1,4 +1,4 @@
-// Where a venue's log is, by its configuration.
+// Where the configuration says that a venue's log is.
 #ifndef GATEWAY_CONFIG_LOG_LOCATION_H
 #define GATEWAY_CONFIG_LOG_LOCATION_H
 

@@ -1,4 +1,4 @@
-// What a report of mireseason-certify comes to, in a line that the venue's host has signed.
+// The result of a report of mireseason-certify, as one line that the venue's host has signed.
 #ifndef GATEWAY_CONFIG_SIGNED_REPORT_H
 #define GATEWAY_CONFIG_SIGNED_REPORT_H
 

@@ -1,4 +1,4 @@
-// The files of a gateway that is started within a day.
+// Which configuration a gateway reads if it starts within a day: the day's own, or the next day's.
 #ifndef GATEWAY_CONFIG_START_CONFIGURATION_H
 #define GATEWAY_CONFIG_START_CONFIGURATION_H
 

@@ -1,5 +1,5 @@
-// The venue's configuration as its operator wrote it, with every fault of it before anything rests
-// on it. FORMATS.md has the tables that it is held against.
+// Reads the venue's configuration as its operator wrote it, and tells every fault before anything
+// depends on it. FORMATS.md has the tables of what is allowed.
 #ifndef GATEWAY_CONFIG_VENUE_FILE_H
 #define GATEWAY_CONFIG_VENUE_FILE_H
 

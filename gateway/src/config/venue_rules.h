@@ -1,5 +1,5 @@
-// What may stand in the venue's configuration, as a table: FORMATS.md's, and the keys that tell
-// people of the venue or of a bond and that the venue's program ignores.
+// A table of what the venue's configuration may have: the keys of FORMATS.md, and those that
+// describe the venue or a bond to people and that the venue's program ignores.
 #ifndef GATEWAY_CONFIG_VENUE_RULES_H
 #define GATEWAY_CONFIG_VENUE_RULES_H
 

@@ -1,4 +1,4 @@
-// From the start of a gateway to its term on a venue's log.
+// Takes a gateway from its start to its term on a venue's log.
 #ifndef GATEWAY_DAY_BEGIN_TERM_H
 #define GATEWAY_DAY_BEGIN_TERM_H
 

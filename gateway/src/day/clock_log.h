@@ -1,4 +1,4 @@
-// Has the log say how the machine's clock was.
+// Writes into the log how the machine's clock was.
 #ifndef GATEWAY_DAY_CLOCK_LOG_H
 #define GATEWAY_DAY_CLOCK_LOG_H
 

@@ -1,4 +1,4 @@
-// The gateway of one day: sessions in front, the log and the venue behind.
+// The gateway of one day: it connects the firms' sessions with the log and the venue.
 #ifndef GATEWAY_DAY_GATEWAY_H
 #define GATEWAY_DAY_GATEWAY_H
 

@@ -1,4 +1,4 @@
-// The thread that has the venue's clock told of its deadlines.
+// The thread that tells the venue's clock of each deadline that has come.
 #ifndef GATEWAY_DAY_SWEEPER_H
 #define GATEWAY_DAY_SWEEPER_H
 

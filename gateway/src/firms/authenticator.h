@@ -1,4 +1,4 @@
-// Whether the sender of a Logon is who it says.
+// Decides whether the sender of a Logon is who it says.
 #ifndef GATEWAY_FIRMS_AUTHENTICATOR_H
 #define GATEWAY_FIRMS_AUTHENTICATOR_H
 

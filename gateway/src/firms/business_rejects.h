@@ -1,5 +1,5 @@
-// What the gateway does not take: a message of a type that the venue does not have, and at times
-// one that begins something.
+// Which messages the gateway refuses itself: types that the venue does not have, and at times any
+// message that begins something.
 #ifndef GATEWAY_FIRMS_BUSINESS_REJECTS_H
 #define GATEWAY_FIRMS_BUSINESS_REJECTS_H
 

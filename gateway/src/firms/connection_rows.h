@@ -1,4 +1,4 @@
-// What the log is told of connections: Logons, ends, and who was refused.
+// Writes into the log what happened to connections: Logons, ends, and refusals.
 #ifndef GATEWAY_FIRMS_CONNECTION_ROWS_H
 #define GATEWAY_FIRMS_CONNECTION_ROWS_H
 

@@ -1,4 +1,4 @@
-// How many bytes of a day's log are one firm's, and how many may be.
+// How many bytes of a day's log one firm has used, and how many it may use.
 #ifndef GATEWAY_FIRMS_DAY_BYTES_H
 #define GATEWAY_FIRMS_DAY_BYTES_H
 

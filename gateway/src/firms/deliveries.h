@@ -1,4 +1,4 @@
-// The venue's messages on their way to the firms' sessions.
+// Carries the venue's messages to the firms' sessions.
 #ifndef GATEWAY_FIRMS_DELIVERIES_H
 #define GATEWAY_FIRMS_DELIVERIES_H
 

@@ -1,4 +1,4 @@
-// The limits of one firm: what is configured, and what an operator has set in its place.
+// The limits of one firm: those of the configuration, or those that an operator has set instead.
 #ifndef GATEWAY_FIRMS_FIRM_LIMITS_H
 #define GATEWAY_FIRMS_FIRM_LIMITS_H
 

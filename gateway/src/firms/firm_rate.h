@@ -1,4 +1,4 @@
-// What one firm may send, and have sent again.
+// How fast one firm may send messages, and have messages sent again.
 #ifndef GATEWAY_FIRMS_FIRM_RATE_H
 #define GATEWAY_FIRMS_FIRM_RATE_H
 

@@ -1,4 +1,4 @@
-// What the firms' sessions need of their venue's day.
+// Connects the firms' sessions with their venue's day.
 #ifndef GATEWAY_FIRMS_FIRM_SESSIONS_H
 #define GATEWAY_FIRMS_FIRM_SESSIONS_H
 

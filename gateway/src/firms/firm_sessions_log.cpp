@@ -1,4 +1,4 @@
-// What the firms' sessions put into the log and read of it.
+// What the firms' sessions write into the log and read from it.
 #include "firms/firm_sessions.h"
 
 #include "common/frame.h"

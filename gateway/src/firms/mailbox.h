@@ -1,4 +1,4 @@
-// What waits for one firm's session, and the thread that hands it over.
+// The messages that wait for one firm's session, and the thread that hands them over.
 #ifndef GATEWAY_FIRMS_MAILBOX_H
 #define GATEWAY_FIRMS_MAILBOX_H
 

@@ -1,5 +1,5 @@
-// What the gateway says to the venue in a firm's name: for one that is gone, or that an operator
-// has suspended.
+// Writes the messages that the gateway sends to the venue in a firm's name, if the firm is gone or
+// an operator has suspended it.
 #ifndef GATEWAY_FIRMS_ON_BEHALF_H
 #define GATEWAY_FIRMS_ON_BEHALF_H
 

@@ -1,4 +1,4 @@
-// Wrong passwords, counted by address, and what they cost whoever sends them.
+// Counts wrong passwords by address, and makes that address wait for them.
 #ifndef GATEWAY_FIRMS_PASSWORD_GUESSES_H
 #define GATEWAY_FIRMS_PASSWORD_GUESSES_H
 

@@ -1,5 +1,5 @@
-// What of the log a firm still has when its bytes of the day are used up, or the disk is nearly
-// full.
+// How fast a firm may still take something back once its bytes of the day are used up, or the disk
+// is nearly full.
 #ifndef GATEWAY_FIRMS_RATE_AT_LIMIT_H
 #define GATEWAY_FIRMS_RATE_AT_LIMIT_H
 

@@ -1,4 +1,4 @@
-// What operators ordered of firms' sessions.
+// Carries operators' orders to the firms' sessions.
 #ifndef GATEWAY_FIRMS_SESSION_COMMANDS_H
 #define GATEWAY_FIRMS_SESSION_COMMANDS_H
 

@@ -1,4 +1,5 @@
-// Whether the machine's clock goes on as the time since boot does, and what the kernel says of it.
+// Watches the machine's clock: whether it keeps pace with the time since boot, and what the kernel
+// says of it.
 #ifndef GATEWAY_HEALTH_CLOCK_WATCH_H
 #define GATEWAY_HEALTH_CLOCK_WATCH_H
 

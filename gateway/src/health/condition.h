@@ -1,5 +1,4 @@
-// How the service is, in a few words: for systemd, for whoever asks /health and /ready, and for the
-// page.
+// How the service is, in a few words: for systemd, for /health and /ready, and for the page.
 #ifndef GATEWAY_HEALTH_CONDITION_H
 #define GATEWAY_HEALTH_CONDITION_H
 

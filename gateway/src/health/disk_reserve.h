@@ -1,4 +1,4 @@
-// What of the room on the log's disk is held back for messages that take something back.
+// Holds back room on the log's disk for messages that take something back.
 #ifndef GATEWAY_HEALTH_DISK_RESERVE_H
 #define GATEWAY_HEALTH_DISK_RESERVE_H
 

@@ -1,4 +1,4 @@
-// When the parts that do the work last showed that they do.
+// Notes when each part that does the work last showed that it does.
 #ifndef GATEWAY_HEALTH_LIVENESS_H
 #define GATEWAY_HEALTH_LIVENESS_H
 

@@ -1,4 +1,4 @@
-// Counters and latencies, told as Prometheus reads them.
+// Counters and latencies, in the form that Prometheus reads.
 #ifndef GATEWAY_HEALTH_METRICS_H
 #define GATEWAY_HEALTH_METRICS_H
 

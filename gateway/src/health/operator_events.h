@@ -1,4 +1,4 @@
-// What happens at connections and sessions, counted and told to the operator.
+// Counts what happens at connections and sessions, and tells the operator.
 #ifndef GATEWAY_HEALTH_OPERATOR_EVENTS_H
 #define GATEWAY_HEALTH_OPERATOR_EVENTS_H
 

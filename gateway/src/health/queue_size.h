@@ -1,4 +1,4 @@
-// How much waits somewhere.
+// How many wait at one place, for a metric.
 #ifndef GATEWAY_HEALTH_QUEUE_SIZE_H
 #define GATEWAY_HEALTH_QUEUE_SIZE_H
 

@@ -1,4 +1,4 @@
-// A venue that has stopped to answer, and a log that has.
+// Tells the operator when the venue, or the log, stops answering.
 #ifndef GATEWAY_HEALTH_SILENCE_H
 #define GATEWAY_HEALTH_SILENCE_H
 

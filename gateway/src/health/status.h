@@ -1,4 +1,4 @@
-// Whether the gateway goes on, and how far it is.
+// Whether the gateway goes on, and how far it has come.
 #ifndef GATEWAY_HEALTH_STATUS_H
 #define GATEWAY_HEALTH_STATUS_H
 

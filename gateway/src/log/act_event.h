@@ -1,4 +1,4 @@
-// An operator's act as an event.
+// Tells an operator's act as an event.
 #ifndef GATEWAY_LOG_ACT_EVENT_H
 #define GATEWAY_LOG_ACT_EVENT_H
 

@@ -1,4 +1,4 @@
-// The entries of the log's next batch, in the order in which their messages were received.
+// Puts the entries of the log's next batch into the order in which their messages were received.
 #ifndef GATEWAY_LOG_ARRIVALS_H
 #define GATEWAY_LOG_ARRIVALS_H
 

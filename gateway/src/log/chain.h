@@ -1,4 +1,4 @@
-// The chains of a log's entries and of what happened to its connections, and the seals over both.
+// Computes the chains of a log's entries and of its connections' events, and the seals over both.
 #ifndef GATEWAY_LOG_CHAIN_H
 #define GATEWAY_LOG_CHAIN_H
 

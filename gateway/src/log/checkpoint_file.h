@@ -1,5 +1,5 @@
-// The last checkpoint of a log, in a file outside of its database: what tells that the end of the
-// log was cut off.
+// Keeps the last checkpoint of a log in a file outside of its database, which shows if somebody cut
+// off the end of the log.
 #ifndef GATEWAY_LOG_CHECKPOINT_FILE_H
 #define GATEWAY_LOG_CHECKPOINT_FILE_H
 

@@ -1,4 +1,5 @@
-// Gives each checkpoint to a program of the operator's as it is made, so that it leaves this host.
+// Gives each checkpoint to a program of the operator as soon as it is made, so that it leaves this
+// host.
 #ifndef GATEWAY_LOG_CHECKPOINT_SENDER_H
 #define GATEWAY_LOG_CHECKPOINT_SENDER_H
 

@@ -1,4 +1,4 @@
-// Signs where the log stands, each second, and keeps the last signature outside of the database.
+// Signs each second where the log stands, and keeps the last signature outside of the database.
 #ifndef GATEWAY_LOG_CHECKPOINT_SIGNER_H
 #define GATEWAY_LOG_CHECKPOINT_SIGNER_H
 

@@ -1,4 +1,4 @@
-// What happened to connections, read of the log.
+// Reads from the log what happened to connections.
 #include "log/database.h"
 
 #include <algorithm>

@@ -1,4 +1,4 @@
-// The log's database, whichever it is. schema.sql is what stands in it.
+// The log's database, of SQLite or of PostgreSQL. schema.sql has its tables.
 #ifndef GATEWAY_LOG_DATABASE_H
 #define GATEWAY_LOG_DATABASE_H
 

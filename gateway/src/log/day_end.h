@@ -1,4 +1,4 @@
-// How an operator ends the day that goes on.
+// How an operator's order ends the day that goes on.
 #ifndef GATEWAY_LOG_DAY_END_H
 #define GATEWAY_LOG_DAY_END_H
 

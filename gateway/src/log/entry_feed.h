@@ -1,4 +1,4 @@
-// The entries that are in the log, on their way to the venue.
+// Hands the log's entries to whatever feeds the venue.
 #ifndef GATEWAY_LOG_ENTRY_FEED_H
 #define GATEWAY_LOG_ENTRY_FEED_H
 

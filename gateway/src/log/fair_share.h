@@ -1,4 +1,5 @@
-// How much of the log's next batch, and of what the venue has not answered, may be one firm's.
+// How much of the log's next batch, and of the entries that the venue has not answered, one firm
+// may have.
 #ifndef GATEWAY_LOG_FAIR_SHARE_H
 #define GATEWAY_LOG_FAIR_SHARE_H
 

@@ -1,4 +1,4 @@
-// The log as the gateway writes it: what waits is committed together, in one order for all.
+// The log as the gateway writes it: it commits all waiting entries together, in one order for all.
 #ifndef GATEWAY_LOG_LOG_H
 #define GATEWAY_LOG_LOG_H
 

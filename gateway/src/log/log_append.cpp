@@ -1,4 +1,4 @@
-// How entries come into the log: who goes first, in which order, at which moment.
+// How entries get into the log: whose goes first, in which order, and with which moment.
 #include "log/log.h"
 
 #include "common/frame.h"

@@ -1,4 +1,4 @@
-// Holds a log against its seals and against the checkpoint that was kept outside of its database.
+// Checks a log against its seals and against the checkpoint that was kept outside of its database.
 #ifndef GATEWAY_LOG_LOG_GUARD_H
 #define GATEWAY_LOG_LOG_GUARD_H
 

@@ -1,4 +1,4 @@
-// The keys of the gateways of one log.
+// Makes the keys of the gateways of one log.
 #ifndef GATEWAY_LOG_MAKE_KEYS_H
 #define GATEWAY_LOG_MAKE_KEYS_H
 

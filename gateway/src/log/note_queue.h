@@ -1,4 +1,4 @@
-// Lines of session notes on their way from the log's seals to whoever recovers the sessions.
+// Queues the lines of session notes between the log's seals and the recovery of the sessions.
 #ifndef GATEWAY_LOG_NOTE_QUEUE_H
 #define GATEWAY_LOG_NOTE_QUEUE_H
 

@@ -1,4 +1,4 @@
-// Lines of the log that the venue ignores: what operators did, and what the machine's clock was.
+// Lines of the log that the venue ignores: what operators did, and how the machine's clock was.
 #ifndef GATEWAY_LOG_NOTES_H
 #define GATEWAY_LOG_NOTES_H
 

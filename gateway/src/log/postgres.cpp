@@ -1,5 +1,5 @@
-// The log in a schema of PostgreSQL. A commit returns when the server says that it is safe, by its
-// synchronous_commit and its synchronous_standby_names.
+// Writes the log into a schema of PostgreSQL. A commit returns when the server says that it is
+// safe, by its synchronous_commit and its synchronous_standby_names.
 #include "log/postgres.h"
 #include "log/postgres_rows.h"
 

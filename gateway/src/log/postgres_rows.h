@@ -1,4 +1,4 @@
-// How the rows of a batch come into the tables of PostgreSQL.
+// Puts the rows of a batch into the tables of PostgreSQL.
 #ifndef GATEWAY_LOG_POSTGRES_ROWS_H
 #define GATEWAY_LOG_POSTGRES_ROWS_H
 

@@ -1,4 +1,4 @@
-// What the venue notes beside its messages: why one refuses, and which trade one tells of.
+// What the venue notes beside its messages: why it refuses one, and which trade one tells of.
 #ifndef GATEWAY_LOG_REASONS_H
 #define GATEWAY_LOG_REASONS_H
 

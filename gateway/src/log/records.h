@@ -1,4 +1,4 @@
-// The rows of the log, and their chain. schema.sql says what each column is.
+// The rows of the log, and their chain. schema.sql says what each column means.
 #ifndef GATEWAY_LOG_RECORDS_H
 #define GATEWAY_LOG_RECORDS_H
 

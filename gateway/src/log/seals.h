@@ -1,5 +1,5 @@
-// Seals and signatures of the log, and the gateways' keys for them: who writes to its database and
-// has none of these can make neither.
+// Seals and signs the log with the gateways' keys. Somebody who can write to its database and has
+// none of these keys can make neither a seal nor a signature.
 #ifndef GATEWAY_LOG_SEALS_H
 #define GATEWAY_LOG_SEALS_H
 

@@ -1,4 +1,5 @@
-// A session note as a line of the log, and the running hashes of notes and of messages.
+// Writes a session note as a line of the log, and computes the running hashes of notes and of
+// messages.
 #ifndef GATEWAY_LOG_SESSION_NOTE_LINE_H
 #define GATEWAY_LOG_SESSION_NOTE_LINE_H
 

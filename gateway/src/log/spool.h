@@ -1,4 +1,4 @@
-// What the firms' sessions may have to send again, in files of the gateway's own.
+// Keeps what the firms' sessions may have to send again, in files of the gateway's own.
 #ifndef GATEWAY_LOG_SPOOL_H
 #define GATEWAY_LOG_SPOOL_H
 

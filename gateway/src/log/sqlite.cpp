@@ -1,4 +1,4 @@
-// The log in a file of SQLite: write-ahead logging, and every commit synchronised.
+// Writes the log into a file of SQLite: with write-ahead logging, and every commit synchronised.
 #include "log/database.h"
 
 #include "common/descriptor.h"

@@ -1,4 +1,4 @@
-// What stands in a file of its own beside sqlite.cpp.
+// Declares what has a file of its own beside sqlite.cpp.
 #ifndef GATEWAY_LOG_SQLITE_H
 #define GATEWAY_LOG_SQLITE_H
 

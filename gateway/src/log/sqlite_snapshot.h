@@ -1,4 +1,4 @@
-// The bytes of a log in a file of SQLite as they are at one moment, whoever writes it meanwhile.
+// Reads the bytes of a log in SQLite as they are at one moment, while the gateway goes on writing.
 #ifndef GATEWAY_LOG_SQLITE_SNAPSHOT_H
 #define GATEWAY_LOG_SQLITE_SNAPSHOT_H
 

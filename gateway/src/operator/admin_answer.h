@@ -1,4 +1,4 @@
-// What a command of the operator answers, for people and for programs.
+// What an operator's command answers, for people and for programs.
 #ifndef GATEWAY_OPERATOR_ADMIN_ANSWER_H
 #define GATEWAY_OPERATOR_ADMIN_ANSWER_H
 

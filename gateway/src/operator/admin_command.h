@@ -1,4 +1,4 @@
-// A command of the operator: what it is called, and what it does.
+// An operator's command: its name, and what it does.
 #ifndef GATEWAY_OPERATOR_ADMIN_COMMAND_H
 #define GATEWAY_OPERATOR_ADMIN_COMMAND_H
 

@@ -1,4 +1,4 @@
-// mireseason-admin: says a command of the operator to the gateway, and prints what it answers.
+// mireseason-admin: passes an operator's command to the gateway, and prints the answer.
 #include "common/descriptor.h"
 #include "operator/admin_report.h"
 #include "operator/admin_words.h"

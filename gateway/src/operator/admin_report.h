@@ -1,4 +1,5 @@
-// What mireseason-admin does beside asking the gateway where a report is admitted.
+// The part of `admit` that mireseason-admin does itself: it reads a report's signature, and keeps
+// it with the firm's credentials.
 #ifndef GATEWAY_OPERATOR_ADMIN_REPORT_H
 #define GATEWAY_OPERATOR_ADMIN_REPORT_H
 

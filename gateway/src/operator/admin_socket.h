@@ -1,4 +1,5 @@
-// The operator's socket: who may connect, how much is read, how long anything may take.
+// The operator's socket: it decides who may connect, how much it reads, and how long anything may
+// take.
 #ifndef GATEWAY_OPERATOR_ADMIN_SOCKET_H
 #define GATEWAY_OPERATOR_ADMIN_SOCKET_H
 

@@ -1,4 +1,4 @@
-// Answers of the operator's socket that are no text: a stream of bytes.
+// Answers of the operator's socket that are streams of bytes, not texts.
 #ifndef GATEWAY_OPERATOR_ADMIN_STREAM_H
 #define GATEWAY_OPERATOR_ADMIN_STREAM_H
 

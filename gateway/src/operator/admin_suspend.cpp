@@ -1,5 +1,5 @@
-// The operator's commands that order something of one firm: `suspend`, `resume FIRM`, `cancel`,
-// `reset-session` and `release`.
+// The operator's commands for one firm: `suspend`, `resume FIRM`, `cancel`, `reset-session` and
+// `release`.
 #include "operator/admin_command.h"
 
 #include "config/firm_row.h"

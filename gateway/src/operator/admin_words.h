@@ -1,5 +1,5 @@
-// A request at the operator's socket, as it stands on the line: what the program mireseason-admin
-// writes and the gateway reads.
+// Writes and reads one request at the operator's socket: mireseason-admin writes it, and the
+// gateway reads it.
 #ifndef GATEWAY_OPERATOR_ADMIN_WORDS_H
 #define GATEWAY_OPERATOR_ADMIN_WORDS_H
 

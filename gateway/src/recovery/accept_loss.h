@@ -1,4 +1,4 @@
-// What an operator does where the end of a log was lost.
+// Accepts the loss if the end of a log is gone, by an operator's order.
 #ifndef GATEWAY_RECOVERY_ACCEPT_LOSS_H
 #define GATEWAY_RECOVERY_ACCEPT_LOSS_H
 

@@ -1,4 +1,4 @@
-// The numbers of sessions before their day has opened.
+// Keeps the numbers of sessions before their day has opened.
 #ifndef GATEWAY_RECOVERY_EARLY_NUMBERS_H
 #define GATEWAY_RECOVERY_EARLY_NUMBERS_H
 

@@ -1,4 +1,4 @@
-// How far a day is for one firm, by what is sealed.
+// How far one firm's day has come, by what is sealed.
 #ifndef GATEWAY_RECOVERY_FIRM_STATE_H
 #define GATEWAY_RECOVERY_FIRM_STATE_H
 

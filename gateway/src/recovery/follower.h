@@ -1,4 +1,5 @@
-// A venue's day as every gateway has it: the log, fed to a venue of its own, and what that gives.
+// Follows a venue's day, as every gateway does: it feeds the log to a venue of its own, and takes
+// what that gives.
 #ifndef GATEWAY_RECOVERY_FOLLOWER_H
 #define GATEWAY_RECOVERY_FOLLOWER_H
 

@@ -1,4 +1,4 @@
-// Waits for the log of a gateway that speaks, and for its end.
+// Watches the log of the gateway that speaks, and takes over at that gateway's end.
 #ifndef GATEWAY_RECOVERY_LOG_WATCH_H
 #define GATEWAY_RECOVERY_LOG_WATCH_H
 

@@ -1,4 +1,4 @@
-// The day that a log is of.
+// Opens the day of a log, or begins it.
 #ifndef GATEWAY_RECOVERY_OPEN_DAY_H
 #define GATEWAY_RECOVERY_OPEN_DAY_H
 

@@ -1,4 +1,5 @@
-// Session notes as the fold of docs/RECOVERY.md takes them, and the numbers that it gives.
+// Reads session notes as the fold of docs/RECOVERY.md takes them, and gives the numbers that it
+// finds.
 #ifndef GATEWAY_RECOVERY_RECOVERED_NUMBERS_H
 #define GATEWAY_RECOVERY_RECOVERED_NUMBERS_H
 

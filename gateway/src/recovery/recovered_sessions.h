@@ -1,4 +1,4 @@
-// The sessions of a venue's day, as they follow from what is sealed.
+// Recovers the sessions of a venue's day from what is sealed.
 #ifndef GATEWAY_RECOVERY_RECOVERED_SESSIONS_H
 #define GATEWAY_RECOVERY_RECOVERED_SESSIONS_H
 

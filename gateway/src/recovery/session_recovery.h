@@ -1,8 +1,8 @@
-// A firm's session as it follows from what is sealed: docs/RECOVERY.md has the rules, and
-// crates/session_recovery_c is proved to do what its definitions say.
+// Recovers a firm's session from what is sealed, as C++ calls it: docs/RECOVERY.md has the rules,
+// and crates/session_recovery_c is proved to do what its definitions say.
 //
-// What is recovered is a struct of the caller's. Each call takes it on by one step, or leaves it as
-// it was and says why. No call takes memory or keeps a pointer.
+// The recovered session is a struct of the caller's. Each call takes it one step further, or leaves
+// it as it was and says why. No call takes memory or keeps a pointer.
 #ifndef GATEWAY_RECOVERY_SESSION_RECOVERY_H
 #define GATEWAY_RECOVERY_SESSION_RECOVERY_H
 

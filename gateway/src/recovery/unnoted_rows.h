@@ -1,4 +1,4 @@
-// What the copy for readers may lack after a kill.
+// Finds the rows that the copy for readers may lack after a kill.
 #ifndef GATEWAY_RECOVERY_UNNOTED_ROWS_H
 #define GATEWAY_RECOVERY_UNNOTED_ROWS_H
 

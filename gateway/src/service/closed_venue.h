@@ -1,4 +1,4 @@
-// The gateway's port before a day opens.
+// What the gateway's port answers before a day opens.
 #ifndef GATEWAY_SERVICE_CLOSED_VENUE_H
 #define GATEWAY_SERVICE_CLOSED_VENUE_H
 

@@ -1,4 +1,4 @@
-// Copies of the logs of days that have ended, at the place that the configuration names.
+// Copies the logs of days that have ended to the place that the configuration names.
 #ifndef GATEWAY_SERVICE_DAY_COPIES_H
 #define GATEWAY_SERVICE_DAY_COPIES_H
 

@@ -1,4 +1,4 @@
-// Copies days beside the one that goes on, however long that takes.
+// Copies days in a thread of its own, so that the day that goes on does not wait.
 #ifndef GATEWAY_SERVICE_DAY_COPYING_H
 #define GATEWAY_SERVICE_DAY_COPYING_H
 

@@ -1,4 +1,4 @@
-// The hours by which a day began, which outlive its gateway's process.
+// Keeps the hours by which a day began, also when the gateway's process has ended.
 #ifndef GATEWAY_SERVICE_DAY_HOURS_H
 #define GATEWAY_SERVICE_DAY_HOURS_H
 

@@ -1,4 +1,4 @@
-// What whoever looks after the service may ask on this machine: how it is, what it counts, and a
+// Answers whoever looks after the service, on this machine alone: how it is, what it counts, and a
 // page with both.
 #ifndef GATEWAY_SERVICE_MONITOR_H
 #define GATEWAY_SERVICE_MONITOR_H

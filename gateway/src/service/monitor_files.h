@@ -1,4 +1,4 @@
-// The files of gateway/page, as texts of the program.
+// The files of gateway/page, as texts in the program.
 #ifndef GATEWAY_SERVICE_MONITOR_FILES_H
 #define GATEWAY_SERVICE_MONITOR_FILES_H
 

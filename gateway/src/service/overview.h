@@ -1,4 +1,4 @@
-// The page of the gateway: what an operator looks at first.
+// The gateway's page, which an operator looks at first.
 #ifndef GATEWAY_SERVICE_OVERVIEW_H
 #define GATEWAY_SERVICE_OVERVIEW_H
 

@@ -1,4 +1,4 @@
-// By /proc: which sockets listen at the port, and whether the process has one of them.
+// Finds by /proc which sockets listen at the port, and whether the process has one of them.
 #include "service/own_port.h"
 
 #include <algorithm>

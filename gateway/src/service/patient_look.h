@@ -1,4 +1,4 @@
-// A look at a disk that may never answer, such as a folder that another machine lends.
+// Looks at a disk that may never answer, such as a folder that another machine lends.
 #ifndef GATEWAY_SERVICE_PATIENT_LOOK_H
 #define GATEWAY_SERVICE_PATIENT_LOOK_H
 

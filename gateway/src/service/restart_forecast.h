@@ -1,4 +1,4 @@
-// What a start at this moment would do to the day that is open.
+// Says what a restart at this moment would do to the day that is open.
 #ifndef GATEWAY_SERVICE_RESTART_FORECAST_H
 #define GATEWAY_SERVICE_RESTART_FORECAST_H
 

@@ -1,4 +1,4 @@
-// The gateway over its trading days.
+// Runs the gateway over its trading days.
 #ifndef GATEWAY_SERVICE_SERVICE_H
 #define GATEWAY_SERVICE_SERVICE_H
 

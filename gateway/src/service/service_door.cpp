@@ -1,4 +1,4 @@
-// The port before a day opens, at which each Logon is refused.
+// Refuses each Logon at the port before a day opens.
 #include "common/moment.h"
 #include "service/service.h"
 #include "session/check_settings.h"

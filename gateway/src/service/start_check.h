@@ -1,4 +1,4 @@
-// What a start would find, without one.
+// Finds out what a start would meet, without starting.
 #ifndef GATEWAY_SERVICE_START_CHECK_H
 #define GATEWAY_SERVICE_START_CHECK_H
 

@@ -1,4 +1,4 @@
-// The socket at which systemd hears how a service is: sd_notify(3).
+// The socket by which systemd learns how a service is: sd_notify(3).
 #ifndef GATEWAY_SERVICE_SYSTEMD_SOCKET_H
 #define GATEWAY_SERVICE_SYSTEMD_SOCKET_H
 

@@ -1,4 +1,4 @@
-// Looks at an engine's settings before there is one.
+// Checks an engine's settings before the engine is made.
 #ifndef GATEWAY_SESSION_CHECK_SETTINGS_H
 #define GATEWAY_SESSION_CHECK_SETTINGS_H
 

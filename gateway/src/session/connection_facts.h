@@ -1,4 +1,4 @@
-// Who is at the other end of a connection, and whether it is who its Logon says.
+// What is known of the other end of a connection, and whether its Logon may be believed.
 #ifndef GATEWAY_SESSION_CONNECTION_FACTS_H
 #define GATEWAY_SESSION_CONNECTION_FACTS_H
 

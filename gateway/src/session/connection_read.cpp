@@ -1,4 +1,4 @@
-// How what comes on a connection is read: by a firm's rate, and at the end passed over.
+// How a connection reads: at its firm's rate, and at its end without looking.
 #include "session/connection.h"
 
 #include "session/refusal_words.h"

@@ -1,5 +1,5 @@
-// What is said on one connection: its bytes, cut into messages, at the door and then in its
-// session.
+// What one connection says: cuts its bytes into messages, and gives them to the door and then to
+// its session.
 #ifndef GATEWAY_SESSION_CONVERSATION_H
 #define GATEWAY_SESSION_CONVERSATION_H
 

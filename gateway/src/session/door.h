@@ -1,4 +1,4 @@
-// The door: what the first message of a connection has to be before the connection has a session.
+// The door: it judges the first message of a connection, before the connection has a session.
 #ifndef GATEWAY_SESSION_DOOR_H
 #define GATEWAY_SESSION_DOOR_H
 

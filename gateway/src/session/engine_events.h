@@ -1,4 +1,4 @@
-// What happens at connections and sessions, told for the operator.
+// What happens at connections and sessions, for the operator.
 #ifndef GATEWAY_SESSION_ENGINE_EVENTS_H
 #define GATEWAY_SESSION_ENGINE_EVENTS_H
 

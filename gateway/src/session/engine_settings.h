@@ -1,4 +1,5 @@
-// What an engine is told: its address, its certificates, and how much it has room for.
+// The settings of an engine: its address, its certificates, and how many connections it has room
+// for.
 #ifndef GATEWAY_SESSION_ENGINE_SETTINGS_H
 #define GATEWAY_SESSION_ENGINE_SETTINGS_H
 

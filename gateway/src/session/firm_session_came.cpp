@@ -1,4 +1,4 @@
-// What a session does with what comes on connections.
+// What a session does with the messages that come on its connections.
 #include "session/firm_session.h"
 #include "session/refusal_words.h"
 #include "session/transport.h"

@@ -1,4 +1,4 @@
-// How connections of a session end: by the session's rules, by the gateway, by an operator.
+// How a session's connections end: by its own rules, by the gateway, or by an operator.
 #include "session/firm_session.h"
 #include "session/own_fields.h"
 #include "session/transport.h"

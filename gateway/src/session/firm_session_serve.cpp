@@ -1,4 +1,4 @@
-// How what a session has to say leaves.
+// How a session's own messages leave.
 #include "session/firm_session.h"
 #include "session/transport.h"
 

@@ -1,5 +1,5 @@
-// What a session hands over again soon, in memory: a stretch of its numbers, with what is kept
-// under them.
+// The stretch of a session's messages that is in memory, because the session hands them over again
+// soon.
 #ifndef GATEWAY_SESSION_KEPT_ROWS_H
 #define GATEWAY_SESSION_KEPT_ROWS_H
 

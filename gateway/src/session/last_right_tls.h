@@ -1,4 +1,4 @@
-// The certificates of a gateway whose files are at fault by now.
+// Keeps the last right certificates, for a gateway whose files are at fault by now.
 #ifndef GATEWAY_SESSION_LAST_RIGHT_TLS_H
 #define GATEWAY_SESSION_LAST_RIGHT_TLS_H
 

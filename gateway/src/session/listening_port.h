@@ -1,4 +1,4 @@
-// A port at which connections come.
+// Listens at a port, and takes connections.
 #ifndef GATEWAY_SESSION_LISTENING_PORT_H
 #define GATEWAY_SESSION_LISTENING_PORT_H
 

@@ -1,5 +1,5 @@
-// One firm's session as the machine behind fix_sessions.h has it: the proved one, or the second
-// implementation. Nothing else includes that header.
+// Calls the machine of one firm's session: the proved one, or the second implementation. No other
+// file includes fix_sessions.h.
 #ifndef GATEWAY_SESSION_MACHINE_H
 #define GATEWAY_SESSION_MACHINE_H
 

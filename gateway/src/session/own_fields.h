@@ -1,4 +1,4 @@
-// Fields in bytes of a session's own: what its machine has made, never what came.
+// Reads fields of messages that a session's machine wrote, never of messages that came.
 #ifndef GATEWAY_SESSION_OWN_FIELDS_H
 #define GATEWAY_SESSION_OWN_FIELDS_H
 

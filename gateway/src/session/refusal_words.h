@@ -1,5 +1,5 @@
-// The words for why a connection or a Logon is refused: of the operator's events, the metrics and
-// the log's rows. Nobody who connects is told them.
+// Names the reasons for which a connection or a Logon is refused, for the operator's events, the
+// metrics and the log's rows. Nobody who connects is told them.
 #ifndef GATEWAY_SESSION_REFUSAL_WORDS_H
 #define GATEWAY_SESSION_REFUSAL_WORDS_H
 

@@ -1,4 +1,4 @@
-// The numbers of Logons with wrong credentials.
+// Remembers the numbers of Logons with wrong credentials.
 #ifndef GATEWAY_SESSION_REFUSED_NUMBERS_H
 #define GATEWAY_SESSION_REFUSED_NUMBERS_H
 

@@ -1,4 +1,4 @@
-// What one event of a session is made of, and what it puts into the log.
+// One event of a session: its parts, and what it writes into the log.
 #ifndef GATEWAY_SESSION_SESSION_EVENT_H
 #define GATEWAY_SESSION_SESSION_EVENT_H
 

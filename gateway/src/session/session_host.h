@@ -1,4 +1,4 @@
-// What the sessions need of the gateway.
+// What the sessions ask of the gateway.
 #ifndef GATEWAY_SESSION_SESSION_HOST_H
 #define GATEWAY_SESSION_SESSION_HOST_H
 

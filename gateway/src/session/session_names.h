@@ -1,4 +1,4 @@
-// What the venue is called, and a firm's session with it.
+// The names of the venue and of a firm's session with it.
 #ifndef GATEWAY_SESSION_SESSION_NAMES_H
 #define GATEWAY_SESSION_SESSION_NAMES_H
 

@@ -1,4 +1,4 @@
-// What a session did that no entry of the log says.
+// What a session did, if no entry of the log says it.
 #ifndef GATEWAY_SESSION_SESSION_NOTE_H
 #define GATEWAY_SESSION_SESSION_NOTE_H
 

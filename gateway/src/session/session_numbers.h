@@ -1,4 +1,4 @@
-// What is kept of a session: its numbers, and what operators said.
+// What the gateway keeps of a session: its numbers, and what operators ordered.
 #ifndef GATEWAY_SESSION_SESSION_NUMBERS_H
 #define GATEWAY_SESSION_SESSION_NUMBERS_H
 

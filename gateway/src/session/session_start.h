@@ -1,4 +1,4 @@
-// Where a session begins.
+// Where a session stands when the gateway starts.
 #ifndef GATEWAY_SESSION_SESSION_START_H
 #define GATEWAY_SESSION_SESSION_START_H
 

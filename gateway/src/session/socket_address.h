@@ -1,4 +1,4 @@
-// The address of an engine, as the system has it.
+// Turns the address of an engine into the system's form.
 #ifndef GATEWAY_SESSION_SOCKET_ADDRESS_H
 #define GATEWAY_SESSION_SOCKET_ADDRESS_H
 

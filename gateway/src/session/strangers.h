@@ -1,4 +1,4 @@
-// The slots of connections that have no session yet.
+// Gives slots to connections that have no session yet.
 #ifndef GATEWAY_SESSION_STRANGERS_H
 #define GATEWAY_SESSION_STRANGERS_H
 

@@ -1,5 +1,5 @@
-// A connection as the door and its session see it: where their bytes go, and who is at the other
-// end.
+// A connection as the door and its session see it: it takes their bytes, and says who is at the
+// other end.
 #ifndef GATEWAY_SESSION_TRANSPORT_H
 #define GATEWAY_SESSION_TRANSPORT_H
 

@@ -1,4 +1,4 @@
-// Turns at work that whoever connects may ask for, and that takes a processor for long.
+// Shares out work that takes a processor long, and that anybody who connects can ask for.
 #ifndef GATEWAY_SESSION_TURNS_H
 #define GATEWAY_SESSION_TURNS_H
 

@@ -1,4 +1,4 @@
-// Between the messages on the wire and those of the venue: numbers and times.
+// Translates numbers and times between messages on the wire and those of the venue.
 #ifndef GATEWAY_SESSION_WIRE_H
 #define GATEWAY_SESSION_WIRE_H
 

@@ -1,4 +1,4 @@
-// By Landlock (files, signals) and seccomp (calls of the system), which this process asks for
+// Confines this process by Landlock (files, signals) and seccomp (system calls), which it asks for
 // itself: no privilege is needed.
 #include "venue/confinement.h"
 

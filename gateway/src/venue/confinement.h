@@ -1,4 +1,4 @@
-// What the venue's process is left: its program, and three pipes.
+// Confines the venue's process to its program and three pipes.
 #ifndef GATEWAY_VENUE_CONFINEMENT_H
 #define GATEWAY_VENUE_CONFINEMENT_H
 

@@ -1,4 +1,4 @@
-// The quotes of dealers that live now, and who sent each.
+// The dealers' quotes that are live now, and who sent each.
 #ifndef GATEWAY_VENUE_LIVE_QUOTES_H
 #define GATEWAY_VENUE_LIVE_QUOTES_H
 

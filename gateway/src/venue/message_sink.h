@@ -1,4 +1,4 @@
-// Where the messages go that a venue gives.
+// Takes the messages that a venue gives.
 #ifndef GATEWAY_VENUE_MESSAGE_SINK_H
 #define GATEWAY_VENUE_MESSAGE_SINK_H
 

@@ -1,4 +1,4 @@
-// The requests that are open now, for who looks after the venue.
+// The requests that are open now, for those who look after the venue.
 #ifndef GATEWAY_VENUE_OPEN_REQUESTS_H
 #define GATEWAY_VENUE_OPEN_REQUESTS_H
 

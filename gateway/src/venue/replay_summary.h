@@ -1,4 +1,4 @@
-// What a start takes from the entries that it has fed to the venue.
+// Collects what a start needs from the entries that it feeds to the venue.
 #ifndef GATEWAY_VENUE_REPLAY_SUMMARY_H
 #define GATEWAY_VENUE_REPLAY_SUMMARY_H
 

@@ -1,4 +1,4 @@
-// Which bond each quote is of that an investor was shown.
+// Finds the bond of a quote that an investor was shown.
 #ifndef GATEWAY_VENUE_SHOWN_QUOTES_H
 #define GATEWAY_VENUE_SHOWN_QUOTES_H
 

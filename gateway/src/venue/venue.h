@@ -1,4 +1,4 @@
-// The venue's process: fed with the log, read, and started again where it ends.
+// Runs the venue's process: feeds it the log, reads it, and starts it again if it ends.
 #ifndef GATEWAY_VENUE_VENUE_H
 #define GATEWAY_VENUE_VENUE_H
 

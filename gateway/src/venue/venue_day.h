@@ -1,4 +1,5 @@
-// A venue's day at the gateway: what whoever follows its log and whoever writes it share.
+// A venue's day at the gateway: what is shared by the part that follows its log and the part that
+// writes it.
 #ifndef GATEWAY_VENUE_VENUE_DAY_H
 #define GATEWAY_VENUE_VENUE_DAY_H
 

@@ -1,4 +1,4 @@
-// How far the venue's process is.
+// How many entries the venue's process has answered, and its next deadline.
 #ifndef GATEWAY_VENUE_VENUE_PROGRESS_H
 #define GATEWAY_VENUE_VENUE_PROGRESS_H
 

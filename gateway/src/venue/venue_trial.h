@@ -1,4 +1,4 @@
-// The venue's program is asked whether it takes a configuration, before a day begins with it.
+// Asks the venue's program whether it takes a configuration, before a day begins with it.
 #ifndef GATEWAY_VENUE_VENUE_TRIAL_H
 #define GATEWAY_VENUE_VENUE_TRIAL_H
 
