@@ -1,3 +1,3 @@
-"""A supervisor's audit of a day: what was really sent, checked against the venue's program and
-shown.
+"""A supervisor's audit of a day: it checks what was really sent against the venue's program, and
+shows it.
 """

@@ -1,6 +1,7 @@
-"""The words of the command line, and the log that they name.
+"""Reads the words of the command line, and opens the log that they name.
 
-What one command alone needs is imported by it: jinja2 takes longer than the check of a short day.
+A module that one command alone needs is imported by that command: jinja2 takes longer than the
+check of a short day.
 """
 
 import argparse

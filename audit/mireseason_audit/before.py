@@ -1,4 +1,4 @@
-"""Pages of the same day as it stood earlier: those that did not change are taken from them."""
+"""Takes pages that have not changed from an earlier build of the same day."""
 
 from dataclasses import dataclass
 from pathlib import Path

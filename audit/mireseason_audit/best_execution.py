@@ -1,5 +1,5 @@
-"""An investor's own file for best execution: its requests, whom it asked, what it was shown, what
-it hit, and how far that was from the best. It has nothing that the investor was not told.
+"""Writes an investor's own file for best execution: its requests, whom it asked, what it was shown,
+what it hit, and how far that was from the best. It has nothing that the investor was not told.
 """
 
 from collections import defaultdict

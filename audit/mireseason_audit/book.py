@@ -1,4 +1,4 @@
-"""The acts of a day on disk, by their requests, so that no day is held in memory."""
+"""Keeps the acts of a day on disk, by their requests, so that no day is held in memory."""
 
 import marshal
 import sqlite3

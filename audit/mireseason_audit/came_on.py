@@ -1,4 +1,4 @@
-"""On which connection a message came, in words."""
+"""Says in words on which connection a message came."""
 
 from dataclasses import dataclass, replace
 

@@ -1,4 +1,4 @@
-"""Whether a firm's session carried what the venue gave for the firm, and nothing else of it."""
+"""Checks that a firm's session carried what the venue gave for the firm, and nothing else of it."""
 
 import os
 from collections.abc import Iterable, Iterator, Mapping

@@ -1,5 +1,5 @@
-"""The certificate of a dealer: its list, its messages, their hashes, and the commands that make
-them again.
+"""Makes the certificate of a dealer: its list, its messages, their hashes, and the commands that
+make them again.
 """
 
 import hashlib

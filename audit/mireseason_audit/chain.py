@@ -1,4 +1,6 @@
-"""The order of the entries and their chain, and the day as a file that the venue reads."""
+"""Checks the order of the entries and their chain, and writes the day as a file that the venue
+reads.
+"""
 
 import itertools
 import re

@@ -1,7 +1,7 @@
-"""The check of a day: its entries and their chain, and what firms were sent against the venue.
+"""Checks a day: its entries and their chain, and what firms were sent against the venue.
 
-All that can be done beside something else is a job, in a process of its own, and each begins as
-soon as what it needs is there.
+Each part that can run beside others is a job, in a process of its own. A job begins as soon as what
+it needs is there.
 """
 
 from collections.abc import Iterable, Mapping

@@ -1,7 +1,8 @@
-"""The checkpoints of a log: their numbers, and whether one of them says that the day has ended.
+"""Checks the checkpoints of a log: their numbers, and whether one says that the day has ended.
 
-Since form 6 each has the number behind that of the one before it, and its signature covers that
-one's. So one that was taken out is missed, and at the end of a log the end of its day is.
+Since form 6 each checkpoint has the number after that of the one before it, and its signature
+covers that one's. So the audit notices if somebody took one out, and at the end of a log it notices
+that the end of the day is missing.
 """
 
 from collections.abc import Iterable

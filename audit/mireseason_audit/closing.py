@@ -1,4 +1,4 @@
-"""What is closed where a `with` ends."""
+"""What a `with` opens, and closes at its end."""
 
 from abc import ABC, abstractmethod
 from types import TracebackType

@@ -1,7 +1,7 @@
-"""What each firm is told of its trades: its own rows, and nothing of another firm's.
+"""Writes what each firm is told of its trades: its own rows, and nothing of another firm's.
 
-No number in them counts what others do: a trade's name counts the trades of the two firms, and the
-others are the firm's own.
+No number in them counts what others do. A trade's name counts the trades of its two firms, and
+every other number counts only the firm's own.
 """
 
 from collections.abc import Iterator

@@ -1,5 +1,5 @@
-"""The commands that make something of a day: each checks it first, and makes nothing of a log that
-is not as it should be.
+"""The commands that make something of a day. Each checks the day first, and makes nothing of a log
+that is not as it should be.
 """
 
 import shutil

@@ -1,4 +1,4 @@
-"""One pass over a day: its facts, and the rows of its messages as they go by."""
+"""Passes over a day once, and gives its facts and the rows of its messages as they go by."""
 
 from collections import Counter
 from collections.abc import Iterator

@@ -1,8 +1,8 @@
-"""The tables of an export, with the names of their columns: what stands here stays.
+"""The tables of an export, with the names of their columns. A name that is here never changes.
 
-Times are of the day, in UTC; prices and distances in points; `entry` is the place in the log of
-what a row was read off, and other columns that end in `entry` are places, too. `request` is the
-number of a request in the day, from 1.
+Times are of the day, in UTC; prices and distances are in points. `entry` is the place in the log of
+the message that a row was read from; other columns whose name ends in `entry` are places, too.
+`request` is the number of a request in the day, from 1.
 """
 
 from dataclasses import dataclass, field

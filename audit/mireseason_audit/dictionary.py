@@ -1,4 +1,4 @@
-"""The names of fields, types and values, from the data dictionary in QuickFIX's format."""
+"""Reads the names of fields, types and values from the data dictionary in QuickFIX's format."""
 
 import xml.etree.ElementTree as ElementTree
 from dataclasses import dataclass, field

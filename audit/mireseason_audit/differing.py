@@ -1,4 +1,4 @@
-"""In which fields two messages differ, so that nobody compares two long lines by eye."""
+"""Says in which fields two messages differ, so that nobody compares two long lines by eye."""
 
 from collections import defaultdict
 

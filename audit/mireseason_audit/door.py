@@ -1,8 +1,8 @@
-"""Who was at the door: what happened to connections, and on which of them each message came.
+"""Checks who was at the door: what happened to connections, and on which one each message came.
 
-Both lists have an order of their own, and each event says after which entry it happened. So they
-are read side by side, and what came on a connection has to stand between its Logon and its end.
-Only the two orders count for that, and no clock.
+Messages and events each have an order of their own, and each event says after which entry it
+happened. So the audit reads the two side by side: a message has to stand between the Logon and the
+end of the connection that it came on. Only the two orders count for that, and no clock.
 """
 
 import re

@@ -1,4 +1,4 @@
-"""The pages of the door: what happened to connections, a page for so many rows."""
+"""Makes the pages of the door: what happened to connections, so many rows a page."""
 
 from dataclasses import dataclass
 from itertools import islice

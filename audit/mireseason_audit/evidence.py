@@ -1,5 +1,5 @@
-"""What a log is held against beside the venue's rules: what was expected of it, the signatures of
-its gateways, checkpoints that were kept outside of it, and a supervisor's seal.
+"""What a log is checked against beside the venue's rules: what was expected of it, its gateways'
+signatures, checkpoints that were kept outside of it, and a supervisor's seal.
 """
 
 from collections.abc import Callable, Iterator

@@ -1,4 +1,6 @@
-"""A day as exchanges: what came at one place of the order, and all that the venue gave for it."""
+"""Reads a day as exchanges: what came at one place of the order, and all that the venue gave for
+it.
+"""
 
 from collections.abc import Iterator
 from typing import NamedTuple

@@ -1,7 +1,7 @@
-"""What a day came to, as rows: requests, who was asked, quotes, responses and trades.
+"""Reads off a day its requests, who was asked, quotes, responses and trades, as rows.
 
-Nothing is judged: each fact is read off a message, and has the entry of that. A row names its
-request by its number in the day, from 1 in the order of the entries.
+Nothing is judged here: each fact is read off a message, and has that message's entry. A row names
+its request by its number in the day, from 1 in the order of the entries.
 """
 
 from dataclasses import dataclass, field

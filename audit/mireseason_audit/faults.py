@@ -1,4 +1,4 @@
-"""What ends a command: something that can't be read, or a venue that does not answer."""
+"""The errors that end a command: something can't be read, or the venue does not answer."""
 
 
 class Unreadable(Exception):

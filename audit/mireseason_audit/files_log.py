@@ -1,5 +1,5 @@
-"""Two files as a log: a day of `live`, and what was sent, as `live --frames` or `replay --frames`
-print it.
+"""Reads two files as a log: a day of `live`, and what was sent, as `live --frames` or
+`replay --frames` print it.
 """
 
 import itertools

@@ -1,4 +1,4 @@
-"""What a check found that is not as it should be."""
+"""Collects what a check found that is not as it should be."""
 
 from collections.abc import Iterator
 from dataclasses import dataclass

@@ -1,5 +1,5 @@
-"""The pages of a firm: all that came from it, and all that it was sent, a page for so many
-entries.
+"""Makes the pages of a firm: all that came from it and all that it was sent, so many entries a
+page.
 """
 
 from collections.abc import Iterator

@@ -1,4 +1,4 @@
-"""The first page of a firm: what it did, in figures, and its requests."""
+"""Makes the first page of a firm: what it did, in figures, and its requests."""
 
 from collections.abc import Sequence
 from dataclasses import dataclass, replace

@@ -1,4 +1,4 @@
-"""Folders that a command writes into."""
+"""Makes the folders that a command writes into."""
 
 from pathlib import Path
 

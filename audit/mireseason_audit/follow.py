@@ -1,9 +1,9 @@
-"""A day that is still going on, as pages that are made anew every few seconds.
+"""Shows a day that is still going on, as pages that are made anew every few seconds.
 
 Each build is a folder of its own, whole before anybody sees it: `now` is a link to the last one,
-and is changed by a rename. What did not change since the build before is the same file. So a
-reader has one consistent day, and never a part of a page. While the day goes on a build stands for
-an entry; once the log says that the day has ended, the last one has all of it.
+and a rename changes it. What has not changed since the build before is the same file. So a reader
+has one consistent day, and never a part of a page. While the day goes on, a build is of an entry;
+once the log says that the day has ended, the last build has all of it.
 """
 
 import os

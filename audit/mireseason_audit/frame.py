@@ -1,4 +1,4 @@
-"""Frames of FIXT.1.1: bytes into fields, and fields into bytes."""
+"""Reads and writes frames of FIXT.1.1: bytes into fields, and fields into bytes."""
 
 import re
 from collections.abc import Callable, Iterable

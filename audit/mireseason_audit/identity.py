@@ -1,4 +1,4 @@
-"""What log this is: its venue, its date, its program, and the gateways that wrote it."""
+"""Says which log this is: its venue, its date, its program, and the gateways that wrote it."""
 
 from collections.abc import Iterator, Mapping
 from dataclasses import dataclass, field

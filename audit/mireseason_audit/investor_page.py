@@ -1,5 +1,5 @@
-"""A page for one investor about its awards, for best execution. It has nothing that the investor
-was not told: the quotes are those that it was shown, and no cover is named.
+"""Makes a page for one investor about its awards, for best execution. It has nothing that the
+investor was not told: it shows the quotes that the investor was shown, and names no cover.
 """
 
 from collections import Counter

@@ -1,4 +1,4 @@
-"""The items of a report, by their names, what is checked for each, and which findings belong to it."""
+"""Lists the items of a report: what is checked for each, and which findings belong to it."""
 
 import textwrap
 

@@ -1,6 +1,6 @@
-"""The jobs of a check: those that run the venue's program leave in a file what it prints, and what
-`sent` has is left in files of the same form, so that whole blocks are held against one another.
-Only where two differ are they gone through line by line, for the first difference.
+"""The jobs of a check. A job that runs the venue's program writes what it prints to a file, and
+another writes `sent` to files of the same form, so that the audit compares whole blocks. It goes
+through two blocks line by line only if they differ, to find the first difference.
 """
 
 import itertools

@@ -1,8 +1,8 @@
-"""What a session keeps, against `sent`: the messages of the venue, each once and in their order, and
-of its own those that it may have to send again.
+"""Checks what a session keeps against `sent`: the messages of the venue, each once and in their
+order, and those of its own that it may have to send again.
 
-A message is kept without the header that it leaves with: 35, and behind it the translation of
-gateway/README.md. Numbers have gaps, since what a session does not send again (Logon, Heartbeat,
+A message is kept without the header that it leaves with: 35, and after it the translation of
+gateway/README.md. Numbers have gaps: what a session does not send again (Logon, Heartbeat,
 TestRequest, Logout) leaves under numbers of its own, and 1 is left for the answer to the first
 Logon. An operator may have the numbers begin again: each such epoch begins with copies of what the
 firm is not known to have.

@@ -1,9 +1,9 @@
-"""A second day without the messages of the other dealers.
+"""Makes a second day without the messages of the other dealers.
 
-Quotes are shown to an investor under names that are counted, so a hit of the first day may name
-another quote, or none, on the second. The venue's program is asked line by line: a hit of the
-dealer's own quote is given the name that the quote has on the second day, and one of a quote
-that is no longer there is left out with it.
+The names under which an investor is shown quotes are counted, so on the second day a hit of the
+first may name another quote, or none. The audit asks the venue's program line by line. It gives a
+hit of the dealer's own quote the name that the quote has on the second day, and leaves out a hit of
+a quote that is no longer there.
 """
 
 from collections.abc import Callable

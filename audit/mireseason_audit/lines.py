@@ -1,4 +1,4 @@
-"""Step lines as they stand in a log: whose message came, and its fields."""
+"""Reads step lines as they stand in a log: whose message came, and its fields."""
 
 from typing import NamedTuple
 

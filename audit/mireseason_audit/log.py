@@ -1,4 +1,4 @@
-"""A log behind one interface: a file of SQLite, a schema of PostgreSQL, or two files of text."""
+"""Gives every log one interface: a file of SQLite, a schema of PostgreSQL, or two files of text."""
 
 import itertools
 from abc import ABC, abstractmethod

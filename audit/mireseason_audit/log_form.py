@@ -1,4 +1,4 @@
-"""What the tables of a log are in each of its forms, and what stands beside them.
+"""Checks that a log has the tables of its form, and nothing beside them.
 
 A gateway makes its tables and nothing else. What somebody has put beside them may change what the
 gateway writes (a trigger, a rule) or what is read (a view, a child table, row security).

@@ -1,4 +1,4 @@
-"""What a check looks at, in the words of the page, the terminal and JSON."""
+"""Says what a check looks at, in the words of the page, the terminal and JSON."""
 
 from typing import NamedTuple
 

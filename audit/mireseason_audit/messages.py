@@ -1,4 +1,4 @@
-"""A message as HTML: its text, and its fields by their names."""
+"""Shows a message as HTML: its text, and its fields by their names."""
 
 from collections.abc import Mapping
 from html import escape

@@ -1,8 +1,8 @@
-"""Which request each message is about, by the names that the messages bear.
+"""Finds the request that each message is about, by the names that the messages bear.
 
 A request has its own name in the messages of its investor (131), and one for each dealer (`R1`,
-`R2`, ..); a quote has its dealer's (117) and the one by which the investor is shown it (`Q1`,
-`Q2`, ..). Each is learnt from the message that brings it, and none is counted.
+`R2`, ..). A quote has its dealer's name (117), and the one under which the investor is shown it
+(`Q1`, `Q2`, ..). The audit learns each name from the message that brings it, and counts none.
 """
 
 from .exchanges import Exchange, Told

@@ -1,4 +1,6 @@
-"""The line of time of a request for a narrow screen: lanes side by side, all words beside them."""
+"""Draws the line of time of a request for a narrow screen: lanes side by side, all words beside
+them.
+"""
 
 from html import escape
 

@@ -1,5 +1,5 @@
-"""What a firm sent and the log has no entry of: the gateway did not take it (35=j), or its session
-refused it (35=3).
+"""What a firm sent and the log has no entry of: the gateway refused it (35=j), or the firm's
+session did (35=3).
 """
 
 from typing import NamedTuple

@@ -1,4 +1,4 @@
-"""What the venue notes beside its messages (`live --notes`), against what sessions tell of it."""
+"""Checks what sessions told firms beside messages against what the venue notes (`live --notes`)."""
 
 import itertools
 import re

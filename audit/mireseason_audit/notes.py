@@ -1,5 +1,5 @@
-"""What operators did, how the gateway's clock was, and which gateway speaks: lines of the log that
-the venue ignores.
+"""Reads the lines of a log that the venue ignores: what operators did, how the gateway's clock was,
+and which gateway speaks.
 
     # act TIME NAME(UID) WORDS because="REASON"
     # clock TIME synchronised|unsynchronised|set MICROSECONDS

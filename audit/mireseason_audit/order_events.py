@@ -1,5 +1,5 @@
-"""What happened to the orders of a day: each event of a request and of a quote, and each message of
-a firm that made none of these.
+"""Says what happened to the orders of a day: each event of a request and of a quote, and each
+message of a firm that made no such event.
 """
 
 from collections.abc import Iterable, Iterator

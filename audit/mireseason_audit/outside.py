@@ -1,8 +1,9 @@
-"""Checkpoints that were kept outside of a log's database, against the log.
+"""Checks a log against checkpoints that were kept outside of its database.
 
-A gateway keeps its last one in a file, and sends each to whoever is to have them; so a file has one
-checkpoint in lines, or one in each line with tabs in their place. Whoever can write the database
-can cut off its end and take signatures out of it, but changes none of these files.
+A gateway keeps its last checkpoint in a file, and sends each to whoever is to have them. So a file
+has one checkpoint in several lines, or one in each line, with tabs instead of line ends. Whoever
+can write the database can cut off its end and take signatures out of it, but changes none of these
+files.
 """
 
 from collections.abc import Iterable, Iterator, Sequence

@@ -1,4 +1,4 @@
-"""How pages are called: what links to a page needs nothing of what writes it."""
+"""Names the pages, so that a module can link to a page without the module that writes it."""
 
 ENTRIES_A_PAGE = 1000  # of a firm
 ROWS_A_PAGE = 500  # of a list

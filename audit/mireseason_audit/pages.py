@@ -1,4 +1,4 @@
-"""All pages of a day, into one folder."""
+"""Writes all pages of a day into one folder."""
 
 import shutil
 from collections.abc import Callable

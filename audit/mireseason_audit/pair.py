@@ -1,4 +1,4 @@
-"""`compare` of the day with a second one, and in words what it says."""
+"""Runs `compare` on the day and a second one, and says in words what it answers."""
 
 import re
 from collections import Counter

@@ -1,4 +1,4 @@
-"""`pair`: second days beside the log's, and what they show one dealer."""
+"""`pair`: makes second days beside the log's, and says what they show one dealer."""
 
 import random
 import textwrap

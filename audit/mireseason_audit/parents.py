@@ -1,4 +1,4 @@
-"""Processes that end when the one that began them ends, however that did."""
+"""Starts processes that end with the one that began them, however that one ends."""
 
 import ctypes
 import os

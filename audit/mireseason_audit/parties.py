@@ -1,4 +1,4 @@
-"""Who stands behind the names of a day: the file `parties.toml` of the operator.
+"""Reads who the names of a day belong to: the operator's file `parties.toml`.
 
     [venue]
     mic = "XMIR"

@@ -1,5 +1,5 @@
-"""Plots as SVG. Nothing is said by colour alone: parts of a bar differ in their pattern and have
-their numbers, and marks differ in shape.
+"""Draws plots as SVG. Nothing is said by colour alone: parts of a bar differ in their pattern and
+have their numbers, and marks differ in shape.
 """
 
 from collections.abc import Sequence

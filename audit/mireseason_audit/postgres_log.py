@@ -1,4 +1,4 @@
-"""A log in a schema of PostgreSQL, read in one transaction by cursors that the server keeps."""
+"""Reads a log in a schema of PostgreSQL, in one transaction, by cursors that the server keeps."""
 
 import itertools
 from collections.abc import Iterator

@@ -1,5 +1,5 @@
-"""A price as it stands in a message, and in 32nds; and a quantity. Whether one is lawful is for the
-venue to say.
+"""Reads a price as it stands in a message, writes it in 32nds, and reads a quantity. Only the venue
+says whether one is lawful.
 """
 
 import re

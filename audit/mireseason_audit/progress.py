@@ -1,4 +1,4 @@
-"""How far a command has come: a bar, where somebody looks at it."""
+"""Shows how far a command has come: a bar, if somebody looks at it."""
 
 import sys
 from collections.abc import Callable

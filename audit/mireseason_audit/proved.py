@@ -1,4 +1,4 @@
-"""The venue's program whose proof this repository has: its SHA-256, in a file of it."""
+"""Recognises the venue's proved program by its SHA-256, which this repository has in a file."""
 
 import hashlib
 import re

@@ -1,4 +1,4 @@
-"""What messages say, in words: the message of a firm, and those that the venue tells."""
+"""Says in words what messages mean: those of a firm, and those that the venue sends."""
 
 from enum import Enum
 from typing import NamedTuple

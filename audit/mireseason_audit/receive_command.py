@@ -1,8 +1,8 @@
 """`receive`: keeps the checkpoints that gateways send, on a host that no gateway can write to.
 
-Whoever sends may be root on a gateway's host, who has the real keys. So a line is kept only if a
-gateway has signed it and it is of one of the supervisor's venues and of a day near today's. It can
-add to a file up to its limit, and changes nothing that came before.
+A sender may be root on a gateway's host, and so have the real keys. So this command keeps a line
+only if a gateway has signed it, and if it is of one of the supervisor's venues and of a day near
+today's. It can add to a file up to its limit, and changes nothing that came before.
 """
 
 import argparse

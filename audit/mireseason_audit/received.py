@@ -1,7 +1,7 @@
-"""The checkpoints of one day that a supervisor received, in a file that only grows.
+"""Keeps the checkpoints of one day that a supervisor received, in a file that only grows.
 
-Each line is a checkpoint as a gateway sent it. A line is appended whole and is on disk before the
-next is read. Several processes may append to one file, since each gateway has one of its own.
+Each line is a checkpoint as a gateway sent it. A line is appended whole, and is on disk before the
+next one is read. Several processes may append to one file, since each gateway has one of its own.
 """
 
 import fcntl

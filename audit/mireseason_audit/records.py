@@ -1,4 +1,4 @@
-"""The rows of a log, as gateway/schema.sql has them, and the day that stands in entry 0."""
+"""The rows of a log, as gateway/schema.sql has them, and the day that entry 0 has."""
 
 import hashlib
 import re

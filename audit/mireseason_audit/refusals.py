@@ -1,4 +1,4 @@
-"""Why a message of a firm was refused, as its answer says."""
+"""Says why a firm's message was refused, by its answer."""
 
 from typing import NamedTuple
 

@@ -1,4 +1,4 @@
-"""A regulation's fields and codes, as a data file beside this module has them."""
+"""Reads a regulation's fields and codes from a data file beside this module."""
 
 import tomllib
 from collections.abc import Mapping

@@ -1,4 +1,4 @@
-"""A verdict for a terminal, and for a program."""
+"""Writes a verdict for a terminal, and for a program."""
 
 import json
 

@@ -1,4 +1,4 @@
-"""The requests of a day by firm, bond, end and hour: pages that need no script."""
+"""Makes the lists of a day's requests by firm, bond, end and hour: pages that need no script."""
 
 from collections.abc import Iterable
 from dataclasses import dataclass

@@ -1,4 +1,4 @@
-"""The pages of requests."""
+"""Makes the pages of requests."""
 
 from contextlib import closing
 from dataclasses import dataclass

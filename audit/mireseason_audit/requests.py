@@ -1,4 +1,4 @@
-"""The requests of a day, each with what was done on it and who was told what."""
+"""Collects the requests of a day: what was done on each, and who was told what."""
 
 from collections import defaultdict
 from collections.abc import Callable, Iterator, Mapping

@@ -1,5 +1,5 @@
-"""The record of orders that a trading venue keeps: requests and quotes, event by event, with the
-fields of the annex of Commission Delegated Regulation (EU) 2017/580, as `rts24.toml` has them.
+"""Writes the record of orders that a trading venue keeps: requests and quotes, event by event, with
+the fields of the annex of Commission Delegated Regulation (EU) 2017/580, as `rts24.toml` has them.
 """
 
 from collections.abc import Callable, Mapping

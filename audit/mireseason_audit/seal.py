@@ -1,9 +1,12 @@
-"""The seal of a log: what stands in it, signed with an Ed25519 key.
+"""Writes and checks the seal of a log, signed with an Ed25519 key.
 
-A seal is text. It has the hash of the last entry, from which all others follow, and that of
-each hundredth, so that a log whose chain was made anew is told by its place; how many rows say
-what happened to connections, with the hash of the last; of each firm, how many messages it was
-sent, and those of its session, with their SHA-256; and a signature of all that in its last line.
+A seal is text. It has:
+
+- the hash of the last entry, from which all others follow, and that of each hundredth, so that the
+  audit can say at which place a chain was made anew;
+- how many rows say what happened to connections, with the hash of the last;
+- of each firm, how many messages it was sent, and those of its session, with their SHA-256;
+- in its last line, a signature of all that.
 """
 
 import base64

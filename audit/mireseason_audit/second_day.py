@@ -1,4 +1,6 @@
-"""A second day beside the one in a log: other dealers' prices moved, or their messages left out."""
+"""Makes a second day beside the one in a log: with other dealers' prices moved, or without their
+messages.
+"""
 
 from collections.abc import Callable
 from dataclasses import dataclass, field

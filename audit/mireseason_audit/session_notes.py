@@ -1,5 +1,5 @@
-"""What a session keeps, against what its gateways have sealed of it: the session notes, whose form and hashes are those of
-docs/RECOVERY.md. So a copy that somebody has changed is told without the venue's program.
+"""Checks what a session keeps against the session notes that its gateways have sealed: docs/RECOVERY.md has their form and
+hashes. So the audit sees that somebody has changed a copy, and needs no venue's program for that.
 """
 
 import re

@@ -1,4 +1,4 @@
-"""The signatures of a log: its checkpoints, by which a gateway has signed where the log stood."""
+"""Checks the signatures of a log: by its checkpoints a gateway has signed where the log stood."""
 
 from collections.abc import Iterable, Iterator, Sequence
 from dataclasses import dataclass

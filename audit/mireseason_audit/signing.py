@@ -1,4 +1,4 @@
-"""Keys of Ed25519 and their signatures."""
+"""Reads keys of Ed25519, signs, and checks signatures."""
 
 from collections.abc import Iterable
 from pathlib import Path

@@ -1,4 +1,4 @@
-"""A log in tables: what is read of SQLite and of PostgreSQL alike."""
+"""What reading a log in SQLite and one in PostgreSQL have in common."""
 
 import itertools
 from abc import abstractmethod

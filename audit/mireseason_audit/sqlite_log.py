@@ -1,4 +1,4 @@
-"""A log in a file of SQLite, read in one transaction."""
+"""Reads a log in a file of SQLite, in one transaction."""
 
 import sqlite3
 from collections.abc import Iterator

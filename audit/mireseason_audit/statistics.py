@@ -1,9 +1,9 @@
-"""The figures of a day, for each dealer, investor, bond and hour.
+"""Computes the figures of a day, for each dealer, investor, bond and hour.
 
-A share of so many in a hundred is the value at that rank: of n values in their order the one whose
-number is n times the share, rounded up. So each figure is one that stands in the log, or the
-difference of two. Hours are those in which requests came; amounts are never added across
-currencies, and of bonds without one never across bonds.
+A share of so many in a hundred is the value at that rank: of n values in order, the one whose
+number is n times the share, rounded up. So each figure stands in the log, or is the difference of
+two that do. An hour is the one in which a request came. Amounts are never added across currencies,
+nor across bonds that have no currency.
 """
 
 from collections import Counter

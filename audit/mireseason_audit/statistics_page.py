@@ -1,4 +1,4 @@
-"""The page *Statistics*: the figures of a day as plots, with the tables beside them."""
+"""Makes the page *Statistics*: the figures of a day as plots, with the tables beside them."""
 
 from collections.abc import Callable, Iterable
 from dataclasses import dataclass

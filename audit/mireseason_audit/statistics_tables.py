@@ -1,4 +1,6 @@
-"""The figures of a day as tables: what their columns are called, and which stand together."""
+"""Arranges the figures of a day as tables: what their columns are called, and which stand
+together.
+"""
 
 from collections.abc import Callable, Iterator
 from dataclasses import dataclass

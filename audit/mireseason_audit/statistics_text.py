@@ -1,4 +1,4 @@
-"""The figures of a day for a person at a terminal, and for a program."""
+"""Writes the figures of a day for a person at a terminal, and for a program."""
 
 import json
 from collections.abc import Iterable, Sequence

@@ -1,4 +1,4 @@
-"""One request, whole: its acts in their order, and the life of each quote."""
+"""Tells one whole request: its acts in their order, and the life of each quote."""
 
 import re
 from dataclasses import dataclass, field

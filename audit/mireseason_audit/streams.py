@@ -1,4 +1,4 @@
-"""Files that are read in blocks, so that none is held."""
+"""Reads files in blocks, so that none is held in memory."""
 
 import os
 import time

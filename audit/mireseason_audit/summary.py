@@ -1,6 +1,4 @@
-"""What a day came to: one pass over its exchanges, which leaves the acts and the faults behind on
-disk.
-"""
+"""Passes over a day's exchanges once, and leaves its acts and its faults on disk."""
 
 from collections import Counter
 from collections.abc import Callable

@@ -1,4 +1,4 @@
-"""The sums of the files of a folder, and a signature of them."""
+"""Computes the sums of a folder's files, and signs them."""
 
 from dataclasses import dataclass
 from pathlib import Path

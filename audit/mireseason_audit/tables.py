@@ -1,4 +1,4 @@
-"""Tables that are written as files: CSV for a spreadsheet, JSON for a program."""
+"""Writes tables as files: CSV for a spreadsheet, JSON for a program."""
 
 import csv
 import io

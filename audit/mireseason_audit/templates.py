@@ -1,4 +1,4 @@
-"""The templates of the pages, and how values are written in them."""
+"""Fills the templates of the pages, and writes the values in them."""
 
 from functools import lru_cache
 from pathlib import Path

@@ -1,8 +1,8 @@
-"""The line of time of a request, as SVG: a lane for each firm, time going down, an act in each
-row.
+"""Draws the line of time of a request, as SVG: a lane for each firm, time going down, an act in
+each row.
 
-A row has a mark on the lane of whoever acts, whose shape says what it is, and an arrow to each
-firm that was told; under them stand the words. A quote is a bar on its dealer's lane for as
+A row has a mark on the lane of the firm that acts, whose shape says what it does, and an arrow to
+each firm that was told; the words stand under them. A quote is a bar on its dealer's lane for as
 long as it stood. Nothing is said by colour alone.
 """
 

@@ -1,5 +1,5 @@
-"""The reports of trades that a venue publishes: post-trade transparency of bonds, as Commission
-Delegated Regulation (EU) 2017/583 requires it, with the fields of `transparency.toml`.
+"""Writes the reports of trades that a venue publishes: post-trade transparency of bonds, as
+Commission Delegated Regulation (EU) 2017/583 requires it, with the fields of `transparency.toml`.
 """
 
 from collections.abc import Callable, Iterable, Iterator, Mapping

@@ -1,4 +1,4 @@
-"""A log as it stood at one of its entries: of everything else that is in it by now, nothing."""
+"""Shows a log as it stood at one of its entries, and nothing that was added since."""
 
 import itertools
 from collections.abc import Iterator, Sequence

@@ -1,4 +1,4 @@
-"""What was unusual on a day: what a supervisor looks at first, each with a link to what it was."""
+"""Lists what was unusual on a day, which a supervisor looks at first, each with a link to it."""
 
 from collections import Counter
 from collections.abc import Iterable, Iterator

@@ -1,4 +1,4 @@
-"""The venue's program: every rule is asked of it."""
+"""Runs the venue's program, which the audit asks about every rule."""
 
 import os
 import re

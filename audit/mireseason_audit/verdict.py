@@ -1,4 +1,4 @@
-"""What a check found, and what it looked at."""
+"""The verdict of a check: what it found, and what it looked at."""
 
 from collections import Counter
 from dataclasses import dataclass, field

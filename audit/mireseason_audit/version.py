@@ -1,4 +1,4 @@
-"""Which version and commit of the audit this is, and of the keeper beside it."""
+"""Says which version and commit of the audit this is, and of the keeper beside it."""
 
 import argparse
 import subprocess

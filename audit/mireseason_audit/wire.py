@@ -1,11 +1,11 @@
-"""What a session sent of the venue's messages, against `sent`: the translation of
-gateway/README.md, read back.
+"""Checks a session's messages of the venue against `sent`: it reads back the translation of
+gateway/README.md.
 
 A message on the wire has the venue's number in ApplSeqNum (1181), first after the header, and
 its moment in TransactTime (60), whose place depends on the type; the rest of its body is the
-venue's, byte for byte. On a day that gives notes a message may have one field more, behind all
-others: Text (58) with the words of a reason, or TradeID (1003). Whether that is what the venue
-notes beside the message, the replay says.
+venue's, byte for byte. On a day that gives notes a message may have one field more, after all
+others: Text (58) with the words of a reason, or TradeID (1003). The replay says whether that is
+what the venue notes beside the message.
 """
 
 import re

@@ -1,4 +1,4 @@
-"""Jobs in processes of their own, as many at a time as there are processors."""
+"""Runs jobs in processes of their own, as many at a time as there are processors."""
 
 import gc
 import multiprocessing
