@@ -1,6 +1,6 @@
-"""Texts of TOML as all programs in Python read them: at most 1 MiB, at most 32 deep, and then the parser.
+"""Reads TOML as all programs in Python do: a text has at most 1 MiB and is at most 32 deep, and only then is parsed.
 
-A key of many parts, `a.a.a`, takes tomllib the square of their number, in time and in memory, and brackets within brackets take
+For a key of many parts, `a.a.a`, tomllib takes the square of their number, in time and in memory; brackets within brackets take
 its stack. `common/toml_bounds.h` has the same limits for the programs in C++.
 """
 

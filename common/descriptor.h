@@ -1,4 +1,4 @@
-// A file descriptor that is closed with its owner. The desk has it too.
+// A file descriptor that its owner closes at its end. The desk has it too.
 #ifndef GATEWAY_DESCRIPTOR_H
 #define GATEWAY_DESCRIPTOR_H
 

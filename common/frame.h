@@ -1,4 +1,4 @@
-// Frames of FIXT.1.1 as bytes: fields in their order, with every byte.
+// Reads frames of FIXT.1.1 as bytes: fields in their order, with every byte.
 #ifndef GATEWAY_FRAME_H
 #define GATEWAY_FRAME_H
 

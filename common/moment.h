@@ -1,4 +1,4 @@
-// Moments of a day and the clock that gives them.
+// Moments of a day, and the clock that gives them.
 #ifndef GATEWAY_MOMENT_H
 #define GATEWAY_MOMENT_H
 

@@ -1,4 +1,4 @@
-// Passwords against salted hashes.
+// Checks passwords against salted hashes, and makes such a hash.
 #ifndef GATEWAY_PASSWORD_H
 #define GATEWAY_PASSWORD_H
 

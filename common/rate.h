@@ -1,4 +1,4 @@
-// How much of something is let through: so much a second, and a burst. Plain C++14, as limiter.h.
+// Limits how much is let through: so much a second, and a burst. Plain C++14, as limiter.h.
 #ifndef GATEWAY_RATE_H
 #define GATEWAY_RATE_H
 

@@ -1,4 +1,4 @@
-// What kind of file a path is that of. Plain C++, for both libraries.
+// Says what kind of file a path names. Plain C++, for both libraries.
 #ifndef COMMON_REGULAR_FILE_H
 #define COMMON_REGULAR_FILE_H
 

@@ -1,4 +1,4 @@
-// How long and how deep a text of TOML may be that is handed to a parser.
+// Limits how long and how deep a text of TOML may be before a parser gets it.
 #ifndef COMMON_TOML_BOUNDS_H
 #define COMMON_TOML_BOUNDS_H
 

@@ -1,5 +1,5 @@
-# Writes OUT, the source that says which version and commit a build is of. It is written anew only
-# where that changed, so that a build without a change compiles nothing.
+# Writes OUT, the source that says which version and commit a build is of. OUT is written anew only
+# if that has changed, so that a build without a change compiles nothing.
 #   cmake -DTOP=.. -DOUT=.. -DSESSION=.. [-DNAME=..] -P version.cmake
 if(NOT NAME)
     set(NAME mireseason-gateway)

@@ -1,4 +1,4 @@
-// What the program is.
+// Says which version and commit the program is.
 #ifndef GATEWAY_VERSION_H
 #define GATEWAY_VERSION_H
 

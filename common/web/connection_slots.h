@@ -1,4 +1,4 @@
-// How many connections there are, in all and of one address.
+// Limits how many connections there are, in all and from one address.
 #ifndef WEB_CONNECTION_SLOTS_H
 #define WEB_CONNECTION_SLOTS_H
 

@@ -1,4 +1,4 @@
-// Cookies, as RFC 6265 has them in a request and in a response.
+// Reads cookies in a request and writes them in a response, as RFC 6265 has them.
 #ifndef WEB_COOKIES_H
 #define WEB_COOKIES_H
 

@@ -1,4 +1,4 @@
-// Connections without TLS: what is compiled of visit.h for them.
+// Compiles visit.h for connections without TLS.
 #include "http_connection.h"
 
 namespace web {

@@ -1,4 +1,4 @@
-// Random tokens, and how they are kept and compared.
+// Makes random tokens, keeps them, and compares them.
 #ifndef WEB_SECRETS_H
 #define WEB_SECRETS_H
 

@@ -1,6 +1,6 @@
-// Serves a site by HTTP/1.1 and WebSocket, over TLS where its settings have a certificate. It looks
-// at Host and Origin itself, sets the headers that keep a page closed to other sites, and has a
-// limit for everything that a peer may send or leave unread.
+// Serves a site by HTTP/1.1 and WebSocket, over TLS if its settings have a certificate. It checks
+// Host and Origin itself, sets the headers that keep a page closed to other sites, and limits
+// everything that a peer may send or leave unread.
 #ifndef WEB_SERVER_H
 #define WEB_SERVER_H
 

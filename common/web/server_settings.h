@@ -1,4 +1,4 @@
-// Where a server listens, by which names it is reached, and its limits.
+// The settings of a server: where it listens, by which names it is reached, and its limits.
 #ifndef WEB_SERVER_SETTINGS_H
 #define WEB_SERVER_SETTINGS_H
 

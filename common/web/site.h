@@ -1,4 +1,4 @@
-// What a program has to say to be served: its answers, and who listens on its WebSockets. Every
+// What a program implements to be served: its answers, and who listens on its WebSockets. Every
 // call comes from the one thread that runs the server's io_context.
 #ifndef WEB_SITE_H
 #define WEB_SITE_H

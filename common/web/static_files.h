@@ -1,4 +1,4 @@
-// The files of a site, held in memory: no request opens a file.
+// Holds the files of a site in memory: no request opens a file.
 #ifndef WEB_STATIC_FILES_H
 #define WEB_STATIC_FILES_H
 

@@ -1,4 +1,4 @@
-// Connections over TLS: what is compiled of visit.h for them.
+// Compiles visit.h for connections over TLS.
 #include <boost/beast/ssl.hpp>
 #include <boost/beast/websocket/ssl.hpp>
 
