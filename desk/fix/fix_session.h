@@ -1,5 +1,5 @@
-// The FIX session of one firm with the venue. This and session_store.h are all that is seen of
-// QuickFIX: its headers have dynamic exception specifications, which end with C++14.
+// One firm's FIX session with the venue. No other part of the desk sees more of QuickFIX than this
+// and session_store.h: its headers have dynamic exception specifications, which end with C++14.
 #ifndef DESK_FIX_FIX_SESSION_H
 #define DESK_FIX_FIX_SESSION_H
 

@@ -1,4 +1,4 @@
-// QuickFIX's view of a SessionStore.
+// Gives QuickFIX a SessionStore in the form that it wants.
 #ifndef DESK_FIX_KEPT_STORE_H
 #define DESK_FIX_KEPT_STORE_H
 

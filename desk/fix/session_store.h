@@ -1,4 +1,4 @@
-// What a FIX session has to find again after an end of the process.
+// What a FIX session has to find again when the process has ended and been started.
 #ifndef DESK_FIX_SESSION_STORE_H
 #define DESK_FIX_SESSION_STORE_H
 

@@ -1,4 +1,5 @@
-// What a person has to know and do at once; most often nothing. Each sentence is true at the moment at which it stands.
+// Tells a person what to know and do at once; most often nothing. Each sentence is true at the moment at which it
+// stands.
 import {h, set, show} from './dom.js';
 import {amount, clock} from './amounts.js';
 import {text} from './price.js';

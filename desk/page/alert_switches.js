@@ -1,4 +1,4 @@
-// Where a trader switches on what is announced, and hears each sound.
+// The switches by which a trader chooses what is announced, and hears each sound.
 import {h, set, show} from './dom.js';
 import {kinds} from './alerts.js';
 

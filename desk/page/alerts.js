@@ -1,5 +1,5 @@
-// What is announced to a trader who looks elsewhere, by a sound and by a notification of the desktop: each of both is
-// switched on by the trader for each kind of news, and the browser keeps what was chosen.
+// Announces news to a trader who looks elsewhere, by a sound and by a notification of the desktop. The trader switches
+// each of the two on for each kind of news, and the browser keeps the choice.
 import {amount, span} from './amounts.js';
 import {hasTraded, isOpen, liveQuote} from './model.js';
 import {text} from './price.js';

@@ -1,4 +1,4 @@
-// Quantities, spans of time and times of the day, as traders write them.
+// Writes quantities, spans of time and times of the day as traders write them.
 
 const whole = new Intl.NumberFormat('en-US'); // once: what a tick of fifty cards would take longest for
 export const amount = quantity => whole.format(quantity);

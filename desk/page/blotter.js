@@ -1,4 +1,4 @@
-// The day's requests: what is open first, then the last end first, or in the order of a column.
+// The day's requests: first what is open, then what ended last, or in the order of a column.
 import {h, arrange, set, show, whole} from './dom.js';
 import {aligned, decimal, inMode, mode, text, thirtySeconds} from './price.js';
 import {amount, clock, parseAmount} from './amounts.js';

@@ -1,6 +1,6 @@
-// The cards of the requests that are open, and for a while of those that have ended. An open one has a place of its own,
-// which no other card takes: where one has gone the place stays empty for a while, and nothing moves. One that has ended
-// makes room for a new one that would not be on the screen.
+// The cards of the requests that are open, and for a while of those that have ended. An open card has a place that no
+// other card takes: when it goes, the place stays empty for a while, and nothing moves. A card that has ended makes
+// room for a new one that would not be on the screen.
 import {h, arrange, isInSight, set} from './dom.js';
 import {DealerCard} from './dealer_card.js';
 import {InvestorCard, wantsHit} from './investor_card.js';

@@ -1,4 +1,4 @@
-// A request that a trader of a dealer's firm has claimed: whose it is, and how it is claimed, released and handed over. A
+// How a trader of a dealer's firm claims a request, releases it and hands it over, and how others see whose it is. A
 // claim is the desk's; it forbids nobody anything.
 import {h, set, show} from './dom.js';
 import {clock} from './amounts.js';

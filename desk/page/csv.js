@@ -1,4 +1,4 @@
-// Rows as a file for a spreadsheet.
+// Writes rows as a file for a spreadsheet.
 
 // Where a cell begins: at the text's own begin, and behind what parts cells in spreadsheets of other countries.
 const formula = /(^|[;|\t]\s*)(?=[=+\-@\t\r\n\uff1d\uff0b\uff0d\uff20])/g;

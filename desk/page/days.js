@@ -1,5 +1,5 @@
-// Which day the blotter shows: today, an earlier one of the desk's journals, or what is found in all of them. Earlier days
-// are read-only.
+// Chooses which day the blotter shows: today, an earlier one of the desk's journals, or what is found in all of them.
+// Earlier days are read-only.
 import {h, set, show} from './dom.js';
 
 // 2026-11-28, of the name of a journal.

@@ -1,4 +1,4 @@
-// A request that a dealer is shown: a price to send or to replace, and how it ended.
+// A request that a dealer is shown: a price to send or to replace, and how the request ended.
 import {h, keepFocus, looksDead, set, show} from './dom.js';
 import {decimal, inMode, other, parse, text, thirtySeconds} from './price.js';
 import {amount, clock, money, span} from './amounts.js';

@@ -1,4 +1,4 @@
-// The dealers that are asked: a list, and groups that the trader has saved.
+// The field for the dealers that are asked: a list, and groups that the trader has saved.
 import {h, set, show} from './dom.js';
 import {label, twoPresses} from './presses.js';
 

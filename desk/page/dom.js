@@ -1,4 +1,4 @@
-// Elements. Texts are only ever set as text: nothing that a firm names itself can become markup.
+// Makes elements. Texts are only ever set as text: nothing that a firm names itself can become markup.
 
 export function h(tag, properties = {}, ...children) {
   const node = document.createElement(tag);

@@ -1,5 +1,5 @@
-// Open requests whose cards are not on the screen: a line below the cards names the one that ends next and the newest, and
-// leads to them.
+// Names open requests whose cards are not on the screen: a line below the cards leads to the one that ends next and to
+// the newest.
 import {h, isHalfInSight, set, show} from './dom.js';
 import {span} from './amounts.js';
 

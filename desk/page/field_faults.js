@@ -1,4 +1,4 @@
-// What is wrong with a form's fields, each told below its field from the moment at which the trader leaves it.
+// Tells what is wrong with a form's fields: each fault below its field, once the trader leaves it.
 import {h, set, show} from './dom.js';
 
 export class FieldFaults {

@@ -1,5 +1,5 @@
-// What a firm's admin sets while the desk runs: each trader's limits, the reference prices of bonds, and how far a price may
-// be from them before it is asked about.
+// What a firm's admin sets while the desk runs: each trader's limits, the reference prices of bonds, and how far a
+// price may be from them before the page asks about it.
 import {h, arrange, set, show} from './dom.js';
 import {amount, clock, parseAmount} from './amounts.js';
 import {parse, text} from './price.js';

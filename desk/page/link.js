@@ -1,4 +1,4 @@
-// The connection to the desk's process, which has the state: this page is a view of it.
+// The connection to the desk's process, which has the state: this page only shows it.
 
 const key = 'token'; // of this origin, port included, unlike the cookie that goes with it
 const pause = 1000;

@@ -1,4 +1,4 @@
-// Lists that were asked at once: each has one card, with the state of each of its lines, and its CSV.
+// The cards of lists: each list that was asked at once has one card, with the state of each of its lines, and its CSV.
 import {h, arrange, set, show} from './dom.js';
 import {amount, clock, span} from './amounts.js';
 import {csv, save} from './csv.js';

@@ -1,4 +1,4 @@
-// A list as it comes from a spreadsheet: one request a line, with a bond, a side and a quantity, in any order.
+// Reads a list as it comes from a spreadsheet: one request a line, with a bond, a side and a quantity, in any order.
 import {amount, parseAmount, whyNoAmount} from './amounts.js';
 import {matches} from './bond_field.js';
 

@@ -1,4 +1,4 @@
-// The form that asks who it is.
+// The form by which a trader logs in.
 import {h, set} from './dom.js';
 
 const key = 'firm'; // whose desk it is, as this browser has been told by it: the desk tells nobody else

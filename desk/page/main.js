@@ -1,4 +1,4 @@
-// The page as a whole: what comes from the desk goes to its parts, and keys to what they do.
+// The page as a whole: it takes what comes from the desk to its parts, and keys to what they do.
 import {set, show} from './dom.js';
 import {toggleMode} from './price.js';
 import {Link} from './link.js';

@@ -1,4 +1,4 @@
-// What the desk has told: the market, the session, and the requests of the day.
+// Keeps what the desk has told this page: the market, the session, and the requests of the day.
 
 export class Model {
   constructor() {

@@ -1,4 +1,4 @@
-// New requests, for a screen reader: a card that appears is not told by itself.
+// Tells a screen reader of new requests: it does not notice by itself that a card appears.
 import {h} from './dom.js';
 import {amount} from './amounts.js';
 import {isOpen} from './model.js';

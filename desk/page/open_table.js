@@ -1,4 +1,5 @@
-// What is open, one line a request, beside the cards: to look at fifty, and to go from one to the other by keys alone.
+// Lists what is open beside the cards, one line a request: to look at fifty, and to go from one to another by keys
+// alone.
 import {h, arrange, set, show} from './dom.js';
 import {amount, span} from './amounts.js';
 import {isOpen, isOver, liveQuote, ranked} from './model.js';

@@ -1,4 +1,4 @@
-// The part of the ticket in which many requests are pasted at once, each line checked before anything is asked.
+// The part of the ticket for a pasted list of many requests. It checks each line before anything is asked.
 import {h, set, show} from './dom.js';
 import {amount, clock, spanWords} from './amounts.js';
 import {doubt, readList} from './list_text.js';

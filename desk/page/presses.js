@@ -1,5 +1,5 @@
-// Presses that bind the firm. One that comes so soon after its button came to this place, or began to
-// mean something else, was meant for what stood there before: it does nothing.
+// Guards presses that bind the firm. A press that comes too soon after its button came to this place, or
+// began to mean something else, was meant for what stood there before: it does nothing.
 import {h, placeOf} from './dom.js';
 
 export const settled = 700;      // milliseconds that a button has to have stood where it is

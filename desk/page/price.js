@@ -1,4 +1,4 @@
-// Prices are whole numbers of 256ths of a point, and are read and written as decimals or in 32nds.
+// Reads and writes prices: whole numbers of 256ths of a point, as decimals or in 32nds.
 
 const key = 'prices';
 export const mode = {thirtySeconds: localStorage.getItem(key) === '32nds'};

@@ -1,5 +1,5 @@
-// Why a dealer's price has to be confirmed: by one more Enter where it is the first of a bond and side, by a typed word
-// where it is far from what the firm or the trader has for the price of the bond.
+// Has a trader confirm an unusual price of a dealer: by one more Enter if it is the first of a bond and side, by a
+// typed word if it is far from what the firm or the trader has for the price of the bond.
 import {amount, span} from './amounts.js';
 import {liveQuote} from './model.js';
 import {text} from './price.js';

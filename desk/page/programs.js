@@ -1,4 +1,4 @@
-// The firm's own programs that act through the desk: what each does, and how it is stopped and released.
+// The firm's own programs that act through the desk: what each does, and how a trader stops and releases it.
 import {h, arrange, set, show} from './dom.js';
 import {clock} from './amounts.js';
 import {label, twoPresses} from './presses.js';

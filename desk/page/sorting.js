@@ -1,4 +1,4 @@
-// The order of a table's rows, by the heads of its columns, or by a list of them where the heads have no room.
+// Sorts a table's rows by the heads of its columns, or by a list of them if the heads have no room.
 import {h, set} from './dom.js';
 
 const words = new Intl.Collator('en', {numeric: true, sensitivity: 'base'}); // 3.5 before 12

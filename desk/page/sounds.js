@@ -1,4 +1,4 @@
-// Short tones, one for each kind of news, made by Web Audio: no file is fetched, and the page's policy stays as it is.
+// Plays short tones, one for each kind of news, by Web Audio: it fetches no file, and the page's policy stays as it is.
 
 // Each tone is {hertz, at, seconds}. What binds or is lost is longer, and falls where it is bad.
 const tones = {

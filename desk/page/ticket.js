@@ -1,4 +1,4 @@
-// A new request of an investor.
+// The form for a new request of an investor.
 import {h, set, show} from './dom.js';
 import {amount, clock, parseAmount, parseSpan, span, spanWords, whyNoAmount} from './amounts.js';
 import {BondField} from './bond_field.js';

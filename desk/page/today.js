@@ -1,5 +1,5 @@
 // What this desk knows of a bond today: its firm's trades, and the last prices on its pages. The venue tells nobody the
-// trades of others, so this is no market's level, and each price is called what it is.
+// trades of others. So this is no market level, and the page calls each price what it is.
 import {clock, signed} from './amounts.js';
 import {hasTraded, ranked} from './model.js';
 import {text} from './price.js';

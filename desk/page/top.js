@@ -1,4 +1,4 @@
-// The head of the page: who it is, whether the venue is there, what is used of the limits.
+// The head of the page: who the trader is, whether the venue is there, and how much of the limits is used.
 import {h, looksDead, set, show} from './dom.js';
 import {amount, clock} from './amounts.js';
 import {mode} from './price.js';

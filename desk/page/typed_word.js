@@ -1,4 +1,4 @@
-// A word that a trader has to type before something unusual is sent: one more Enter could be a habit.
+// Asks a trader to type a word before something unusual is sent: one more Enter could be a habit.
 import {h, set, show} from './dom.js';
 
 export class TypedWord {

@@ -1,4 +1,5 @@
-// What the desk's server works out of a bond's data: yield, settlement, accrued interest, amounts. All of it is a help.
+// Shows what the desk's server works out of a bond's data: yield, settlement, accrued interest, amounts. All of it is a
+// help.
 import {money} from './amounts.js';
 
 const pause = 150; // milliseconds behind a key, before the desk is asked

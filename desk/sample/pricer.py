@@ -1,9 +1,9 @@
 #!/usr/bin/python3
 """A dealer's pricer, for its desk's door: MIDS | pricer.py URL TOKEN_FILE, in lines `BOND MID`.
 
-It quotes around the mids that it is given, wider with size, up to a limit of its own. Its kill switch is
-the end of its input: it withdraws its quotes and ends. F9 on a page of the desk does so too, and stops it
-until a trader releases it. `desk/door.schema.json` has the messages.
+It quotes around the mids that it is given, wider with size, up to a limit of its own. The end of its input
+is its kill switch: it withdraws its quotes and ends. F9 on a page of the desk withdraws them too, and stops
+it until a trader releases it. `desk/door.schema.json` has the messages.
 """
 
 import asyncio

@@ -1,4 +1,4 @@
-// Earlier days, from their journals: read and never written.
+// Reads earlier days from their journals, and never writes there.
 #ifndef DESK_ARCHIVE_H
 #define DESK_ARCHIVE_H
 

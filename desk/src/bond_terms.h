@@ -1,5 +1,5 @@
-// The static data of a bond, as the operator's file bonds.toml has it: what its price means in
-// yield and in money follows from it.
+// The static data of a bond, from the operator's file bonds.toml: it says what a price means in
+// yield and in money.
 #ifndef DESK_BOND_TERMS_H
 #define DESK_BOND_TERMS_H
 

@@ -1,4 +1,4 @@
-// What a bond's price means in yield and in money, worked out by QuantLib from its static data. It
+// Works out by QuantLib, from a bond's static data, what its price means in yield and in money. It
 // is a help and no rule: the venue trades prices, and the firms settle what they agree on.
 #ifndef DESK_BOND_VALUES_H
 #define DESK_BOND_VALUES_H

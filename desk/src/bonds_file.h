@@ -1,4 +1,4 @@
-// bonds.toml, which a venue's operator hands out beside the market's file.
+// Reads bonds.toml, which a venue's operator hands out beside the market's file.
 #ifndef DESK_BONDS_FILE_H
 #define DESK_BONDS_FILE_H
 

@@ -1,4 +1,4 @@
-// The files of desk/page, as texts of the program.
+// The files of desk/page, as texts in the program.
 #ifndef DESK_BUILT_IN_PAGES_H
 #define DESK_BUILT_IN_PAGES_H
 

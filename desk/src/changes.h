@@ -1,4 +1,4 @@
-// What pages are told of a request that they have: what is new or other in it, and not its whole
+// Finds what is new or other in a request that a page has, so that the page is not told its whole
 // history.
 #ifndef DESK_CHANGES_H
 #define DESK_CHANGES_H

@@ -1,5 +1,6 @@
-// What the desk can tell a trader before anything is sent. It is help and no rule: the venue
-// decides. Each function gives the reason not to send, in words, or an empty text.
+// Finds reasons not to send something, and tells them to the trader before anything is sent. They
+// are help and no rule: the venue decides. Each function gives the reason in words, or an empty
+// text.
 #ifndef DESK_CHECKS_H
 #define DESK_CHECKS_H
 

@@ -1,4 +1,4 @@
-// What a page may ask of the desk, and how it is read.
+// Reads what a page asks the desk to do.
 #ifndef DESK_COMMAND_H
 #define DESK_COMMAND_H
 

@@ -1,4 +1,4 @@
-// The configuration of one firm's desk. desk/README.md describes every key.
+// Reads the configuration of one firm's desk. desk/README.md describes every key.
 #ifndef DESK_CONFIG_H
 #define DESK_CONFIG_H
 

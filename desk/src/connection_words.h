@@ -1,4 +1,4 @@
-// Why the session with the venue is down, as far as a trader needs it.
+// Says why the session with the venue is down, as far as a trader needs it.
 #ifndef DESK_CONNECTION_WORDS_H
 #define DESK_CONNECTION_WORDS_H
 

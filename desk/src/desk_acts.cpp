@@ -1,4 +1,4 @@
-// What a trader may have the desk do.
+// Does what a trader asks the desk to do.
 #include "desk.h"
 
 #include "checks.h"

@@ -1,4 +1,4 @@
-// What a page asks to be told.
+// Answers what a page asks to be told.
 #include "desk.h"
 
 #include "valued_views.h"

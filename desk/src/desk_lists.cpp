@@ -1,4 +1,5 @@
-// Lists of requests: taken whole or not at all, and then asked at the pace of the firm's limits.
+// Takes lists of requests, whole or not at all, and asks their lines at the pace of the firm's
+// limits.
 #include "checks.h"
 #include "desk.h"
 

@@ -1,4 +1,5 @@
-// What the firm's admin sets while the desk runs, and the firm's programs.
+// Changes what the firm's admin sets while the desk runs, and stops and releases the firm's
+// programs.
 #include "checks.h"
 #include "desk.h"
 

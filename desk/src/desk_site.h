@@ -1,5 +1,5 @@
 // What the desk's server serves: the page's files, logging in and out, and a WebSocket for each
-// page that is open.
+// open page.
 #ifndef DESK_DESK_SITE_H
 #define DESK_DESK_SITE_H
 

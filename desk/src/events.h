@@ -1,4 +1,4 @@
-// Events for whoever runs the desk: lines on standard error, `MOMENT FIRM WORDS`.
+// Writes events for whoever runs the desk: lines on standard error, `MOMENT FIRM WORDS`.
 #ifndef DESK_EVENTS_H
 #define DESK_EVENTS_H
 

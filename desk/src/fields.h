@@ -1,4 +1,4 @@
-// Fields of a message of a page, each with its limit.
+// Reads the fields of a page's message, each with its limit.
 #ifndef DESK_FIELDS_H
 #define DESK_FIELDS_H
 

@@ -1,4 +1,4 @@
-// Small files that are read at a start and written anew when something in them changes.
+// Keeps small files: it reads them at a start, and writes one anew when something in it changes.
 #ifndef DESK_FILE_STORE_H
 #define DESK_FILE_STORE_H
 

@@ -1,4 +1,4 @@
-// The part [fix] of a configuration: how the venue is reached, and who logs on.
+// Reads the part [fix] of a configuration: how to reach the venue, and who logs on.
 #ifndef DESK_FIX_CONFIG_H
 #define DESK_FIX_CONFIG_H
 

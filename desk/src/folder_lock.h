@@ -1,4 +1,4 @@
-// One process has a folder: two would use the same numbers of the same session.
+// Gives a folder to one process alone: two would use the same numbers of the same session.
 #ifndef DESK_FOLDER_LOCK_H
 #define DESK_FOLDER_LOCK_H
 

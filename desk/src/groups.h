@@ -1,4 +1,4 @@
-// Each trader's saved groups of dealers.
+// Keeps each trader's saved groups of dealers.
 #ifndef DESK_GROUPS_H
 #define DESK_GROUPS_H
 

@@ -1,4 +1,4 @@
-// New identifiers for requests, quotes and responses.
+// Makes new identifiers for requests, quotes and responses.
 #ifndef DESK_IDENTIFIERS_H
 #define DESK_IDENTIFIERS_H
 

@@ -1,8 +1,8 @@
-// What the desk received and sent, in one order, in one file a day. All that a trader sees follows
-// from it: what is not here did not happen.
+// The journal: what the desk received and sent, in one order, in one file a day. All that a trader
+// sees follows from it. What is not here did not happen.
 //
-// A record is `CHECK KIND MOMENT LENGTH BYTES` and a newline; CHECK is the CRC-32 of all behind it
-// up to the newline. A last record that was cut off is dropped at the next start: what it told was
+// A record is `CHECK KIND MOMENT LENGTH BYTES` and a newline; CHECK is the CRC-32 of everything
+// after it up to the newline. The next start drops a last record that was cut off: what it told was
 // not counted by the venue's session, or did not leave.
 #ifndef DESK_JOURNAL_H
 #define DESK_JOURNAL_H

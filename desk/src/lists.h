@@ -1,5 +1,5 @@
-// Lists of requests that a trader asks at once: the desk asks their lines one after the other, as
-// far as the firm's limits allow. A fold over the journal.
+// Lists of requests that a trader asks at once: the desk asks their lines one after another, as far
+// as the firm's limits allow. A fold over the journal.
 #ifndef DESK_LISTS_H
 #define DESK_LISTS_H
 

@@ -1,6 +1,5 @@
-// Who is logged in. A session is known by a cookie, which the browser sends by itself, and by a
-// token that only the page has: browsers share cookies between ports, so a cookie alone proves
-// nothing.
+// Knows who is logged in, by a cookie, which the browser sends by itself, and by a token that only
+// the page has: browsers share cookies between ports, so a cookie alone proves nothing.
 #ifndef DESK_LOGINS_H
 #define DESK_LOGINS_H
 

@@ -1,4 +1,5 @@
-// mireseason-desk CONFIG: one firm's desk, and the pages of its traders. It prints their address.
+// mireseason-desk CONFIG: runs one firm's desk, serves the pages of its traders, and prints their
+// address.
 #include "built_in_pages.h"
 #include "common/web/server.h"
 #include "config.h"

@@ -1,5 +1,5 @@
-// What no message of the venue says: its bonds and their grids, the names of its dealers, and the
-// firm's own limits. They stand in a file that the venue's operator hands out.
+// Reads what no message of the venue says: its bonds and their grids, the names of its dealers, and
+// the firm's own limits. They stand in a file that the venue's operator hands out.
 #ifndef DESK_MARKET_H
 #define DESK_MARKET_H
 

@@ -1,4 +1,4 @@
-// One page that is open in a trader's browser, at the other end of a WebSocket.
+// One page in a trader's browser, at the other end of a WebSocket.
 #ifndef DESK_OPEN_PAGE_H
 #define DESK_OPEN_PAGE_H
 

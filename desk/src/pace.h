@@ -1,4 +1,4 @@
-// How often something may be done.
+// Limits how often something may be done.
 #ifndef DESK_PACE_H
 #define DESK_PACE_H
 

@@ -1,4 +1,4 @@
-// The firm's own programs: who one is by its token, and which of them a trader has stopped.
+// Knows the firm's own programs by their tokens, and which of them a trader has stopped.
 #ifndef DESK_PROGRAMS_H
 #define DESK_PROGRAMS_H
 

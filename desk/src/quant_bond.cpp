@@ -1,4 +1,4 @@
-// All that includes QuantLib, whose headers take a compiler long.
+// The only file that includes QuantLib, whose headers take a compiler long.
 #include "bond_values.h"
 
 #include <exception>

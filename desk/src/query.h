@@ -1,4 +1,4 @@
-// What a page may ask to be told, and how it is read. Nothing is sent for it.
+// Reads what a page asks to be told. Nothing is sent for it.
 #ifndef DESK_QUERY_H
 #define DESK_QUERY_H
 

@@ -1,5 +1,5 @@
-// The day's journal and what the FIX session needs of it, shared by QuickFIX's threads and the
-// thread that has the state.
+// Holds the day's journal and what the FIX session needs of it. QuickFIX's threads and the thread
+// that has the state share it.
 #ifndef DESK_RECORD_H
 #define DESK_RECORD_H
 

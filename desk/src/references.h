@@ -1,5 +1,5 @@
-// Reference prices that the firm sets, and how far from them, from its last price and from its own
-// quotes a price may be before it is asked about once more.
+// Keeps the reference prices that the firm sets, and how far a price may be from them, from its
+// last price and from its own quotes before the desk asks about it once more.
 #ifndef DESK_REFERENCES_H
 #define DESK_REFERENCES_H
 

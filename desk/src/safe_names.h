@@ -1,4 +1,4 @@
-// Names of files that outlive a power cut.
+// Renames files so that their names outlive a power cut.
 #ifndef DESK_SAFE_NAMES_H
 #define DESK_SAFE_NAMES_H
 

@@ -1,4 +1,4 @@
-// Values of a file of TOML, with an error that names the file, the key and what is wrong.
+// Reads the values of a TOML file. An error names the file, the key and what is wrong.
 #ifndef DESK_TOML_FILE_H
 #define DESK_TOML_FILE_H
 

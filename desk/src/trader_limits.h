@@ -1,5 +1,5 @@
-// The limits of each trader, as the firm's admin sets them while the desk runs. Those of the
-// configuration hold for whoever the admin has said nothing of.
+// Keeps the limits of each trader, as the firm's admin sets them while the desk runs. A trader for
+// whom the admin has set none has those of the configuration.
 #ifndef DESK_TRADER_LIMITS_H
 #define DESK_TRADER_LIMITS_H
 

@@ -1,4 +1,4 @@
-// What bonds' static data adds to the views of requests that pages have.
+// Adds what follows from bonds' static data to the views of requests that pages have.
 #ifndef DESK_VALUED_VIEWS_H
 #define DESK_VALUED_VIEWS_H
 

@@ -1,4 +1,5 @@
-// A day's requests as the page has them. Prices are in 256ths, moments in milliseconds since 1970.
+// Writes a day's requests as the page has them. Prices are in 256ths, moments in milliseconds since
+// 1970.
 #include "dealer_day.h"
 #include "investor_day.h"
 

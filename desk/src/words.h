@@ -1,4 +1,4 @@
-// Why the venue refused something, in words: those of Text (58) where they are given, and otherwise
+// Says in words why the venue refused something: those of Text (58) if it gave any, and otherwise
 // what the code of its answer can mean.
 #ifndef DESK_WORDS_H
 #define DESK_WORDS_H

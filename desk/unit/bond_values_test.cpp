@@ -1,5 +1,5 @@
-// What prices of bonds mean. The figures are those of others: of QuantLib's test suite as Debian
-// has its source (quantlib 1.29-1), by file and line, and of its day counters' published cases.
+// What prices of bonds mean, by figures of others: of QuantLib's test suite as Debian has its
+// source (quantlib 1.29-1), by file and line, and of its day counters' published cases.
 #include <doctest/doctest.h>
 
 #include "bond_values.h"

@@ -1,4 +1,4 @@
-// bond-values BONDS.toml: for the tests, what the desk works out of bonds. It reads lines
+// bond-values BONDS.toml: prints for the tests what the desk works out of bonds. It reads lines
 // `ID price|yield VALUE GRID YYYY-MM-DD` and prints `SETTLES ACCRUED PRICE YIELD`, or `none`.
 #include "bond_values.h"
 #include "bonds_file.h"

@@ -1,4 +1,4 @@
-// What of bonds.toml is taken, and how each fault is named.
+// Tests what the desk takes from bonds.toml, and how it names each fault.
 #include <doctest/doctest.h>
 
 #include "bonds_file.h"

@@ -1,4 +1,4 @@
-// What pages are told of a request that they have.
+// Tests what pages are told of a request that they have already.
 #include <doctest/doctest.h>
 
 #include "changes.h"

@@ -1,4 +1,4 @@
-// The investor's day: what each message of the venue makes of what its traders see.
+// The investor's day: how each message of the venue changes what the firm's traders see.
 #include <doctest/doctest.h>
 
 #include "checks.h"

@@ -1,5 +1,5 @@
-// What of a journal is safe against a power cut, and when: each synchronisation is noted as it is
-// asked for.
+// Tests what of a journal is safe against a power cut, and when: it notes each synchronisation when
+// the desk asks for it.
 #include <doctest/doctest.h>
 
 #include "file_store.h"

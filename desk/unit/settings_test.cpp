@@ -1,5 +1,5 @@
-// What outlives a restart beside the journal: limits, references and stops of programs; and how a
-// program is named in the configuration.
+// Tests what outlives a restart beside the journal: limits, references and stops of programs; and
+// how the configuration names a program.
 #include <doctest/doctest.h>
 
 #include "checks.h"
