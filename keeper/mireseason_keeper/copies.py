@@ -1,8 +1,8 @@
-"""Copies of days: a folder for each, with all that it takes to check the day in five years.
+"""Copies days: each into a folder with all that it takes to check the day in five years.
 
-The log as a file of SQLite, the venue's configuration of its entry 0, the venue's program where that is still the one of entry
-0, what the audit said of it, the seal where that was good, and SHA256SUMS. It is read again before it has its name: so it is
-there whole or not at all.
+A copy has the log as a file of SQLite, the venue's configuration of its entry 0, the venue's program if that is still the one
+of entry 0, what the audit said of it, the seal if the audit found no fault, and SHA256SUMS. The keeper reads it again before it
+gives it its name: so a copy is there whole or not at all.
 """
 
 import hashlib

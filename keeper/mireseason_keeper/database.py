@@ -1,7 +1,7 @@
-"""The logs in PostgreSQL, each a schema of its own, as the role `keeper` sees them.
+"""Reads the logs in PostgreSQL, each a schema of its own, as the role `keeper`.
 
 It reads all of them. By two functions of install/hosts/config/database.sql, which run with the owner's role, it makes the tables of
-a day and removes those of an old one; else it changes nothing.
+a day and removes those of an old one. It changes nothing else.
 """
 
 import itertools

@@ -1,4 +1,6 @@
-"""A day of PostgreSQL as a file of SQLite, which the audit reads without a server; and the digest of what a day has."""
+"""Writes a day of PostgreSQL as a file of SQLite, which the audit reads without a server, and computes the digest of a day's
+rows.
+"""
 
 import hashlib
 import os

@@ -1,4 +1,4 @@
-"""What the keeper can't do."""
+"""The error that says what the keeper can't do."""
 
 
 class Fault(Exception):

@@ -1,8 +1,8 @@
-"""Copies that a gateway made of its days in SQLite, as the keeper takes them.
+"""Takes the copies that a gateway made of its days in SQLite, and trusts nothing in them.
 
-Who has the gateway's host may have put anything there: a name that leads elsewhere, a file without an end, another day's log, a
-program. So each file is opened as a plain file of that folder, and no more of it is read than there is room for. Nothing of it
-is run, and the log is looked into by what the keeper has itself.
+Whoever controls the gateway's host may have put anything there: a name that leads elsewhere, a file without an end, another
+day's log, a program. So the keeper opens each file as a plain file of that folder, and reads no more of it than there is room
+for. It runs nothing of it, and looks into the log with programs of its own.
 """
 
 import hashlib

@@ -1,4 +1,4 @@
-"""One look of the keeper at the logs: it does what is due, and says what it did and what it could not."""
+"""Looks at the logs once: it does what is due, and says what it did and what it could not do."""
 
 import sys
 from collections.abc import Callable

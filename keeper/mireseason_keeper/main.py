@@ -1,4 +1,4 @@
-"""The command mireseason-keeper: one look at the logs, as its timer calls it every five minutes."""
+"""The command mireseason-keeper: it looks at the logs once, and its timer calls it every five minutes."""
 
 import argparse
 import fcntl

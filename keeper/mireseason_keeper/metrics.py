@@ -1,4 +1,4 @@
-"""What the keeper tells Prometheus: a file that its node exporter reads (--collector.textfile.directory)."""
+"""Writes the keeper's metrics into a file that Prometheus' node exporter reads (--collector.textfile.directory)."""
 
 import os
 from datetime import datetime

@@ -1,4 +1,4 @@
-"""One look of the keeper at the copies that gateways made of days in SQLite: it takes each, has it checked, and seals it."""
+"""Looks once at the copies that gateways made of days in SQLite: it takes each, has it checked, and seals it."""
 
 import os
 from collections.abc import Callable

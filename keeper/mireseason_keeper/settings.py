@@ -1,4 +1,4 @@
-"""The keeper's configuration, keeper.toml."""
+"""Reads the keeper's configuration, keeper.toml."""
 
 import os
 import re

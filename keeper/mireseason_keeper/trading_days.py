@@ -1,4 +1,4 @@
-"""The days on which the venue trades, as the part [day] of a gateway says them."""
+"""Computes the days on which the venue trades, from the keys that a gateway has in its part [day]."""
 
 from collections.abc import Iterator
 from dataclasses import dataclass, field
