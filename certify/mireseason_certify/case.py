@@ -1,4 +1,4 @@
-"""A case: what it is called, what it tries, what it needs, and how it is played."""
+"""A case: its name, what it tries, what it needs, and how it is played."""
 
 from __future__ import annotations
 

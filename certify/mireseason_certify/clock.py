@@ -1,6 +1,6 @@
-"""A clock that can be moved to the next day: that of the venue, of this program, and of a desk that is started with the same words.
+"""A clock that can be moved to the next day, for the venue, this program, and a desk that is started with the same words.
 
-A library of tests/gateway/clock.cpp, loaded in front of all others, adds to a process's clocks the seconds that a file has.
+The library of tests/gateway/clock.cpp, loaded before all others, adds to a process's clocks the seconds that a file has.
 """
 
 from __future__ import annotations

@@ -1,4 +1,4 @@
-"""What a seed draws: names, bonds, quantities, prices and the order of the cases. So a desk can't have learnt the answers."""
+"""Draws from a seed names, bonds, quantities, prices and the order of the cases: a desk can't have learnt the answers."""
 
 from __future__ import annotations
 

@@ -1,4 +1,4 @@
-"""Messages of FIXT.1.1: taken out of a stream of bytes, and written."""
+"""Takes messages of FIXT.1.1 out of a stream of bytes, and writes them."""
 
 from __future__ import annotations
 

@@ -1,4 +1,4 @@
-"""What an investor's cases have in common: the desk asks, dealers that are played quote, and the desk hits or passes."""
+"""What an investor's cases have in common: the desk asks, played dealers quote, and the desk hits or passes."""
 
 from __future__ import annotations
 

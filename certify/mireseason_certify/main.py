@@ -1,4 +1,4 @@
-"""The command."""
+"""The command mireseason-certify."""
 
 from __future__ import annotations
 

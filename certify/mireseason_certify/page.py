@@ -1,4 +1,4 @@
-"""The page that the developer has open while the cases run. It serves this machine alone."""
+"""Serves the page that the developer has open while the cases run, to this machine alone."""
 
 from __future__ import annotations
 

@@ -1,4 +1,4 @@
-"""A firm that this program plays: its FIX session, kept simple, since nothing on its line is lost."""
+"""Plays a firm: its FIX session is kept simple, since nothing on its line is lost."""
 
 from __future__ import annotations
 

@@ -1,4 +1,4 @@
-"""Ports of the loopback that nobody else is given while they are held."""
+"""Holds ports of the loopback, so that no other program gets them."""
 
 from __future__ import annotations
 

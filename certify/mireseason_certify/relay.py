@@ -1,6 +1,6 @@
 """Stands between the desk and the gateway: passes on each message, keeps what was said, and makes the faults of a case.
 
-It changes no byte. A fault is a message that is lost on the way, a line that is cut, or a line that can't be had.
+It changes no byte. A fault is a message that it loses on the way, a line that it cuts, or a line that can't be had.
 """
 
 from __future__ import annotations

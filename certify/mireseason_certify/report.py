@@ -1,4 +1,5 @@
-"""The report of a run: a file of JSON, and the same as a page. The venue's host signs it; a developer's own is not signed."""
+"""Writes the report of a run as JSON and as a page. The venue's host signs a report; one that a developer makes is not signed.
+"""
 
 from __future__ import annotations
 

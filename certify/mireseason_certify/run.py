@@ -1,4 +1,4 @@
-"""Plays the cases of one role, in an order that the seed draws, and notes what came of each."""
+"""Plays the cases of one role, in an order that the seed draws, and notes the result of each."""
 
 from __future__ import annotations
 

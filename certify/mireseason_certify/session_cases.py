@@ -1,4 +1,6 @@
-"""What the FIX session of every desk has to be able to do. A dealer's desk and an investor's show it by another act each."""
+"""What the FIX session of every desk has to be able to do. A dealer's desk and an investor's each show it by an act of their
+own.
+"""
 
 from __future__ import annotations
 

@@ -1,4 +1,4 @@
-"""What the developer is told to do, and what the developer answers: on the terminal and on a page.
+"""Tells the developer what to do, and takes the developer's answers: on the terminal and on a page.
 
 A program that drives a desk by itself reads the same as JSON (`/now.json`).
 """
