@@ -1,5 +1,5 @@
 #!/bin/sh
-# Puts together in debian/built what the packages install beside files of the tree: debian/rules calls it.
+# Puts into debian/built what the packages install that is no file of the tree. debian/rules calls it.
 set -eu
 cd "$(dirname "$0")/.."
 built=debian/built

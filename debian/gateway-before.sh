@@ -1,5 +1,6 @@
 
-# are_alike: whether the gateway and the venue's program are of one version still, so that nothing of this upgrade is unpacked.
+# are_alike: whether the gateway and the venue's program are still of one version, so that nothing of this upgrade is unpacked
+# yet.
 are_alike() {
     # shellcheck disable=SC2016 # of dpkg-query
     [ "$(dpkg-query -W -f '${Version}\n' mireseason-gateway mireseason-venue 2>/dev/null | sort -u | wc -l)" = 1 ]

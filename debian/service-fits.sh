@@ -1,6 +1,6 @@
-# service_fits USER WORDS ..: whether a service would start with its files as they are. WORDS, a command, say so: they
-# are run as the service's own user, who is given no way to this terminal and nothing of root's environment, and what they print is
-# shown as plain characters.
+# service_fits USER WORDS ..: whether a service would start with its files as they are. It runs WORDS, a command that
+# says so, as the service's own user, without access to this terminal and without root's environment, and shows what they
+# print as plain characters.
 service_fits() {
     user=$1
     shift

@@ -4,11 +4,11 @@
 #     install/repository.sh KEY DIR [PACKAGES]
 #
 # KEY names one secret key of gpg, best by its fingerprint. DIR is the repository's folder, which a web server may serve, and
-# PACKAGES the folder that has the packages (install/packages/out). URL says where hosts find DIR: file:DIR, if it is not set.
+# PACKAGES the folder that has the packages (install/packages/out). URL says where hosts find DIR (file:DIR).
 #
-# DIR/mireseason.sources is all that a host needs: the address and the public key. What KEY signed of earlier releases stays, so that
-# a host can go back, and a version never changes. Trials, of a tree with changes or without the proved sessions, are refused;
-# UNPROVED=1 takes them.
+# A host needs DIR/mireseason.sources alone: the address and the public key. What KEY signed of earlier releases stays, so that a
+# host can go back, and a version never changes. It refuses trials: a tree with changes, or without the proved sessions. UNPROVED=1
+# takes them.
 #
 # Needs apt-utils, gpg, gpgv and xz-utils.
 set -eu

@@ -1,7 +1,7 @@
 #!/usr/bin/python3
-"""Two firms trade at the installed venue, by the commands of OPERATING.md; then the audit finds the day whole.
+"""Has two firms trade at the installed venue, by the commands of OPERATING.md; then the audit finds the day whole.
 
-It speaks FIX by itself, so that it needs nothing beside the packages. Both firms' credentials must not be there yet.
+It speaks FIX by itself, so that it needs nothing beside the packages. Neither firm may have credentials before.
 """
 
 import json

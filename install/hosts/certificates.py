@@ -3,10 +3,10 @@
 
 usage: certificates.py SITE FOLDER
 
-SITE is a file as site.toml. FOLDER gets authority.pem and authority.key, and of each host HOST.pem
-and HOST.key. Where the site has a host for readers, it gets readers.pem and readers.key too, an authority of their own, and reader.pem
-and reader.key, by which a supervisor logs in; what is there stays, so that a new host is added by running it again. README.md says
-where each has its place. Keep authority.key away from all hosts: whoever has it can be any of them.
+SITE is a file like site.toml. It writes authority.pem and authority.key into FOLDER, and for each host HOST.pem and HOST.key. If the
+site has a host for readers, it also writes readers.pem and readers.key, an authority of their own, and reader.pem and reader.key, with
+which a supervisor logs in. It leaves files that are there as they are: to add a host, run it again. README.md says where each file
+goes. Keep authority.key away from all hosts: whoever has it can be any of them.
 """
 
 import argparse

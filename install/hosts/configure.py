@@ -3,9 +3,14 @@
 
 usage: configure.py SITE HOST FOLDER
 
-SITE is a file as site.toml, which names all hosts. Of a database host etcd.yml, patroni.yml,
-make_database.sh and database.sql are written into FOLDER, of a host for readers patroni.yml, of a gateway host gateway.toml and pgpass, of a host of copies
-keeper.toml and pgpass; README.md says where each has its place.
+SITE is a file like site.toml, which names all hosts. What it writes into FOLDER depends on the host:
+
+    of databases    etcd.yml, patroni.yml, make_database.sh and database.sql
+    for readers     patroni.yml
+    of a gateway    gateway.toml and pgpass
+    of copies       keeper.toml and pgpass
+
+README.md says where each file goes.
 """
 
 import argparse

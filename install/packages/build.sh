@@ -1,13 +1,13 @@
 #!/bin/sh
-# Builds the Debian packages of a tree whose gate has passed: dpkg-buildpackage on a copy of it, so that nothing is left here.
+# Builds the Debian packages of a tree whose gate has passed: by dpkg-buildpackage on a copy of it, so that nothing is left here.
 #
 #     install/packages/build.sh [--source] [FOLDER]     puts the packages into FOLDER (install/packages/out)
 #
 # --source adds the source package. It has the proved program and the proved sessions, which only Rattle's kit makes.
-# What is not proved yet is proved first, by examples/prove_venue.py, unless VENUE and GATEWAY name programs that are built already,
-# as debian/rules has it; DESK names a folder with a built desk, or `none`, without which there is no package of it. All packages have
-# the version of the file VERSION, whose changes stand in CHANGELOG.md, and the commit of the tree; one with changes that are not
-# committed is marked with a `+` behind it. UNPROVED=1 takes what is not proved, for trials alone.
+# It first proves what is not proved yet, by examples/prove_venue.py, unless VENUE and GATEWAY name programs that are built already,
+# as debian/rules has it. DESK names a folder with a built desk, or `none`, without which there is no package of it. All packages have
+# the version of the file VERSION, whose changes CHANGELOG.md lists, and the commit of the tree; a tree with changes that are not
+# committed gets a `+` after its commit. UNPROVED=1 takes what is not proved, for trials alone.
 #
 # Needs debhelper and dpkg-dev, and what debian/control names.
 set -eu

@@ -1,5 +1,5 @@
 #!/bin/sh
-# Prints what CHANGELOG.md has on this version as Debian's changelog has it. For a release: install/packages/changelog.sh > debian/changelog
+# Prints what CHANGELOG.md says of this version in the form of Debian's changelog. For a release: install/packages/changelog.sh > debian/changelog
 set -eu
 export LC_ALL=C.UTF-8
 root=$(cd "$(dirname "$0")/../.." && pwd)

@@ -1,10 +1,10 @@
 #!/usr/bin/python3
-"""Has each link of a page that a package installs lead to where the packages put what it names.
+"""Makes each link of a page that a package installs lead to where the packages put what it names.
 
     install/packages/links.py FOLDER     the pages, by the names that they are installed under
 
-A page stands in /usr/share/doc, in the folder of the package whose file debian/PACKAGE.docs names it. What no package has
-stays as text, without a link.
+A page is installed in /usr/share/doc, in the folder of the package whose file debian/PACKAGE.docs names it. A link to what no
+package has becomes plain text.
 """
 
 import os

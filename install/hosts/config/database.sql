@@ -1,4 +1,4 @@
--- Who may do what in the database of the logs, and how a day's tables are made. Its superuser runs it in that database
+-- Says who may do what in the database of the logs, and makes a day's tables. Its superuser runs it in that database
 -- when it is new, and again with each version of the gateway whose tables have another form.
 -- configure.py replaces the words between two @.
 

@@ -1,6 +1,7 @@
 #!/bin/sh
-# Run by Patroni once, when the cluster is made: the database of the logs, the role of the gateways, one that reads and has no password, and the
-# keeper's password; database.sql, beside this file, says what they may. The one argument is a connection string of the superuser.
+# Patroni runs it once, when the cluster is made. It makes the database of the logs, the role of the gateways, and a role that reads and
+# has no password; it sets the keeper's password. database.sql, beside this file, says what they may do. The one argument is a connection
+# string of the superuser.
 # configure.py replaces the words between two @.
 set -eu
 psql --no-psqlrc -v ON_ERROR_STOP=1 -d "$1" \

@@ -1,1 +1,1 @@
-"""What configure.py writes the configurations of hosts with."""
+"""The parts of which configure.py consists."""

@@ -1,5 +1,5 @@
-"""The certificates of a site's hosts, by an authority of its own: what etcd, Patroni, PostgreSQL and
-the gateways know one another by. Made by openssl.
+"""Makes the certificates of a site's hosts with openssl, by an authority of its own: etcd, Patroni, PostgreSQL and the
+gateways know one another by them.
 """
 
 import os

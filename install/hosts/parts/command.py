@@ -1,4 +1,4 @@
-"""A command that an installation runs."""
+"""Runs a command for an installation."""
 
 import subprocess
 

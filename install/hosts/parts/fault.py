@@ -1,4 +1,4 @@
-"""What ends an operator's command with a line that says why."""
+"""The error that ends an operator's command with a line that says why."""
 
 
 class Fault(Exception):

@@ -1,5 +1,5 @@
-"""A whole installation on paper: its hosts and addresses, its passwords and its venues; and the
-configurations of each host that follow.
+"""Reads a whole installation from its file, its hosts and addresses, its passwords and its venues, and
+derives each host's configurations from it.
 """
 
 import json
