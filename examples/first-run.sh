@@ -1,15 +1,17 @@
 #!/bin/sh
-# The first run: one auction over TCP. On a machine that has `rt` this installs what is missing from
-# Debian, proves and builds the venue and the library of its sessions (and tells how far it is; what
-# stands is taken), builds the gateway, starts it with a log in SQLite, lets two dealers and an investor
-# trade by stock QuickFIX initiators, prints what each was sent, and ends all that it started.
+# The first run: one auction over TCP. On a machine that has `rt` this
+# - installs what is missing from Debian;
+# - proves and builds the venue and the library of its sessions, and tells how far it is (it takes what is built already);
+# - builds the gateway, and starts it with a log in SQLite;
+# - lets two dealers and an investor trade by stock QuickFIX initiators, and prints what each was sent;
+# - ends all that it started.
 #
 #     examples/first-run.sh               some 45 minutes on four processors the first time, then
 #                                         seconds; more than an hour on two
-#     examples/first-run.sh --unproved    what can be seen in minutes without a proof: the same program
-#                                         by `rt try`, on an auction as a text, and then the auction
-#                                         over TCP with second implementations in its place: of the
-#                                         venue, in Python, and of its sessions, in C++
+#     examples/first-run.sh --unproved    in minutes, what can be seen without a proof: the same program
+#                                         by `rt try`, on an auction as a text; then the auction over TCP
+#                                         with second implementations in its place: of the venue, in
+#                                         Python, and of its sessions, in C++
 set -eu
 root=$(cd "$(dirname "$0")/.." && pwd)
 case "${1:-}" in

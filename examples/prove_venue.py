@@ -5,12 +5,12 @@ crates/session_recovery_c/out/libsession_recovery_c.a, their recovery. It tells 
 
 usage: prove_venue.py [--jobs N]
 
-The crates below these lie in a copy of the repository without tests and without wrong bodies. An
-`rt ci` over the whole copy proves them side by side, where memory allows, and proves, builds and runs
-the program; an `rt lib` makes each library. Where the kit's `rt ci` takes names and keeps what it
-proves, each crate is proved before that by an `rt ci CRATE` of its own, as soon as those below it are,
-and what an earlier run or a gate has proved is taken. So is what is newer than all its sources. In the
-end it says whether all are the bytes that crates/proved.sha256 has for these sources.
+It copies the crates below these out of the repository, without tests and without wrong bodies. An `rt ci`
+over the whole copy proves them side by side, as far as memory allows, and proves, builds and runs the
+program; an `rt lib` makes each library. If the kit's `rt ci` takes names and keeps what it proves, an
+`rt ci CRATE` proves each crate before that, as soon as those below it are proved. It takes what an
+earlier run or a gate has proved, and what is newer than all its sources. In the end it says whether all
+are the bytes that crates/proved.sha256 has for these sources.
 """
 
 import argparse

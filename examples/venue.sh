@@ -1,18 +1,19 @@
 #!/bin/sh
 # A venue to try: the gateway, the venue's program, two dealers that quote by themselves, an investor that
 # asks now and then, and a desk in the browser for INV1 and for DLR3; an operator's command and page, and a
-# supervisor's view of the day as it goes on. It runs until Ctrl-C, prints the addresses and the logins, what
-# an operator can try, and how each auction ends.
+# supervisor's view of the day as it goes on. It runs until Ctrl-C, and prints the addresses and the logins,
+# what an operator can try, and how each auction ends.
 #
 #     examples/venue.sh           two minutes from a fresh clone on four quiet processors, then seconds
-#     examples/venue.sh down      ends it, where it still runs, and has the audit check the day
+#     examples/venue.sh down      ends it, if it still runs, and has the audit check the day
 #
-# The program is the proved one, crates/rfq_venue/out/rfq_venue, where it stands, and so are the sessions,
-# crates/fix_sessions_c/out (examples/prove_venue.py makes both); else second implementations, and the
-# pages say so. All that it writes is in FOLDER (examples/venue/out). GATEWAY and DESK name folders of
-# programs that are built already (gateway/out and desk/out); where one is missing, all are built in
-# examples/venue/out/built, to be had soon, not to be fast. PORTS names four ports: of the gateway, and of
-# the pages of INV1, of DLR3 and of the operator (8101 to 8103, or others where these are taken).
+# It runs the proved program, crates/rfq_venue/out/rfq_venue, and the proved sessions,
+# crates/fix_sessions_c/out, if they are there (examples/prove_venue.py makes both). Otherwise it runs second
+# implementations, and the pages say so. It writes everything into FOLDER (examples/venue/out). GATEWAY and
+# DESK name folders of programs that are built already (gateway/out and desk/out). If one is missing, it
+# builds all in examples/venue/out/built: to have them soon, not to have them fast. PORTS names four ports:
+# of the gateway, and of the pages of INV1, of DLR3 and of the operator (8101 to 8103, or others if these
+# are taken).
 set -eu
 root=$(cd "$(dirname "$0")/.." && pwd)
 here=$root/examples/venue

@@ -1,10 +1,11 @@
 #!/bin/sh
-# One auction over TCP: starts the gateway on this folder's configuration, with today's date, lets two dealers and an
-# investor trade by stock QuickFIX initiators, prints what each was sent and what stands in the log, and ends all that it
-# started. usage: examples/gateway/run.sh [FOLDER]    where the day is kept: a new folder that is removed if none is named.
+# Plays one auction over TCP: starts the gateway on this folder's configuration, with today's date, lets two dealers and an
+# investor trade by stock QuickFIX initiators, prints what each was sent and what the log has, and ends all that it started.
 #
-# VENUE is the command line of the venue's program, crates/rfq_venue/out/rfq_venue if it is not set; GATEWAY the gateway,
-# gateway/out/mireseason-gateway if it is not set.
+# usage: examples/gateway/run.sh [FOLDER]    keeps the day in FOLDER; without it in a new folder, which is removed afterwards
+#
+# VENUE is the command line of the venue's program (crates/rfq_venue/out/rfq_venue), GATEWAY the gateway
+# (gateway/out/mireseason-gateway).
 set -eu
 here=$(cd "$(dirname "$0")" && pwd)
 root=$(cd "$here/../.." && pwd)

@@ -1,7 +1,7 @@
 """Writes what the venue of examples/venue.sh needs for today into a folder: prepare.py FOLDER GATEWAY VENUE
 
-VENUE is the command line of the venue's program. What stands in the folder and can be kept is kept, so
-that a venue that was stopped goes on with its day.
+VENUE is the command line of the venue's program. It keeps what is in the folder and can be kept, so that a
+venue that was stopped goes on with its day.
 """
 
 import itertools

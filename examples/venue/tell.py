@@ -1,8 +1,8 @@
 """Tells in a sentence how each auction of a running venue ends: tell.py LOG ENTRY
 
 It reads the gateway's log, a file of SQLite, as an operator may: what the venue sent whom, and on which
-entry. Of the entries behind ENTRY that end a request it tells one sentence each; of those before it an
-earlier start of the venue has told. Without ENTRY it prints the last one that led to anything, and ends.
+entry. It tells one sentence for each entry after ENTRY that ends a request; an earlier start of the venue
+has told of those before. Without ENTRY it prints the last entry that led to anything, and ends.
 """
 
 import sqlite3
