@@ -1,18 +1,18 @@
 #!/usr/bin/env python3
-"""Compares what is built of the proved crates with what crates/proved.sha256 says of it.
+"""Compares what is built of the proved crates with the sums in crates/proved.sha256.
 
     tools/proved.py                  says of the venue's program and of the libraries of its sessions and of
                                      their recovery whether they are the bytes that the file has for these
                                      sources
     tools/proved.py --write          writes the file anew, from the sources and from what is built: what is not
-                                     keeps its sums
+                                     built keeps its sums
     tools/proved.py --sources NAME   prints the sources of `rfq_venue` or of a library, a path a line:
-                                     `| xargs sha256sum | sha256sum` behind it gives the sum in the file
+                                     `| xargs sha256sum | sha256sum` after it gives the sum in the file
 
 The sources are src/ and specs/ of the crate and of all below it: what runs, and what is said of it. A
-proof changes neither. Other bytes of the same sources are a fault. Other sources are none, until a
-release: then CHANGELOG.md begins with the version's own changes, and the file has to have all sums.
-`sha256sum -c --ignore-missing crates/proved.sha256` looks at the bytes alone.
+proof changes neither. If the bytes differ and the sources are the same, that is a fault. If the sources
+differ, it is none until a release: then CHANGELOG.md begins with the version's own changes, and the file
+has to have all sums. `sha256sum -c --ignore-missing crates/proved.sha256` looks at the bytes alone.
 """
 
 from __future__ import annotations

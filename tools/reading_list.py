@@ -1,7 +1,7 @@
 #!/usr/bin/env python3
-"""What has to be read to judge a law: the files of definitions on which it rests, by the `use` lines from
-the law's own file downwards, and the types that these are about. Proofs are not among them: those are
-the prover's. With no name it lists the headline.
+"""Lists what has to be read to judge a law: the files of definitions on which it rests, by the `use`
+lines from the law's own file downwards, and the types that these are about. It leaves out proofs: those
+are the prover's to judge. With no name it lists the headline.
 
     tools/reading_list.py [LAW..]
 

@@ -1,1 +1,1 @@
-"""What tools/pages.py asks of the pages of this repository."""
+"""The checks that tools/pages.py makes of this repository's pages."""

@@ -1,12 +1,12 @@
-"""Each clause that the tables of docs/PROOFS.md name is one of that function, in the crate that
-gives it out.
+"""Checks that each clause named by the tables of docs/PROOFS.md is one of that function, in the
+crate that gives it out.
 
 A row names clauses as `CRATE::FUNCTION` (`CLAUSE`, `CLAUSE`), or `CRATE::TYPE::FUNCTION` for a
-method. Without names in parentheses the function has at least one clause that ensures something.
-A star at the end of a name stands for every function that the crate gives out whose name begins so,
-and names in braces, `CRATE::TYPE::{FUNCTION, FUNCTION}`, for each of them.
-In a table with the head HEAD, which may have more columns, the second cell says what carries the
-first: clauses, or words.
+method. If no names stand in parentheses, the function has at least one clause that ensures
+something. A star at the end of a name stands for every function that the crate gives out whose name
+begins so, and names in braces, `CRATE::TYPE::{FUNCTION, FUNCTION}`, for each of them. In a table
+with the head HEAD, which may have more columns, the second cell says what carries the first:
+clauses, or words.
 """
 
 from __future__ import annotations

@@ -1,10 +1,10 @@
-"""Commands that a page shows print what it says.
+"""Runs the commands that a page shows, and checks that they print what the page says.
 
-A block ```console has lines `$ COMMAND` and below each what it prints, both streams; a line `...`
-stands for any lines. Each is run at the top of the repository, `rfq_venue` being the program that
-was given. A block ```sh, and an indented line that begins with a program or a file of the
-repository, is a command that takes minutes, or more than one process: it is listed, and not run;
-the file has to be there.
+A block ```console has lines `$ COMMAND`, each followed by what it prints, both streams; a line
+`...` stands for any lines. Each command runs at the top of the repository, and `rfq_venue` is the
+program that was given. A block ```sh, and an indented line that begins with a program or a file of
+the repository, is a command that takes minutes, or more than one process: it is listed, and not
+run; the file has to be there.
 """
 
 from __future__ import annotations

@@ -1,4 +1,4 @@
-"""Names that pages may have though nothing in the repository bears them."""
+"""Lists names that pages may have though nothing in the repository bears them."""
 
 from __future__ import annotations
 

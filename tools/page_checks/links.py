@@ -1,4 +1,4 @@
-"""Every relative link holds: the file is there, and so is the heading that it names."""
+"""Checks every relative link: the file is there, and so is the heading that it names."""
 
 from __future__ import annotations
 

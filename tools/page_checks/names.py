@@ -1,4 +1,4 @@
-"""Every name in backticks exists.
+"""Checks that every name in backticks exists.
 
 The rule. A span is cut at spaces, and each part is one of these, the first that fits:
   a path           has a slash, or ends as a file does: some file's or folder's path ends so; in a

@@ -1,4 +1,6 @@
-"""A page: its lines, which of them stand in a block, and the spans in backticks outside blocks."""
+"""Reads a page: its lines, which of them stand in a block, and the spans in backticks outside
+blocks.
+"""
 
 from __future__ import annotations
 

@@ -1,8 +1,8 @@
-"""The names that the repository has.
+"""Collects the names that the repository has.
 
-Of Rattle's files (.rt, .antt) those that are declared: functions, types, fields, variants, clauses,
-definitions, lemmas, and the words that stand in quotes. Of every other file each word that stands
-in it.
+From Rattle's files (.rt, .antt) it takes those that are declared (functions, types, fields,
+variants, clauses, definitions, lemmas) and the words in quotes. From every other file it takes each
+word.
 """
 
 from __future__ import annotations

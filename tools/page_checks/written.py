@@ -1,6 +1,7 @@
-"""What scripts write. Those that print a page can print it now: each crate has the caller that is named
-for it, and the headline has definitions to read. Each table that a page marks as made is as its script
-would write it now."""
+"""Checks that the scripts that print a page can print it now: each crate has the caller that is named
+for it, and the headline has definitions to read. Checks also that each table which a page marks as made
+is as its script would write it.
+"""
 
 from __future__ import annotations
 
