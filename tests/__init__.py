@@ -1,1 +1,1 @@
-"""All tests that are no proof, one folder a subject."""
+"""All tests that are not proofs, one folder a subject."""

@@ -1,5 +1,5 @@
 #!/bin/sh
-# Builds a part of the tree. What ccache keeps of it is not compiled again, neither here nor in a copy of the tree; which
+# Builds a part of the tree. It does not compile again what ccache keeps, neither here nor in a copy of the tree. Which
 # sessions a gateway is linked with is chosen anew.
 #
 #     tests/build.sh JOBS SOURCE OUT [TARGET ..]      these targets, or all

@@ -2,12 +2,12 @@
 """Writes the cases of each byte in a field: crates/all_cases/data/commands-bytes.cases, to standard output.
 
 usage: every_byte.py            writes them
-       every_byte.py PROGRAM ..  holds `PROGRAM .. live --marks` against them
+       every_byte.py PROGRAM ..  compares `PROGRAM .. live --marks` with them
 
 For each value of a byte a dealer says by `hex` one message with that byte in a field. The answers follow from the rules
-of docs/FORMATS.md alone: SOH ends the field, so that what follows is no field, and the message is no frame and dropped;
-any other byte belongs to the value, and the value is an identifier (117), or is ignored (58). The message is a cancel
-(35=Z, 298=5) of a quote that the dealer has not, so its answer goes to the dealer alone.
+of docs/FORMATS.md alone. SOH ends the field, so that what follows is no field, and the message is no frame and dropped.
+Any other byte belongs to the value, and the value is an identifier (117), or is ignored (58). The message is a cancel
+(35=Z, 298=5) of a quote that the dealer does not have, so its answer goes to the dealer alone.
 """
 
 import subprocess

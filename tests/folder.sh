@@ -1,5 +1,5 @@
 #!/bin/sh
-# All tests of one folder: the long form, or the short one where that word is given. What stands behind goes to pytest.
+# Runs all tests of one folder: the long form, or the short one after the word `short`. It passes the other words to pytest.
 #
 #     tests/FOLDER/run.sh [short] [OPTIONS ..]      tests/README.md has the options
 #

@@ -1,7 +1,7 @@
 #!/bin/sh
-# Installs those of the named Debian packages that are missing, and tells so first; waits, within limits,
-# where another has apt's locks. Status 1, with a line for each, where one is missing still. usage:
-# tests/packages.sh PACKAGE ..
+# Installs the named Debian packages that are missing, and says so first. If another has apt's locks it
+# waits, within limits. Status 1, with a line for each, if one is still missing.
+# usage: tests/packages.sh PACKAGE ..
 set -eu
 locked=300   # seconds that a lock is waited for
 longest=1800 # seconds of one call of apt-get

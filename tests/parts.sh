@@ -1,7 +1,6 @@
 #!/bin/sh
-# The parts of tests/run.sh, which reads this file: how one is run, counted and told, what it takes, and when it is not run.
-# $work is a folder of this run alone.
-# shellcheck disable=SC2034,SC2154 # names that tests/run.sh gives and takes
+# Runs the parts of tests/run.sh, which reads this file: how a part is run, counted and told, what it takes, and when it is
+# not run. $work is a folder of this run alone. shellcheck disable=SC2034,SC2154 # names that tests/run.sh gives and takes
 
 # count GOOD BAD
 count() {

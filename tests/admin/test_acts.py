@@ -1,4 +1,4 @@
-"""What acts change: a firm's limits, the clock, credentials; and that it is so again after a restart and on another gateway."""
+"""What operators' acts change: a firm's limits, the clock, credentials. Each holds after a restart, and on another gateway."""
 
 import re
 import subprocess

@@ -1,4 +1,4 @@
-"""Firms that need a report of mireseason-certify: who is let in, which reports are taken, and how long one holds."""
+"""Firms that need a report of mireseason-certify: who may log on, which reports count, and how long one holds."""
 
 import os
 import stat

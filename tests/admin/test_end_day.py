@@ -1,4 +1,6 @@
-"""`end-day`: the operator ends the day early, waits for what is open or does not, and the gateway goes on with the next one."""
+"""`end-day`: the operator ends the day early, with or without waiting for what is open, and the gateway goes on with the next
+one.
+"""
 
 from pathlib import Path
 

@@ -1,4 +1,6 @@
-"""What an operator looks up: one firm, what a firm may be handed, the next day; and a trade that is voided by agreement."""
+"""What an operator looks up: one firm, what a firm may be handed, the next day. And a trade that the operator voids by
+agreement.
+"""
 
 import csv
 import io

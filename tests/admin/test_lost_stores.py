@@ -1,5 +1,5 @@
-"""An engine that lost its store, whatever refuses its Logons: it is locked out, and only what an operator says for that lets it in
-again, also after a gateway that was killed. One that nobody could lock out is told of."""
+"""An engine that lost its store, whatever refuses its Logons. It is locked out until an operator lets it in, also if the
+gateway was killed meanwhile. The gateway tells of an engine that nobody could lock out."""
 
 from tests.admin.operator import audit, did
 from tests.admin.test_orders import WHY, check, is_refused, lost_store, opened, started_again

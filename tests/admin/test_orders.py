@@ -1,5 +1,5 @@
-"""What an operator orders of a firm and of the venue: a suspension, a cancel, a halt, and the ways back of a firm that lost its
-store. Each is an act, and is so again after a gateway that was killed."""
+"""What an operator orders of a firm and of the venue: a suspension, a cancel, a halt, and the ways back for a firm that lost
+its store. Each is an act, and holds again after the gateway was killed."""
 
 import re
 

@@ -1,4 +1,4 @@
-"""Why an operator did it: what is ordered of a firm or of the venue has a reason, and everybody who reads the day afterwards
+"""Why an operator did it: each order for a firm or for the venue needs a reason, and everybody who reads the day afterwards
 finds it."""
 
 import html

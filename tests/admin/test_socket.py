@@ -1,4 +1,4 @@
-"""Who may use the operator's socket, and what it takes of those who may."""
+"""Who may use the operator's socket, and what it accepts from those who may."""
 
 import json
 import resource

@@ -1,4 +1,4 @@
-"""What the tests of the audit are run with, as programs that they start read it."""
+"""Settings for the tests of the audit, in the form in which the programs that they start read them."""
 
 import os
 from collections.abc import Iterator

@@ -4,9 +4,9 @@
 usage: draw_day.py LOG [--requests N] [--seed N] [--noise N] [--dealers N] [--investors N]
                    [--form N] -- VENUE WORDS ..
 
-Investors ask, dealers quote, replace, withdraw and decline, by what each was sent so far: the
-venue's program answers each line before the next is drawn. `--noise` has so many messages more for
-each dealer and request, of those that are refused.
+Investors ask; dealers quote, replace, withdraw and decline. Each goes by what it was sent so far: the
+venue's program answers each line before the next is drawn. `--noise` adds so many messages that are
+refused, for each dealer and request.
 """
 
 import argparse

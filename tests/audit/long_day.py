@@ -3,10 +3,9 @@
 
 usage: long_day.py LOG FRAMES -- VENUE WORDS ..
 
-Messages are drawn without waiting for an answer: names are counted as the venue counts them, and
-most messages are those that change nothing (cancels of quotes that are gone, prices off the grid,
-hits of old quotes), as on a long day of a market that is quoted by programs. What is sent for them
-is the venue's program's, in one run of `live`.
+It draws messages without waiting for an answer, and counts names as the venue counts them. Most messages
+change nothing (cancels of quotes that are gone, prices off the grid, hits of old quotes), as on a long
+day of a market that programs quote. The venue's program says in one run of `live` what is sent for them.
 """
 
 import random

@@ -1,5 +1,5 @@
-"""Forgeries by somebody who did not write the audit, as cases: what is done to the log, by what
-evidence it is found, and in which words. All chains are made anew behind each.
+"""Forgeries by somebody who did not write the audit, as cases: what is done to the log, which evidence
+finds it, and in which words. After each, all chains are made anew.
 
 `reworded(line, old, new)` changes a message that came, with the sum at its end.
 """

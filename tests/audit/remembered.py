@@ -1,11 +1,10 @@
 #!/usr/bin/python3
-"""A venue's program whose answers are kept, by its arguments and the SHA-256 of what it reads.
+"""Runs the venue's program, and keeps its answers by its arguments and the SHA-256 of what it reads.
 
 usage: remembered.py WORDS OF THE PROGRAM .. ARGUMENTS ..
 
-The program is a function of its input, so an answer that it gave once is the one that it gives
-again. Hundreds of tests read one day; with this each of its answers is made once. REMEMBERED has
-the folder.
+The program is a function of its input: what it answered once, it answers again. Hundreds of tests read
+one day, so each of its answers is made once. REMEMBERED names the folder.
 """
 
 import hashlib

@@ -1,5 +1,5 @@
-"""Changes a log by hand, as whoever has its file could: drawn by a seed, each with the place where
-it must be found.
+"""Changes a log by hand, as anybody with its file could. A seed draws the changes, each with the place
+at which the audit must find it.
 """
 
 import hashlib

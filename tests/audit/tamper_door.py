@@ -1,4 +1,4 @@
-"""Changes of who it was, by hand: the connections of messages, their receipts, and what happened to
+"""Changes by hand who it was: the connections of messages, their receipts, and what happened to
 connections.
 """
 

@@ -1,5 +1,5 @@
-"""Changes of what firms were told beside the venue's messages, by hand: the reasons (58) and the
-names of trades (1003).
+"""Changes by hand what firms were told beside the venue's messages: the reasons (58) and the names of
+trades (1003).
 """
 
 from tests.audit.tamper import Change, Kind, Tamperer, framed

@@ -1,4 +1,4 @@
-"""Blocks against blocks: what differs is seen wherever it stands and wherever a block ends."""
+"""Compares blocks with blocks: the audit sees a difference wherever it stands and wherever a block ends."""
 
 import itertools
 import unittest

@@ -1,4 +1,4 @@
-"""The commands, with their statuses: 0 where all is as it should be, 1 where it is not."""
+"""The commands, with their statuses: 0 if all is as it should be, 1 if it is not."""
 
 import base64
 import hashlib

@@ -1,4 +1,4 @@
-"""Decisions of the audit that a whole day seldom reaches, each by itself, against what the pages and the commands' help say of them."""
+"""Decisions of the audit that a whole day seldom reaches: each by itself, against what the pages and the commands' help say."""
 
 import argparse
 from decimal import Decimal

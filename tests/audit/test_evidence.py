@@ -1,5 +1,5 @@
-"""What a log is held against beside the rules: what was asked for, checkpoints kept outside, the
-numbers of checkpoints, the tables of its form; and what the verdict says was not checked.
+"""What a log is checked against beside the rules: what was asked for, checkpoints kept outside, the
+numbers of checkpoints, the tables of its form. And what the verdict says was not checked.
 """
 
 import json

@@ -1,5 +1,5 @@
-"""Forgeries by hand, each row whole in itself and all chains made anew: by what evidence each is
-found, and what only evidence from elsewhere than the log shows.
+"""Forgeries by hand. Each row is consistent in itself, and all chains are made anew: which evidence finds
+each, and what only evidence from outside the log shows.
 
 What the venue's program says of the messages is not asked here: test_tampered.py does that.
 """

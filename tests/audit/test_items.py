@@ -1,5 +1,5 @@
-"""No item of a report states a result that did not hold: for each a day that breaks it, as text, as
-a page and as JSON. And what was looked at in part says so, also in the verdict.
+"""No item of a report states a result that did not hold: a day breaks each one, as text, as a page and
+as JSON. An item that was checked in part says so, also in the verdict.
 """
 
 import json

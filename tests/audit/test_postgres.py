@@ -1,4 +1,4 @@
-"""The same logs in PostgreSQL, one of the form of now and one of an old form: a server of this test
+"""The same logs in PostgreSQL, one of the present form and one of an old form. The server is this test's
 alone, in a folder of its own.
 """
 

@@ -1,5 +1,5 @@
-"""Seals and signatures of a log: an entry that somebody put in with number and hash right, one that
-was changed with the chain made anew, a log that was cut off, other keys, and logs of older forms.
+"""Seals and signatures of a log. Somebody put an entry in, with the right number and hash; changed one,
+and made the chain anew; or cut the log off. And other keys, and logs of older forms.
 """
 
 import hashlib

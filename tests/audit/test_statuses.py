@@ -1,5 +1,5 @@
-"""Statuses where something fails: 2 where nothing is known of the log, its file, the program or
-what is beside them, and 1 where what is wrong stands in the log.
+"""Statuses if something fails: 2 if nothing is known of the log, its file, the program or what is beside
+them, and 1 if what is wrong stands in the log.
 """
 
 import os

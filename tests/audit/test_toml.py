@@ -1,5 +1,5 @@
-"""What no parser of TOML is given, since it would take its stack or all memory: the same in Python as in C++
-(gateway/unit/toml_bounds_test.cpp)."""
+"""Texts that are kept from a parser of TOML, since they would use up its stack or all memory: the same in Python as in
+C++ (gateway/unit/toml_bounds_test.cpp)."""
 
 import pytest
 from bounded_toml import DEEPEST, LONGEST, excess_of, table_of

@@ -1,5 +1,5 @@
-"""Reads a log's messages by itself, to say what the pages of the audit have to say. It shares
-nothing with the audit.
+"""Reads a log's messages independently, to say what the audit's pages must say. It shares nothing with
+the audit.
 """
 
 import re

@@ -1,6 +1,6 @@
-"""The text cases of the crates, by a program that is compiled without its proofs.
+"""Runs the text cases of the crates with a program that is compiled without its proofs.
 
-It checks each step, so days at their limits would take it more minutes than all else: the gate runs those.
+It checks each step, so it would take more minutes over days at their limits than over all else: the gate runs those.
 """
 
 import re

@@ -1,4 +1,4 @@
-"""The programs that stand behind a certification."""
+"""The programs that a certification needs."""
 
 import os
 from pathlib import Path

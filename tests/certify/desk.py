@@ -1,6 +1,6 @@
-"""A desk of a test that does what `/now.json` says: a right one, from which the wrong ones are made by changing one thing.
+"""A desk of a test that does what `/now.json` says: a right one. Each wrong one differs from it in one thing.
 
-Its FIX session is as a small engine of a firm would be: a store on disk, numbers that go on, gaps that are asked for.
+Its FIX session is like that of a firm's small engine: it has a store on disk, goes on with its numbers, and asks for gaps.
 """
 
 from __future__ import annotations

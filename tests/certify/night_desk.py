@@ -1,4 +1,4 @@
-"""A desk that is a process of its own, since its clock is moved with the venue's.
+"""A desk in a process of its own, so that its clock can be moved with the venue's.
 
 night_desk.py PAGE right|keeps      a right one, or one that goes on with yesterday's numbers; until its input ends
 """

@@ -1,4 +1,4 @@
-"""The desk of this repository, driven by what `/now.json` says, as a trader would by its page."""
+"""Drives the desk of this repository by what `/now.json` says, as a trader would by its page."""
 
 from __future__ import annotations
 

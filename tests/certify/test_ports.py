@@ -1,4 +1,4 @@
-"""Whoever certifies has its ports alone: the venue's while its gateway is ended and started, the relay's, and the page's."""
+"""A certification has its ports alone: the venue's, while its gateway is ended and started, the relay's, and the page's."""
 
 import socket
 from collections.abc import Iterator

@@ -1,4 +1,4 @@
-"""What a run leaves: a report that is signed or not, and what speaks against one."""
+"""What a run leaves: a report, signed or not, and what makes one invalid."""
 
 import json
 import os

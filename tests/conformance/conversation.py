@@ -1,4 +1,4 @@
-"""A definition that is played against a gateway."""
+"""Plays a definition against a gateway."""
 
 from collections.abc import Callable
 from contextlib import ExitStack

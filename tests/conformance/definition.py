@@ -1,4 +1,4 @@
-"""A test definition, in the form that QuickFIX's acceptance tests have: README.md says what a line is."""
+"""Reads a test definition, in the form of QuickFIX's acceptance tests: README.md says what a line is."""
 
 import re
 from dataclasses import dataclass

@@ -1,4 +1,4 @@
-"""Firms that nobody has logged on for yet, of gateways that are started as they are needed."""
+"""Gives firms for which nobody has logged on yet, and starts gateways as they are needed."""
 
 from collections.abc import Callable
 from dataclasses import dataclass

@@ -1,4 +1,4 @@
-"""What a bond's price means, computed plainly: no library, and no word of the desk's own code.
+"""Computes plainly what a bond's price means: without a library, and without any of the desk's own code.
 
 A whole period of coupons is 1/frequency of a year. A broken one is the part of it that its days are.
 """

@@ -1,4 +1,4 @@
-"""What the tests of the desk are given."""
+"""The fixtures of the desk's tests."""
 
 import os
 import subprocess

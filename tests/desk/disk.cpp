@@ -1,5 +1,5 @@
-// Stands between a desk and its disk, by LD_PRELOAD: it tells what is synchronised and what gets
-// another name, and lets the disk stall.
+// Stands between a desk and its disk, by LD_PRELOAD: it tells what is synchronised or renamed, and
+// lets the disk stall.
 //
 //     DISK_TOLD=FILE     each call is a line `THREAD CALL PATH` there: `waits` before a sync, `sync`
 //                        when it is over, `rename` with the new name

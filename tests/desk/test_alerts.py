@@ -1,4 +1,4 @@
-"""What a page announces by a sound and by a notification of the desktop, each where the trader has switched it on."""
+"""What a page announces by a sound and by a notification of the desktop, each once the trader has switched it on."""
 
 from selenium.webdriver.common.keys import Keys
 

@@ -1,4 +1,4 @@
-"""Who is not the trader, and what the desk answers them."""
+"""What the desk answers those who are not the trader."""
 
 import http.client
 import http.server

@@ -1,4 +1,4 @@
-"""The disk under a desk: one that stalls holds up no page, and what has another name is safe there."""
+"""The disk under a desk: a stalled one holds up no page, and a renamed file is safe on it."""
 
 import time
 from collections.abc import Iterator

@@ -1,4 +1,4 @@
-"""Whatever a page or a program says, the desk stands, and answers others."""
+"""Whatever a page or a program says, the desk goes on, and answers others."""
 
 import json
 import random

@@ -1,4 +1,4 @@
-"""How many pages a login has open, for how long one that answers nothing, and one that nobody uses."""
+"""How many pages a login may have open, and for how long: one that answers nothing, and one that nobody uses."""
 
 import json
 import time

@@ -1,4 +1,4 @@
-"""What the page tells those who read 32nds, who listen, and who look for something in the blotter."""
+"""What the page says to people who read 32nds, who listen, and who look for something in the blotter."""
 
 from selenium.webdriver.common.keys import Keys
 

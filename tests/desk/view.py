@@ -1,4 +1,4 @@
-"""A page of a desk without a browser: it logs in by HTTP, and then has the WebSocket."""
+"""A page of a desk without a browser: it logs in by HTTP, and then speaks by the WebSocket."""
 
 import base64
 import http.client

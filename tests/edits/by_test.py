@@ -1,11 +1,11 @@
 #!/usr/bin/env python3
-"""Tries the wrong bodies that the prover takes and a test has to find.
+"""Tries the wrong bodies that the prover accepts and a test has to find.
 
     python3 -m tests.edits.by_test [CRATE..]    tries those of these crates, or all of them
 
-Such a one names its test, and what it found when it was tried. Each is put in its place on a copy of
-what is committed, and the tests of `venue_tests` are built and run without a proof (`rt try`): the
-named test has to fail. A first run without any wrong body has to pass.
+Such a body names its test, and what that found when it was tried. This puts each in its place on a copy of
+what is committed, and builds and runs the tests of `venue_tests` without a proof (`rt try`): the named test
+has to fail. A first run without any wrong body has to pass.
 """
 
 from __future__ import annotations

@@ -1,13 +1,13 @@
 #!/usr/bin/env python3
-"""Finds the wrong bodies that a proof may refuse for a missing name alone, which shows nothing: those
-that take away a name which the function's proof files cite.
+"""Finds wrong bodies that a proof may refuse only for a missing name, which shows nothing: they take away a
+name that the function's proof files cite.
 
     python3 -m tests.edits.cited [CRATE..]    looks at the wrong bodies of these crates, or of all
 
-It proves nothing, so it looks at all of them in a second, where `rt must-fail` and run.sh say the same
-of one that they try. A proof file cites a variable or a call of the code by a path from `c`, `l` or
-`goal`: `c.in_ok-row.result` of a variable, `c.push-2.ensures` of the second call of `push`, and
-`c.len-most.result` of the call whose value `most` gets.
+It proves nothing, so it looks at all of them in a second; `rt must-fail` and run.sh say the same of one that
+they try. A proof file cites a variable or a call of the code by a path from `c`, `l` or `goal`:
+`c.in_ok-row.result` of a variable, `c.push-2.ensures` of the second call of `push`, and `c.len-most.result`
+of the call whose value `most` gets.
 """
 
 from __future__ import annotations

@@ -1,4 +1,4 @@
-"""The functions of a crate, as its sources have them: where each stands, and how a check calls it."""
+"""Finds the functions of a crate in its sources: where each stands, and how a check calls it."""
 
 from __future__ import annotations
 

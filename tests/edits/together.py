@@ -1,11 +1,11 @@
-"""Tries the wrong bodies of a crate together, so that one check says of all whether they are
-refused.
+"""Tries the wrong bodies of a crate together, so that one check says of all whether the prover refuses
+them.
 
-Each function that a wrong body changes is put beside the real one under a name of its own, with its
-proof files; and so is the right one, which has to be proved there: what refuses the others is then
-what they change. One check is asked for all of them. What can't stand beside (a definition, a
-method of a trait, a change of several functions) is tried in its place (trial.py). Sources are as
-before in the end.
+It puts each function that a wrong body changes beside the real one, under a name of its own and with its
+proof files. It does the same with the right one, which has to be proved there: so what refuses the
+others is what they change. It asks for one check of all of them. What can't stand beside (a definition, a
+method of a trait, a change of several functions) is tried in its place (trial.py). In the end the sources
+are as they were before.
 """
 
 from __future__ import annotations

@@ -2,12 +2,13 @@
 
     python3 -m tests.edits.trial PLACE [--gate] [--since FILE] [CRATE..]
 
-PLACE is the copy, with what is proved of it in crates/*/out: by `rt ci`, where it was written since FILE,
-and else as `rt check` can use it. Of each crate named, or of all, the wrong bodies are tried, with --gate
-those alone that each landing tries: in one check what can stand beside the real functions (together.py).
-What can't, or was not refused so, is tried in its place: by a check of its crate where `rt ci` has built
-what is below, and else by `rt must-fail`. One that no goal refuses shows nothing, and fails: a proof file
-names what it took away, or rewrites what is not there. The last line is `N passed, M failed`.
+PLACE is the copy, with what is proved of it in crates/*/out: by `rt ci`, if it was written since FILE, and
+otherwise in the form that `rt check` can use. It tries the wrong bodies of each crate named, or of all; with
+--gate only those that each landing tries. One check tries those that can stand beside the real functions
+(together.py). Those that can't, or were not refused so, are tried in their place: by a check of their crate
+if `rt ci` has built what is below, and otherwise by `rt must-fail`. One that no goal refuses shows nothing,
+and fails: a proof file names what it took away, or rewrites what is not there. The last line is
+`N passed, M failed`.
 """
 
 from __future__ import annotations

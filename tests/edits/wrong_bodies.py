@@ -1,4 +1,6 @@
-"""The wrong bodies of a crate, as a file of this folder has them.
+"""Reads the wrong bodies of a crate from their file in this folder.
+
+`CRATE.edits` has blocks, by name, with an empty line between two:
 
 `CRATE.edits` has blocks, by name, with an empty line between two:
 

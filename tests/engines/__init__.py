@@ -1,1 +1,1 @@
-"""Engines that others wrote, on what the venue prints."""
+"""Engines that others wrote, reading what the venue prints."""

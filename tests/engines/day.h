@@ -1,4 +1,4 @@
-// A day of messages that QuickFIX builds, and what each firm is to be sent for them.
+// A day of messages that QuickFIX builds, and what each firm has to be sent for them.
 #ifndef DAY_H
 #define DAY_H
 

@@ -1,4 +1,4 @@
-// The venue's data dictionary, and what QuickFIX says by it of a frame.
+// Asks QuickFIX, with the venue's data dictionary, what it says of a frame.
 #ifndef DICTIONARY_H
 #define DICTIONARY_H
 

@@ -1,5 +1,4 @@
-// The parts of the test. Each throws at the first check that does not hold, and says what it
-// counted.
+// The parts of the test. Each throws at the first check that fails, and says what it counted.
 #ifndef PARTS_H
 #define PARTS_H
 

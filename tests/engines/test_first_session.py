@@ -1,4 +1,5 @@
-"""The first session of docs/CONNECTING.md, word for word: its program and its settings, with another port and password."""
+"""The first session of docs/CONNECTING.md, word for word: its program and its settings, with another port and another password.
+"""
 
 import os
 import re

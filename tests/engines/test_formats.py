@@ -1,5 +1,5 @@
-"""fix/formats.toml, of which the dictionaries and the tables of fields are made: each row of what the venue reads is tried on the
-venue's program. What it writes is read with the dictionary by test_engines.py."""
+"""Tries each row of fix/formats.toml that the venue reads on the venue's program; the dictionaries and the tables of fields are
+made from that file. test_engines.py reads with the dictionary what the venue writes."""
 
 import subprocess
 import tomllib

@@ -1,4 +1,4 @@
-"""The frames of docs/CONNECTING.md, as stock QuickFIX initiators and a gateway say them: the auction of that page is played here."""
+"""Plays the auction of docs/CONNECTING.md with stock QuickFIX initiators and a gateway: its frames are the page's."""
 
 import re
 import subprocess

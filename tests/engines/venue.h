@@ -1,4 +1,4 @@
-// The venue's program, run from outside.
+// Runs the venue's program from outside.
 #ifndef VENUE_H
 #define VENUE_H
 

@@ -1,5 +1,5 @@
-"""The gateway of examples/gateway, as whoever tries an engine against it has it: a firm that has lost its store gets in again by what
-CONNECTING says."""
+"""The gateway of examples/gateway, for somebody who tries an engine against it: a firm that has lost its store gets in again by
+what CONNECTING says."""
 
 import json
 import re

@@ -1,4 +1,4 @@
-"""What a first run proves and builds, in which order, and what it does where that can't be had."""
+"""What a first run proves and builds, in which order, and what it does if it can't get that."""
 
 import os
 from pathlib import Path

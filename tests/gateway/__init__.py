@@ -1,1 +1,1 @@
-"""The gateway, tried with stock engines, faults put in by hand and strangers."""
+"""Tries the gateway with stock engines, with faults put in by hand, and with strangers."""

@@ -1,14 +1,14 @@
 #!/bin/sh
-# Fuzzes what the gateway reads of a network, from bytes to sessions (gateway/fuzz), with the sanitizers of addresses and
-# undefined behaviour: nothing is accepted, sent, stored or counted for a firm except after a Logon on that connection with
-# the right password, which half of the runs have. The last line is `N passed, M failed`.
+# Fuzzes what the gateway reads from a network, from bytes to sessions (gateway/fuzz), with the sanitizers of addresses and
+# undefined behaviour. A connection without a Logon with the right password may have nothing accepted, sent, stored or
+# counted for a firm; half of the runs have that password. The last line is `N passed, M failed`.
 #
 #     tests/packages.sh $(gateway/packages.sh) clang libclang-rt-dev
 #     tests/gateway/fuzz.sh [SECONDS]
 #
-# It takes a minute if SECONDS are not named; 3600 is the long form. It begins with the inputs of tests/gateway/corpus, of
-# which each is one test more. SEED is libFuzzer's (by the clock). CORPUS has a folder in which what it finds is kept: the
-# inputs that reach something new, and the one that is at fault. JOBS how many compilers run at a time (2).
+# It takes a minute if SECONDS are not named; 3600 is the long form. It begins with the inputs of tests/gateway/corpus, each
+# of which is one test more. SEED is libFuzzer's (by the clock). CORPUS names a folder in which it keeps what it finds: the
+# inputs that reach something new, and the one that is at fault. JOBS is how many compilers run at a time (2).
 set -eu
 here=$(cd "$(dirname "$0")" && pwd)
 root=$(cd "$here/../.." && pwd)

@@ -1,4 +1,4 @@
-"""Holds what firms received and what the gateway logged against the venue's own answers over the log."""
+"""Compares what firms received and what the gateway logged with the venue's own answers over the log."""
 
 from collections.abc import Iterable, Iterator
 

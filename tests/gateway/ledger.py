@@ -1,4 +1,4 @@
-"""The gateway's log, as it stands in its database, and the venue's own answers over it."""
+"""Reads the gateway's log from its database, and asks the venue for its own answers over it."""
 
 import sqlite3
 import subprocess

@@ -1,4 +1,4 @@
-"""What the firms of a drawn day do next, by what they were sent so far."""
+"""Says what the firms of a drawn day do next, by what they were sent so far."""
 
 import random
 from collections.abc import Callable

@@ -1,7 +1,7 @@
 #!/usr/bin/env python3
-"""Midnight in UTC, at which the day of a gateway ends: what plays one begins only where enough of the day is left.
+"""Waits for the next day if too little of this one is left: a gateway's day ends at midnight in UTC.
 
-usage: midnight.py    waits, where less of the day is left than a test may take
+usage: midnight.py    waits, if less of the day is left than a test may take
 """
 
 import sys

@@ -1,8 +1,9 @@
-"""A drawn day of stock initiators over TCP, in which gateway, venue and initiators are ended by SIGKILL.
+"""Plays a drawn day of stock initiators over TCP, and ends gateway, venue and initiators by SIGKILL.
 
 The log is a file of SQLite, or a schema of the PostgreSQL database that is named. At the end of each day every message that
-an initiator's engine had sent is in the log once, and each initiator has the messages that the venue gives for the log, and
-the second implementation of the venue too: none is missing, none is different, and none came under two numbers of the session.
+an initiator's engine had sent is in the log once. Each initiator has the messages that the venue gives for the log, and that
+the second implementation of the venue gives too: none is missing, none is different, and none came under two numbers of the
+session.
 """
 
 import os

@@ -1,5 +1,5 @@
-"""Days that are drawn by seeds and played one after the other: the words that all have, and how
-what is wrong with each is told.
+"""Plays days one after another, each drawn by a seed, and tells what is wrong with each. Their scripts share its
+options.
 """
 
 import argparse

@@ -1,13 +1,13 @@
 #!/bin/sh
 # Builds the gateway with the sanitizers, of addresses and undefined behaviour and then of threads, and tries each build:
-# its own tests (ctest), and those of this folder (pytest), whose days have ends at random places. A report of a sanitizer
-# ends the gateway, and with it the test. The last line is `N passed, M failed`.
+# with its own tests (ctest), and with those of this folder (pytest), whose days end programs at random places. A
+# sanitizer's report ends the gateway, and with it the test. The last line is `N passed, M failed`.
 #
 #     tests/packages.sh $(gateway/packages.sh) openssl python3-pytest python3-pytest-xdist python3-hypothesis
 #     tests/gateway/sanitized.sh [address|thread]
 #
-# VENUE has the words of the venue's program: the second implementation, if it is not set. SEED is that of what is drawn (1),
-# JOBS how many compilers run at a time (2). KEEP has a folder for the files of what fails.
+# VENUE has the words of the venue's program (the second implementation). SEED is that of what is drawn (1), JOBS is how
+# many compilers run at a time (2). KEEP names a folder for the files of what fails.
 set -eu
 root=$(cd "$(dirname "$0")/../.." && pwd)
 cd "$root"

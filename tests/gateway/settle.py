@@ -1,4 +1,4 @@
-"""Waits until a day is still, ends the gateway, and tells what is wrong with what its firms have."""
+"""Waits until a day is still, ends the gateway, and says what is wrong with what its firms have."""
 
 import sys
 import time

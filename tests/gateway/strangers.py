@@ -1,4 +1,4 @@
-"""What strangers say at the gateway's door, how they come, and how it is seen that nothing came of it."""
+"""Strangers at the gateway's door: what they say, how they come, and how a test sees that nothing came of it."""
 
 import sqlite3
 import time

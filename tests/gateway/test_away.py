@@ -1,4 +1,4 @@
-"""Firms that are away, whose quotes are cancelled for them, and deadlines that pass."""
+"""Firms that are away: the gateway cancels their quotes, and deadlines pass."""
 
 import ctypes
 import re

@@ -1,5 +1,5 @@
-"""Every column of every table of the log, changed by somebody who may write there and has no key, one at a time. What a seal or
-a signature covers ends the next start, and is told; the rest is a copy that no gateway reads."""
+"""Somebody who may write to the log's database, and has no key, changes each column of each table, one at a time. If a seal or
+a signature covers it, the next start ends and says so; the rest is a copy that no gateway reads."""
 
 from collections.abc import Iterator
 from contextlib import contextmanager

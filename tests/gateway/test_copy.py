@@ -1,5 +1,5 @@
-"""The tables `sent`, `outgoing` and `session` are a copy for readers. Somebody who may write to the database and has no key
-changes them: no gateway reads them, so each firm is sent again what it was sent, under the same numbers."""
+"""The tables `sent`, `outgoing` and `session` are a copy for readers. Somebody who may write to the database, and has no key,
+changes them. No gateway reads them: each firm is sent again what it was sent, under the same numbers."""
 
 import re
 

@@ -1,5 +1,5 @@
-"""Who may do what in PostgreSQL where the logs have an owner (install/hosts/config/database.sql): the gateway's role, a reader, and
-what neither can do to a day that is written or to the next one.
+"""What each role may do in PostgreSQL if the logs have an owner (install/hosts/config/database.sql): the gateway's role, a
+reader, and what neither can do to a day that is written or to the next one.
 """
 
 import subprocess

@@ -1,4 +1,4 @@
-"""Drawn days of stock initiators, in which gateway, venue and initiators are ended by SIGKILL again and again."""
+"""Drawn days of stock initiators: SIGKILL ends gateway, venue and initiators again and again."""
 
 import time
 from dataclasses import dataclass

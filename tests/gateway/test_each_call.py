@@ -1,6 +1,6 @@
-"""The gateway is ended by SIGKILL in the place of one call by which it changes something outside of itself: of a batch, of a
-checkpoint and its file, of a start. The next start goes on: each message that left is sent again as it was, none gets the number
-of another, and what each firm sent is in the log once."""
+"""SIGKILL ends the gateway instead of one call that would change something outside of it: of a batch, of a checkpoint and its
+file, of a start. The next start goes on. Each message that left is sent again as it was, none gets the number of another, and
+what each firm sent is in the log once."""
 
 import random
 import re

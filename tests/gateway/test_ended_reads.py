@@ -1,4 +1,4 @@
-"""PostgreSQL ends the connections of a gateway in the midst of its start, or while it takes over: it goes on or ends, and each firm
+"""PostgreSQL ends a gateway's connections during its start, or while it takes over. The gateway goes on or ends, and each firm
 is sent again what it was sent."""
 
 import random

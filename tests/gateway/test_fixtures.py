@@ -1,4 +1,4 @@
-"""The fixtures themselves: each gives what tests/README.md says of it."""
+"""Tests the fixtures themselves: each gives what tests/README.md says of it."""
 
 import os
 import subprocess

@@ -1,4 +1,6 @@
-"""How hard the gateway makes it for who finds a fault in it: the binary, its unit for systemd, and the venue's process."""
+"""How hard the gateway makes it for somebody who finds a fault in it: the binary, its unit for systemd, and the venue's
+process.
+"""
 
 import json
 import os

@@ -1,4 +1,4 @@
-"""Who reads the gateway's code and looks for a way past its door: pieces, names, races, and many at once."""
+"""Somebody reads the gateway's code and looks for a way past its door: pieces, names, races, and many at once."""
 
 import socket
 import struct

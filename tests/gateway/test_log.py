@@ -1,4 +1,4 @@
-"""Faults of the log and of the day, put in between two starts of the gateway, and its ends."""
+"""Faults that are put into the log and the day between two starts of the gateway, and how the gateway ends."""
 
 import os
 import re

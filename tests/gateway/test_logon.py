@@ -1,4 +1,4 @@
-"""Faults before a session stands: credentials, firms, and TLS."""
+"""Faults before there is a session: credentials, firms, and TLS."""
 
 import ssl
 import subprocess

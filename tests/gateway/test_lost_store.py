@@ -1,5 +1,5 @@
-"""An engine that has lost its store, and why the gateway says nothing to it where it misses messages: what a stock engine makes of a
-Logout that it can't place. The gateway's part is played here by a script, since it never sends such a Logout."""
+"""What a stock engine that has lost its store makes of a Logout that it can't place: so the gateway says nothing to it if it
+misses messages. A script plays the gateway here, since that never sends such a Logout."""
 
 import socket
 from collections.abc import Iterator

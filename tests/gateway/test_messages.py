@@ -1,4 +1,4 @@
-"""Messages of a session that stands: what is odd in them, and how they come."""
+"""Messages within a session: what is odd in them, and how they come."""
 
 import socket
 import threading

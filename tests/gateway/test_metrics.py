@@ -1,4 +1,4 @@
-"""Each metric counts what its line of help says: one that nothing moves is a fault, and so is one that no test knows."""
+"""Each metric counts what its line of help says. A metric that nothing moves is a fault, and so is one that no test knows."""
 
 import socket
 from contextlib import ExitStack

@@ -1,4 +1,4 @@
-"""What plays a day waits for the next one where too little is left: shortly before midnight in UTC, and at it."""
+"""A script that plays a day waits for the next one if too little is left: shortly before midnight in UTC, and at it."""
 
 import contextlib
 import io

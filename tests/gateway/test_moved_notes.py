@@ -1,5 +1,5 @@
-"""Session notes of a log at rest, moved, cut or put twice by somebody who may write to its database and has no key: no start takes
-them, and once all is as it was one does."""
+"""Session notes of a log at rest: somebody who may write to its database, and has no key, moves, cuts or doubles them. No start
+takes them, and once all is as it was, one does."""
 
 import hashlib
 from dataclasses import dataclass, replace

@@ -1,4 +1,4 @@
-"""What a firm that is logged on says and is no message: each line of docs/FORMATS.md, "What comes over the network"."""
+"""A firm that is logged on sends what is no message: each line of docs/FORMATS.md, "What comes over the network"."""
 
 from collections.abc import Iterator
 from contextlib import contextmanager

@@ -1,4 +1,4 @@
-"""Promises in seconds, each with its budget, and promises of what comes before what."""
+"""Promises in seconds, each with its budget, and promises of order."""
 
 import math
 import os

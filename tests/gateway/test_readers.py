@@ -1,5 +1,5 @@
-"""Supervisors that read the logs in PostgreSQL: how the server for readers lets them in, and what one of them can use up, tried on
-real servers: a primary that waits for a synchronous standby, and a standby for readers that no commit waits for."""
+"""Supervisors read the logs in PostgreSQL: how the server for readers lets them in, and how much one of them can use up. The
+servers are real: a primary that waits for a synchronous standby, and a standby for readers that no commit waits for."""
 
 import os
 import re

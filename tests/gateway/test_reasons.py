@@ -1,5 +1,5 @@
-"""Why a message is refused, in Text (58), and which trade it is, in TradeID (1003): the tables of docs/MARKET.md, the words of
-fix/reasons.txt, and docs/CONNECTING.md, which has them for firms."""
+"""Why a message is refused, in Text (58), and which trade it is, in TradeID (1003). The tests hold messages against the tables
+of docs/MARKET.md, the words of fix/reasons.txt, and docs/CONNECTING.md, which has them for firms."""
 
 import re
 import shutil

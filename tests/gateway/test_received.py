@@ -1,5 +1,5 @@
-"""Checkpoints leave the gateway's host as they are made: what a supervisor received shows a day that
-root there made anew, with the gateway's own program and its real keys.
+"""Checkpoints leave the gateway's host as they are made. If root there makes a day anew, with the
+gateway's own program and its real keys, what a supervisor received shows it.
 """
 
 import re

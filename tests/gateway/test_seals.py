@@ -1,5 +1,5 @@
-"""What somebody can make a start believe who may write to the log's database and has no key of a gateway: entries that are
-put in or changed while no gateway runs, a log that is cut off or put back; and what an operator can do then.
+"""What somebody who may write to the log's database, and has no key of a gateway, can make a start believe: entries put in or
+changed while no gateway runs, a log cut off or put back. And what an operator can do then.
 """
 
 import hashlib

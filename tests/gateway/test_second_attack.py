@@ -1,5 +1,5 @@
-"""What was tried against a gateway by somebody who knows its code: a firm with a password, an operator at a bad moment, somebody
-who can write to the log while no gateway runs, and a browser's page of another origin."""
+"""What somebody who knows the gateway's code tried against it: as a firm with a password, at a bad moment of an operator, by
+writing to the log while no gateway runs, and from a browser's page of another origin."""
 
 import re
 import socket

@@ -1,4 +1,4 @@
-"""Strangers at the door: what they say in a firm's name, how often and how long, changes nothing and tells them nothing."""
+"""Strangers at the door: what they say in a firm's name, however often and long, changes nothing and tells them nothing."""
 
 import re
 import statistics

@@ -1,4 +1,4 @@
-"""Another gateway takes over, on a log whose copy for readers somebody changes meanwhile, and after it was killed at any call: it
+"""Another gateway takes over, while somebody changes the log's copy for readers, and after the first was killed at any call. It
 goes on with what is sealed."""
 
 import random

@@ -1,4 +1,4 @@
-"""A quote that is over before its request is: docs/CONNECTING.md, "A hit or a pass"."""
+"""A quote that ends before its request does: docs/CONNECTING.md, "A hit or a pass"."""
 
 from tests.gateway.market import moment_in
 from tests.gateway.stage import Stage, check

@@ -1,4 +1,4 @@
-"""Waits: on a condition, and never longer than a limit."""
+"""Waits for a condition, and never longer than a limit."""
 
 import os
 import time

@@ -1,4 +1,4 @@
-"""A connection that speaks FIX as a test wants it, where a stock engine would not."""
+"""A connection that speaks FIX as a test wants it, if a stock engine would not."""
 
 import select
 import socket

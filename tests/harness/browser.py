@@ -1,4 +1,4 @@
-"""Debian's chromium without a screen: what a page has become in it, and what it told of it."""
+"""Debian's chromium without a screen: a test sees what a page becomes in it, and what it reports."""
 
 import shutil
 import subprocess

@@ -1,4 +1,4 @@
-"""Promises in seconds, and how a test holds the machine's clock against them."""
+"""Promises in seconds, and how a test measures the machine's clock against them."""
 
 import math
 import time

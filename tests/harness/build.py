@@ -1,4 +1,4 @@
-"""Programs that tests need, each built once for all who need it."""
+"""Builds the programs that tests need, each once for all tests."""
 
 import compileall
 import fcntl

@@ -1,4 +1,4 @@
-"""The clocks of programs under test, which go as the machine's and are moved from outside."""
+"""Clocks of programs under test: they go like the machine's, and a test moves them from outside."""
 
 import struct
 from pathlib import Path

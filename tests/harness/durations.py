@@ -1,8 +1,8 @@
-"""Keeps how long tests take, by reports in the form of JUnit: those that take long are begun first (`side_by_side.py`).
+"""Keeps how long tests take, from JUnit reports, so that long ones are begun first (`side_by_side.py`).
 
 usage: durations.py REPORT ..    writes tests/durations anew
 
-What the reports do not name stays as it was. Only the order of these numbers matters: so it does no harm where they are of
+What the reports do not name stays as it was. Only the order of these numbers matters: it does no harm if they come from
 another machine, and a name that no test has any more is never looked up.
 """
 

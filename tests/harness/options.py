@@ -1,4 +1,4 @@
-"""The words of the command line, and what they choose."""
+"""The options of the command line, and what they choose."""
 
 import os
 import shlex

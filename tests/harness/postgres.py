@@ -1,4 +1,4 @@
-"""A PostgreSQL server of the tests alone, and a database of it for each test."""
+"""A PostgreSQL server for the tests alone, and a database on it for each test."""
 
 import os
 import shutil

@@ -1,9 +1,10 @@
-"""What pytest and ctest report, counted: a skipped test is neither passed nor failed, and is named with its reason.
+"""Counts what pytest and ctest report: a skipped test is neither passed nor failed, and is named with its reason.
 
 usage: reports.py FILE ..    reports in the form of JUnit
 
-Prints `PASSED FAILED`, a line `skipped TIMES: WHY` for each reason, a line `failed NAME` for each test that failed, and a
-line `unsteady NAME` for each that failed among others and passed alone (`twice.py`): it is neither passed nor failed.
+It prints `PASSED FAILED`, a line `skipped TIMES: WHY` for each reason, a line `failed NAME` for each test that failed,
+and a line `unsteady NAME` for each that failed among others and passed alone (`twice.py`): that one is neither passed
+nor failed.
 """
 
 import sys

@@ -1,8 +1,9 @@
-"""Tests on several workers (pytest-xdist, `-n N --dist loadgroup`): which stay together, and which are begun first.
+"""Runs tests on several workers (pytest-xdist, `-n N --dist loadgroup`): says which stay together, and which begin
+first.
 
 Tests that share a fixture of their module or class stay on one worker, so that it is made once. So do those with the
 same mark `xdist_group`, which share a place of another kind. All others are apart. What takes longest by
-`tests/durations` is begun first, so that nobody waits for it in the end. What all of them start is compiled before.
+`tests/durations` begins first, so that nobody waits for it in the end. What all of them start is compiled before.
 """
 
 import unittest

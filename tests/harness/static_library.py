@@ -1,9 +1,9 @@
-"""Builds a static library of the tree over what `rt ci` has just built.
+"""Builds a static library of the tree from what `rt ci` has just built.
 
 usage: static_library.py CRATE FILE    FILE was written before `rt ci` began
 
-`rt lib` proves every crate below once more, since it takes nothing that `rt ci` left. Where `rt ci` has not built
-these crates since FILE was written, this asks `rt lib` all the same.
+`rt lib` takes nothing that `rt ci` left, and would prove every crate below once more. If `rt ci` has not built these
+crates since FILE was written, this asks `rt lib` all the same.
 """
 
 import sys

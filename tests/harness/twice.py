@@ -1,11 +1,11 @@
-"""Runs pytest, and then the few tests that failed once more, alone.
+"""Runs pytest, and then runs once more, alone, the few tests that failed.
 
 usage: twice.py WORDS ..    pytest's words, `--junitxml FILE` among them
 
 A test that fails among others and passes alone depends on what else the machine does. It is a defect, of the test or of
 what it tests, and is named so; but a change that has nothing to do with it can land. One bad moment of the machine
-breaks the test that each worker runs then, so that as many may fail as there are workers. Where more fail, or one fails
-twice, the first report stands.
+breaks the test that each worker runs then: so as many may fail as there are workers. If more fail, or one fails twice,
+the first report stands.
 """
 
 import subprocess

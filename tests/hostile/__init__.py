@@ -1,1 +1,1 @@
-"""Inputs that mean no good, and days at their limits."""
+"""Hostile inputs, and days at their limits."""

@@ -1,12 +1,12 @@
 #!/usr/bin/env python3
 """A day of 64 dealers and 64 investors at the limits of a configuration (full_market.py).
 
-`write` writes it, for `rfq_venue day`. `run` runs it, woven, and holds what each firm was sent
-against the rules (docs/MARKET.md). What was sent to a dealer before says how its next quote is
-answered, but where the word of its live quote is asked; and what was sent to investors and to
-dealers has to agree, request by request. Where firms race, no two days need be the same.
+`write` writes it, for `rfq_venue day`. `run` runs it, woven, and checks what each firm was sent against
+the rules (docs/MARKET.md). How a dealer's next quote is answered follows from what it was sent before,
+unless its live quote is asked for its word. What was sent to investors and to dealers has to agree,
+request by request. Firms race, so no two days need be the same.
 
-The first day has as many requests as can be, the next ones fewer, on which the makers quote more
+The first day has as many requests as possible, the next ones fewer, on which the makers quote more
 often; then they begin anew.
 
 usage: full_day.py write [REQUESTS] > DAY              REQUESTS of each investor (64)

@@ -1,10 +1,10 @@
 """The messages of a day of 64 dealers and 64 investors at the limits of a configuration.
 
-Each investor makes as many requests as its row allows, each of seven of the fourteen makers and of
-one of the other dealers, and hits quotes by their numbers. The makers quote on their requests by
-their numbers, round after round, before or behind the moment at which a thread shows them to them,
-and more often than their rows allow. The other dealers say nothing. So the makers, whose rows are
-the last ones, are still at it when the threads of the investors begin.
+Each investor makes as many requests as its row allows. Each request asks seven of the fourteen makers and
+one of the other dealers; the investor hits quotes by their numbers. The makers quote on the requests by
+their numbers, round after round, before or after the moment at which a thread shows them to them, and
+more often than their rows allow. The other dealers say nothing. The makers have the last rows, so they
+are still at it when the threads of the investors begin.
 """
 
 from collections.abc import Iterator

@@ -1,10 +1,10 @@
 """Inputs that nobody would send: each command has to answer with a status and a line of its table.
 
-Lawful inputs of every command have bytes flipped and lines cut, doubled, swapped and mixed; and 16 MiB are filled with each
-kind of line. Each run has 400 MB of memory and ten seconds of a processor, and has to end with status 0 and nothing on
-standard error (`live` tells of lines at fault there and goes on), or with status 1 and one line of the table of faults
-(docs/PROGRAM.md) that an input can give: none of `day` and of `weave`, which are faults of the venue. Inputs of a usual size
-are never refused for memory.
+It takes lawful inputs of every command, flips bytes, and cuts, doubles, swaps and mixes lines; and it fills 16 MiB with
+each kind of line. Each run has 400 MB of memory and ten seconds of a processor. It has to end with status 0 and nothing
+on standard error (`live` tells of lines at fault there and goes on), or with status 1 and one line of the table of
+faults (docs/PROGRAM.md) that an input can cause: none of `day` and of `weave`, which are faults of the venue. Inputs of a
+usual size are never refused for memory.
 """
 
 from __future__ import annotations

@@ -1,4 +1,4 @@
-"""Inputs that mean no good, and days at the limits of a configuration."""
+"""Hostile inputs, and days at the limits of a configuration."""
 
 import pytest
 

@@ -1,7 +1,7 @@
-"""Days of a whole venue that tell what one dealer lives through, and draw everything else anew.
+"""Draws days of a whole venue that tell what one dealer lives through.
 
 A *story* is what one dealer, DLR1, lives through: the requests that it is shown, its own messages,
-and how its requests end. A *day* tells a story as a day of a whole venue, and draws everything anew
+and how its requests end. A *day* tells a story as a day of a whole venue. It draws everything anew
 that the story leaves open: the other firms, their order and their limits, the bonds, who else is
 asked, who wins, what the others quote, ids, traders, requests that the dealer never sees, messages
 that are refused or dropped, and turns of the others.

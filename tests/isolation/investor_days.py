@@ -1,9 +1,9 @@
-"""Days of a whole venue that tell what one investor lives through, and draw everything else anew.
+"""Draws days of a whole venue that tell what one investor lives through.
 
 A *story* is what INV1 sees and lives through: its row, the bonds, the names of the dealers, and
 chapters, each a word, a moment and a seed. A *day* tells a story as a day of a whole venue, along a
-venue of the second implementation (tests/model). What the seed of a chapter decides is decided by
-what INV1 knows alone; everything else is drawn anew: all other investors and INV1's place among
+venue of the second implementation (tests/model). What the seed of a chapter decides follows from
+what INV1 knows alone. The day draws everything else anew: all other investors and INV1's place among
 them, the limits, traders and ids of the dealers, what the others ask, are quoted, hit and leave,
 dealers that can quote nothing, messages that are refused or dropped, and turns of the others.
 """

@@ -1,8 +1,8 @@
-"""Pairs of days that agree on what is due to one investor, and on nothing else.
+"""Compares pairs of days that agree on what is due to one investor, and on nothing else.
 
-Two days of one story (investor_days.py) are drawn. Where by the second implementation one list was
-due to INV1 in both, `PROGRAM replay INV1` has to print the same bytes for both: those of the view of
-that list. `PROGRAM compare --investor INV1` has to say where the lists and the messages differ.
+It draws two days of one story (investor_days.py). If by the second implementation one list was due to
+INV1 in both, `PROGRAM replay INV1` has to print the same bytes for both: those of the view of that
+list. `PROGRAM compare --investor INV1` has to say where the lists and the messages differ.
 """
 
 import random

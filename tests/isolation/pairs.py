@@ -1,8 +1,8 @@
-"""Pairs of days that agree on what is due to one dealer, and on nothing else.
+"""Compares pairs of days that agree on what is due to one dealer, and on nothing else.
 
-Two days of one story (dealer_days.py) are drawn. Where by the second implementation one list was
-due to DLR1 in both, `PROGRAM replay DLR1` has to print the same bytes for both: those of the view
-of that list. `PROGRAM compare DLR1` has to say where the lists and the messages differ.
+It draws two days of one story (dealer_days.py). If by the second implementation one list was due to
+DLR1 in both, `PROGRAM replay DLR1` has to print the same bytes for both: those of the view of that
+list. `PROGRAM compare DLR1` has to say where the lists and the messages differ.
 """
 
 import itertools

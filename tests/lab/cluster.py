@@ -1,4 +1,4 @@
-"""Three database hosts: which is the primary, and when all is as it should be."""
+"""Three database hosts: which one is the primary, and when all are ready."""
 
 from dataclasses import dataclass
 

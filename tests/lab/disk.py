@@ -1,4 +1,4 @@
-"""A host's disk: a file system of its own in an image, that can be full and can lose its power."""
+"""A host's disk: a file system of its own in an image, which a test can fill, and whose power it can cut."""
 
 import errno
 import fcntl

@@ -1,8 +1,7 @@
 """Hosts as network namespaces, each with one link to a switch, and links that can be cut.
 
 A cut drops every packet and tells nobody, as a cable that is pulled somewhere in between: the two
-hosts send to a hardware address that nobody has. A host that is cut off has its port of the switch
-down.
+hosts send to a hardware address that nobody has. If a host is cut off, its port of the switch is down.
 """
 
 import os

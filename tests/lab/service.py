@@ -1,4 +1,4 @@
-"""Programs that are started again where they end, as systemd does with Restart=always."""
+"""Starts programs again if they end, as systemd does with Restart=always."""
 
 import os
 import signal

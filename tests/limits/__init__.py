@@ -1,1 +1,1 @@
-"""What one firm may do to the others: rates, shares, limits, and that nobody waits for another's mailbox."""
+"""What one firm may do to the others: rates, shares and limits. No firm waits for another's mailbox."""

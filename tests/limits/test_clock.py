@@ -1,4 +1,4 @@
-"""The machine's clock against the time since boot: what is told, and what is not taken any more."""
+"""The machine's clock against the time since boot: what the gateway tells, and what it no longer takes."""
 
 import ctypes
 import re

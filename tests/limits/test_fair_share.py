@@ -1,5 +1,5 @@
-"""A firm's share of the log: how much of a transaction is one firm's, and how much the venue may still have to answer; and that
-what waits for it is judged by when it came."""
+"""A firm's share of the log: how much of a transaction one firm has, and how much the venue may still have to answer. What
+waits for it is judged by when it came."""
 
 import os
 import signal

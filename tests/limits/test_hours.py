@@ -1,4 +1,4 @@
-"""The hours of a day: from `closes` on no new request, never one whose deadline lies behind `ends`, and at `ends` each notice."""
+"""The hours of a day: from `closes` on no new request, never one whose deadline is after `ends`, and at `ends` each notice."""
 
 import time
 from datetime import datetime, timedelta, timezone

@@ -1,4 +1,4 @@
-"""What a stranger learns and gets by guessing passwords: on however many connections, and of whichever name."""
+"""What a stranger learns and gets by guessing passwords, on however many connections, and of whichever name."""
 
 import time
 from concurrent.futures import ThreadPoolExecutor

@@ -1,4 +1,4 @@
-"""What strangers who guess passwords cost the gateway: half of its processors at most."""
+"""Strangers who guess passwords cost the gateway half of its processors at most."""
 
 import os
 import signal

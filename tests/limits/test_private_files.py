@@ -1,4 +1,4 @@
-"""Files that are secret: a gateway does not start where others may read them, and makes none that they may."""
+"""Secret files: a gateway does not start if others may read them, and makes none that others may read."""
 
 import stat
 from pathlib import Path

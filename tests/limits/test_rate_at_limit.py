@@ -1,4 +1,5 @@
-"""What a firm may take back when there is no other room in the log: all that it has open, and not so much that it fills the disk."""
+"""What a firm may still take back when the log has no other room for it: all that it has open, and not so much that it fills
+the disk."""
 
 import shutil
 import time

@@ -1,4 +1,5 @@
-"""A rate for each firm: it is read no faster, and whoever is held for five seconds is told so and disconnected."""
+"""A rate for each firm: the gateway reads no faster, and tells and disconnects a firm that it has held back for five seconds.
+"""
 
 import time
 

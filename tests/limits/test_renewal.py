@@ -1,4 +1,4 @@
-"""Credentials and certificates that are read again while the gateway runs, and who may come from where."""
+"""Credentials and certificates that the gateway reads again while it runs, and from where a firm may come."""
 
 import os
 import re

@@ -1,4 +1,5 @@
-"""What a session says by itself to answer a firm: a thousand messages, and then ten a second, and the firm is logged out."""
+"""What a session says by itself to answer a firm: a thousand messages, and then ten a second; after that it logs the firm out.
+"""
 
 import time
 from collections.abc import Callable

@@ -1,4 +1,4 @@
-"""A rate for what each firm is sent again; nobody waits for another's."""
+"""A rate for what each firm is sent again: nobody waits for another firm's."""
 
 import time
 

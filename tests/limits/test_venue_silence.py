@@ -1,4 +1,4 @@
-"""A venue that hangs: it is told within five seconds, the gateway ends in a stated time, and another one takes over."""
+"""A venue that hangs: the gateway tells it within five seconds and ends in a stated time, and another one takes over."""
 
 import os
 import shutil

@@ -1,1 +1,1 @@
-"""A second implementation of the venue, and what holds the program against it."""
+"""A second implementation of the venue, and what compares the program with it."""

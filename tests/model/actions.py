@@ -1,7 +1,7 @@
-"""A day on threads as its actions: each actor takes its messages in their order, and does its duties behind each.
+"""A day on threads as its actions: each actor takes its messages in order, and after each does its duties.
 
-An actor is a firm, or the clock, which makes its sweeps. An action is one of its duties or, where none is
-left, the next message or sweep; it touches one desk or one room, and asks the word of one quote at most.
+An actor is a firm, or the clock, which makes its sweeps. An action is one of its duties or, if none is
+left, the next message or sweep. It touches one desk or one room, and asks the word of one quote at most.
 """
 
 import copy

@@ -1,11 +1,11 @@
 #!/usr/bin/env python3
-"""Holds a program against the model: status, output and standard error on inputs that are drawn.
+"""Compares a program with the model: status, output and standard error on drawn inputs.
 
 usage: compare.py [--notes] PROGRAM INPUTS [FIRST_SEED [PROCESSES]]
        compare.py --write SEED  writes the inputs of a seed to the working directory
 
 A seed has one or more inputs. The first that differs is written to the working directory, as SEED-N.in and its
-words, beside both answers; the status is then 1. With --notes the commands are those alone that have that flag, each
+words, beside both answers; the status is then 1. With --notes it tries only the commands that have that flag, each
 with it, and INPUTS counts those of each of them: of `alone`, of `live` and of `replay --live`.
 """
 

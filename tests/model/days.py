@@ -1,7 +1,7 @@
 """Draws days of a venue: configurations and steps, lawful for the most part, rich in refusals.
 
-A day is drawn along a venue of the model, so that ids, numbers and moments fit what has come about;
-what the venue makes of it is for the comparison to say.
+It draws a day along a venue of the model, so that ids, numbers and moments fit what has come about. What
+the venue makes of it is for the comparison to say.
 """
 
 from __future__ import annotations

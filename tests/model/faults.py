@@ -1,4 +1,4 @@
-"""Draws what a venue does not bring about: spoilt configurations, due lists made up, spoilt inputs, wrong arguments."""
+"""Draws inputs that no venue produces: spoilt configurations, due lists made up, spoilt inputs, wrong arguments."""
 
 from __future__ import annotations
 

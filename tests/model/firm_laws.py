@@ -1,4 +1,4 @@
-"""The laws that a firm asks for first, asked of the model: that it is answered, told in time, and once.
+"""Asks the model for the laws that matter first to a firm: that it is answered, told in time, and once.
 
 Each law goes over a day that was played (`watched.py`) and gives what breaks it. `wrong_venues.py` has a
 wrong program for each, which the law has to find.

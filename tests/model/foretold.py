@@ -1,4 +1,6 @@
-"""What the messages that the firms are still to be sent tell of the rooms: who quotes yet, what is answered, how each ends."""
+"""Reads from the messages that the firms are still to be sent what the rooms will do: who quotes yet, what is answered, how
+each ends.
+"""
 
 from .actions import Inboxes, Message, RoomName, Threads
 from .configuration import Configuration

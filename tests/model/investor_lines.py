@@ -1,4 +1,4 @@
-"""The due text of an investor: what it sees of the venue, and what is due to it, line by line."""
+"""Writes the due text of an investor: what it sees of the venue, and what is due to it, line by line."""
 
 from collections.abc import Iterator
 from typing import Any

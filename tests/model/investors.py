@@ -1,4 +1,4 @@
-"""Holds what is said of investors, and of dealers that hear nothing, against the model on days that are drawn.
+"""Checks laws of investors, and of dealers that hear nothing, with the model, on days that are drawn.
 
 `views`: what an investor was sent is its view of what was due to it, on days drawn as for `compare.py`.
 `silence`: two days on which nobody hits, and which are one but for the steps of other dealers: what was

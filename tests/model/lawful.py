@@ -1,8 +1,8 @@
-"""Holds days on threads against the rules: is there an order of their actions that gives these bytes?
+"""Checks days on threads against the rules: is there an order of their actions that gives these bytes?
 
-A day is drawn, half of them so that a few words are fought over; `PROGRAM day --frames` runs it on
-threads. What each firm was sent is given to a search (`orders.py`), which knows nothing of how the
-threads went. The order that it finds is played on a venue of the model, which has to send the same.
+It draws days, half of them so that a few words are fought over; `PROGRAM day --frames` runs each on
+threads. A search (`orders.py`), which knows nothing of how the threads went, gets what each firm was
+sent. The order that it finds is played on a venue of the model, which has to send the same.
 """
 
 import subprocess

@@ -1,9 +1,9 @@
-"""Asks of a program, or of the model, what has to hold between its commands, on days that are drawn.
+"""Asks a program, or the model, for what has to hold between its commands, on days that are drawn.
 
 For every day of `live` and every firm: `replay --live FIRM` prints what `live` printed of that firm;
 `due --live FIRM` (with `--investor` of an investor) and then `alone` print it too; `dues --live` prints
-the former of each dealer; each `clock` line is its `expire` lines; what `due` writes is read back as the same list; and behind each line
-there is one mark.
+the former of each dealer; each `clock` line is its `expire` lines; what `due` writes is read back as the
+same list; and after each line there is one mark.
 """
 
 import re

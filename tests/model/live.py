@@ -1,4 +1,4 @@
-"""A day of `live`: each line is answered, and nothing is left to be done behind it."""
+"""A day of `live`: each line is answered, and leaves nothing to be done."""
 
 from collections.abc import Iterator
 from typing import BinaryIO

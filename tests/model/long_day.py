@@ -1,10 +1,10 @@
 #!/usr/bin/env python3
-"""Holds `replay --live` against `live` on one long day, with pieces of streams, hexadecimal lines and faulty lines.
+"""Compares `replay --live` with `live` on one long day, with pieces of streams, hexadecimal lines and faulty lines.
 
 usage: long_day.py PROGRAM [MEGABYTES [SEED]]
 
-Of each firm the messages have to be the same, line for line; each line has one mark; the most memory that either
-run took is printed. Frames are lawful and numbered, so that most messages come to the checks of the market.
+Each firm's messages have to be the same, line for line; each line has one mark. It prints the most memory that either
+run took. Frames are lawful and numbered, so that most messages come to the checks of the market.
 """
 
 import hashlib

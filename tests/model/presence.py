@@ -1,7 +1,7 @@
 """Two live days that differ in what the other dealers do, with the same hits awarded to the same dealers.
 
-What was due to one dealer has to be one list in both, and what it was sent the same bytes, but for who was
-the cover (694=4 or 5 of a closing notice). No law says so behind a hit; this asks the model.
+What was due to one dealer has to be one list in both, and what it was sent the same bytes, except for who was
+the cover (694=4 or 5 of a closing notice). No law says so after a hit; this asks the model.
 """
 
 from __future__ import annotations

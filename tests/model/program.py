@@ -1,7 +1,7 @@
 #!/usr/bin/env python3
 """Starts the second implementation of the venue's program by its path, from any folder.
 
-Its modules are the package in whose folder this file stands, whatever name that package has where it is imported.
+Its modules are the package whose folder has this file, under whatever name that package was imported.
 """
 
 import importlib

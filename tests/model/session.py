@@ -1,6 +1,6 @@
 """The session checks: what is asked of a message before the market's rules see it.
 
-Each table has its tags in the order in which they are checked. Of each tag: missing although
+Each table has its tags in the order in which they are checked. Of each tag it checks: missing although
 required 1, more than once 13, empty 4, of wrong form 6, and then the value.
 """
 

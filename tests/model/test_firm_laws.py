@@ -1,4 +1,4 @@
-"""What a firm asks for first holds of the model on drawn days, and a wrong venue is found by its law."""
+"""What matters first to a firm holds of the model on drawn days, and each law finds its wrong venue."""
 
 import itertools
 

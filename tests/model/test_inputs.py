@@ -1,4 +1,4 @@
-"""A program beside the second implementation: drawn inputs of every command but `day`, byte for byte."""
+"""Compares a program with the second implementation: drawn inputs of every command but `day`, byte for byte."""
 
 from pathlib import Path
 

@@ -1,4 +1,4 @@
-"""The search for an order of a day on threads: it finds one where there is one, and none where there is none."""
+"""The search for an order of a day on threads: it finds one if there is one, and none if there is none."""
 
 from collections.abc import Callable
 from itertools import product

@@ -1,7 +1,7 @@
-"""Holds the laws on trades against days of a program, by what the two firms of each trade wrote and were sent.
+"""Checks the laws on trades against days of a program, by what the two firms of each trade wrote and were sent.
 
-`replay` draws days of steps, half of which leave no duty; `live` takes them line by line, so that none is left;
-`threads` runs `PROGRAM day`. No rule of the market stands here. For each investor and each dealer, only their own messages are looked at:
+`replay` draws days of steps, half of which leave no duty; `live` takes them line by line, so that none is left; `threads` runs
+`PROGRAM day`. No rule of the market stands here. For each investor and each dealer, only their own messages are looked at:
 
 - what the venue showed the dealer in a QuoteRequest (35=R) is what the investor wrote;
 - each Quote (35=S) that it showed the investor is one that the dealer wrote and the venue accepted, with its price,

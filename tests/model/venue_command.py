@@ -1,4 +1,4 @@
-"""The venue's program as the harnesses are given it: a file, or a command of several words."""
+"""The words of the venue's program, as the harnesses are given it: a file, or a command of several words."""
 
 import os
 import shlex

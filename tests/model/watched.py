@@ -1,7 +1,7 @@
-"""The venue of a day, which notes what became of each message, quote, sweep and hit as it goes.
+"""Plays the venue of a day, and notes what becomes of each message, quote, sweep and hit as it goes.
 
-A day is played in three ways: as it was drawn, where duties may be left at its end; with all turns done
-behind its last line; and line by line, with all turns of a step's actor behind the step.
+It plays a day in three ways: as it was drawn, so that duties may be left at its end; with all turns done
+after its last line; and line by line, with all turns of a step's actor after the step.
 """
 
 from __future__ import annotations

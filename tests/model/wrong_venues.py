@@ -1,6 +1,6 @@
-"""Wrong programs that keep the laws of isolation and of a trade's two sides: each tells a firm a lie, nothing, or too much.
+"""Plants wrong programs in the model, each for the time of a `with`.
 
-Each is planted in the model for the time of a `with`.
+They keep the laws of isolation and of a trade's two sides, but each tells a firm a lie, nothing, or too much.
 """
 
 from __future__ import annotations

@@ -1,4 +1,4 @@
-"""A wrong body as it stands in a file: what it does, where it goes, and the test that has to fail on it."""
+"""Reads a wrong body from its file: what it does, where it goes, and the test that has to fail on it."""
 
 from dataclasses import dataclass
 from pathlib import Path

@@ -1,4 +1,4 @@
-"""A copy of the tree in which wrong bodies are planted, one at a time, built, and held against their tests."""
+"""A copy of the tree: it plants wrong bodies there, one at a time, builds it, and runs their tests."""
 
 import os
 import shutil

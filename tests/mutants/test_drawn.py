@@ -1,4 +1,4 @@
-"""What the mutator changes in each language, what it leaves out, and that it draws the same by the same seed."""
+"""What the mutator changes in each language, what it leaves out, and that the same seed draws the same changes."""
 
 import json
 import os

@@ -1,4 +1,4 @@
-"""Each wrong body is rejected by the test that it names: six drawn by the seed in the short form, all in the long one."""
+"""The test that each wrong body names rejects it: six drawn by the seed in the short form, all in the long one."""
 
 import random
 from collections.abc import Callable, Iterator

@@ -1,4 +1,4 @@
-"""A machine of its own: a fresh Debian that systemd-nspawn has booted, with systemd as its first process and no network but its own."""
+"""Boots a fresh Debian in systemd-nspawn: a machine with systemd as its first process, and no network but its own."""
 
 import subprocess
 from collections.abc import Iterator

@@ -1,4 +1,4 @@
-"""The Debian packages of the programs under test."""
+"""Builds the Debian packages of the programs under test."""
 
 import os
 import shutil

@@ -1,4 +1,4 @@
-"""A fresh Debian 12 in a folder, with what the packages depend on, and nothing that builds anything."""
+"""Makes a fresh Debian 12 in a folder, with what the packages depend on, and nothing that builds anything."""
 
 import os
 import re

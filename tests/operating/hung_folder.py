@@ -1,4 +1,4 @@
-"""A folder on a disk that answers nothing, as one of a machine that is gone."""
+"""A folder on a disk that answers nothing, like one of a machine that is gone."""
 
 import ctypes
 import os

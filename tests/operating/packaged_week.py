@@ -1,5 +1,5 @@
-"""A week of a venue that was installed from packages, on machines with systemd: the test moves all clocks together, by drop-ins of
-the units, the firms' too. It says what an operator says, by the commands of docs/OPERATING.md, and starts the keeper's timer itself."""
+"""A week of a venue that was installed from packages, on machines with systemd. The test moves all clocks together, the firms'
+too, by drop-ins of the units. It gives the operator's commands of docs/OPERATING.md, and starts the keeper's timer itself."""
 
 import json
 import os

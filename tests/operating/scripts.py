@@ -1,4 +1,4 @@
-"""The packages' scripts, as debhelper puts them together."""
+"""Puts the packages' scripts together as debhelper does."""
 
 from tests.harness.options import ROOT
 

@@ -1,5 +1,5 @@
-"""A backup of a day that goes on: a stream of one moment, whoever trades meanwhile, which tar reads, the audit checks, and
-mireseason-restore puts back."""
+"""A backup of a day that goes on, whoever trades meanwhile: a stream of one moment. tar reads it, the audit checks it, and
+mireseason-restore puts it back."""
 
 import io
 import json

@@ -1,4 +1,5 @@
-"""Before a day opens: who has the right password is told when it opens, nobody else is told anything, and no number is lost by it."""
+"""Before a day opens: the gateway tells whoever has the right password when it opens, tells nobody else anything, and loses no
+number by it."""
 
 import socket
 import time

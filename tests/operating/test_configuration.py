@@ -1,4 +1,5 @@
-"""The venue's configuration, as its operator wrote it: each fault is told with its place, and nothing is written before it is right."""
+"""The venue's configuration as its operator wrote it: the gateway tells each fault with its place, and writes nothing before it
+is right."""
 
 import json
 import os

@@ -1,4 +1,4 @@
-"""Days that have ended are copied, whole or not at all; and only what was copied is removed."""
+"""Days that have ended are copied, whole or not at all; only a day that was copied is removed."""
 
 import os
 import re

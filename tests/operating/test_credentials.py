@@ -1,4 +1,4 @@
-"""What mireseason-credentials makes of a file of credentials, with the gateway that hashes the password."""
+"""What mireseason-credentials makes of a file of credentials; the gateway hashes the password."""
 
 from __future__ import annotations
 

@@ -1,4 +1,4 @@
-"""What the packages do in a fresh system that has neither `rt` nor a compiler."""
+"""What the packages do on a fresh system that has neither `rt` nor a compiler."""
 
 import os
 import shutil

@@ -1,5 +1,5 @@
-"""The keeper of the days in PostgreSQL: tables before they are needed, copies that are checked and sealed, and nothing removed
-that is not there."""
+"""The keeper of the days in PostgreSQL: it makes tables before they are needed, checks and seals its copies, and removes
+nothing that is not copied."""
 
 import os
 import re

@@ -1,7 +1,7 @@
-"""What one look of the keeper does with the days in PostgreSQL, moment by moment, over stand-ins of the database, of copies and of the
-audit.
+"""What one look of the keeper does with the days in PostgreSQL, moment by moment, with stand-ins for the database, the copies
+and the audit.
 
-`test_keeper.py` has a database, a gateway and the audit in their place.
+`test_keeper.py` has a real database, a gateway and the audit instead.
 """
 
 import fcntl

@@ -1,6 +1,6 @@
 """Packages on a machine with systemd: what an upgrade, a restart and a reload do to a market that goes on.
 
-The tests share one machine, on which two firms with stock engines trade, and stand in the order of their day.
+The tests share one machine, on which two firms trade with stock engines, and run in the order of their day.
 """
 
 import json

@@ -1,4 +1,4 @@
-"""What the packages' scripts leave where they are killed, and what the next configuration makes of that."""
+"""What the packages' scripts leave if they are killed, and what the next configuration makes of that."""
 
 import os
 import shutil

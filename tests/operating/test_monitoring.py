@@ -1,4 +1,4 @@
-"""What is counted of each firm, the alerts, and the page."""
+"""What the gateway counts of each firm, the alerts, and the page."""
 
 import json
 import re

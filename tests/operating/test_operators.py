@@ -1,5 +1,5 @@
-"""Each command of an operator, called by somebody who may not and by somebody who may: what the first is told, and what the
-audit says of the second.
+"""Somebody who may not, and somebody who may, gives each operator's command: what the first is told, and what the audit says of
+the second.
 """
 
 import json

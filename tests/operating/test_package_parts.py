@@ -1,4 +1,6 @@
-"""What `debian/build.sh` puts together for the packages, and what it refuses: in a tree of its own, with stand-ins of all programs."""
+"""What `debian/build.sh` puts together for the packages, and what it refuses: in a tree of its own, with stand-ins for all
+programs.
+"""
 
 import hashlib
 import os

@@ -1,4 +1,4 @@
-"""The Debian packages: what is in them."""
+"""What the Debian packages contain."""
 
 import gzip
 import hashlib

@@ -1,5 +1,5 @@
-"""A week from packages, with an upgrade, a rollback, a firm that joins, one that leaves, a full disk, a lost host and a restored
-backup. Stock engines trade each day; both sides are told of every trade, and the audit finds each day whole."""
+"""A week from packages, with an upgrade, a rollback, a firm that joins, one that leaves, a full disk, a lost host and a
+restored backup. Stock engines trade each day. Both sides are told of every trade, and the audit finds each day whole."""
 
 import shutil
 from collections.abc import Iterator

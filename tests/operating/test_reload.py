@@ -1,4 +1,4 @@
-"""What `systemctl reload` calls: it fails where the gateway refuses its files."""
+"""What `systemctl reload` calls: it fails if the gateway refuses its files."""
 
 import os
 import subprocess

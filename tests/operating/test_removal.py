@@ -1,4 +1,4 @@
-"""What a removal of a package ends, and what a purge takes away and leaves: its scripts, with stand-ins of what they call."""
+"""What a removal of a package ends, and what a purge takes away and leaves: its scripts, with stand-ins for what they call."""
 
 import os
 import subprocess

@@ -1,4 +1,4 @@
-"""The signed repository: what apt takes from it, and what gets nothing signed."""
+"""The signed repository: what apt takes from it, and what is never signed."""
 
 import os
 import shutil

@@ -1,4 +1,4 @@
-"""Copies that a gateway made of days in SQLite are sealed by a keeper, which trusts nothing that it is given."""
+"""A keeper seals the copies that a gateway made of days in SQLite, and trusts nothing that it is given."""
 
 import hashlib
 import os

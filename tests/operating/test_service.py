@@ -1,4 +1,4 @@
-"""The gateway as a service: what systemd hears of it, and what /health and /ready say."""
+"""The gateway as a service: what it tells systemd, and what /health and /ready say."""
 
 import fcntl
 import os

@@ -1,4 +1,6 @@
-"""Two gateways on one log, day after day: both end with a day, and the next one opens at one of them, also where the other is gone."""
+"""Two gateways on one log, day after day: both end with a day, and the next day opens at one of them, also if the other is
+gone.
+"""
 
 import subprocess
 from collections.abc import Iterator

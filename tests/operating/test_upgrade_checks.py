@@ -1,4 +1,6 @@
-"""What keeps an upgrade from ending a service that could not start again: the packages' scripts, with stand-ins of what they call."""
+"""How the packages' scripts keep an upgrade from ending a service that could not start again: with stand-ins for what they
+call.
+"""
 
 import os
 import subprocess

@@ -1,4 +1,4 @@
-"""A week of one gateway that nobody touches, from Friday to Friday: the test moves all clocks together, the firms' too."""
+"""A week of one gateway that nobody touches, from Friday to Friday. The test moves all clocks together, the firms' too."""
 
 import json
 import os

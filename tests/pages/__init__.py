@@ -1,1 +1,1 @@
-"""The pages of this repository: what each says, names and shows is so."""
+"""The pages of this repository: what each says, names and shows is true."""

@@ -1,4 +1,4 @@
-"""Cases that two programs have to give: the same in both files."""
+"""Cases that two programs have to pass: both files have the same ones."""
 
 from tests.harness.options import ROOT
 

@@ -1,5 +1,5 @@
-"""The folders of gateway/src: each includes only itself and those below it, and no part another in a
-circle. The order is that of FOLDERS in gateway/CMakeLists.txt."""
+"""The folders of gateway/src: each includes only itself and those below it, and no two parts include
+each other in a circle. FOLDERS in gateway/CMakeLists.txt has the order."""
 
 import re
 import subprocess

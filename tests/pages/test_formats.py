@@ -1,4 +1,4 @@
-"""What firms read of the formats is what tools/formats.py makes of their one source."""
+"""What firms read of the formats is what tools/formats.py makes from their one source."""
 
 import formats
 import pytest

@@ -1,4 +1,4 @@
-"""Each page: its commands print what it shows, its names and links are there, and the pages that scripts print can be printed."""
+"""Each page: its commands print what it shows, its names and links exist, and the scripts that print pages can print them."""
 
 import shlex
 

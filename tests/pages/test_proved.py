@@ -1,4 +1,4 @@
-"""tools/proved.py: what is built, held against the sums that the repository has of it."""
+"""tools/proved.py: it compares what is built with the sums that the repository has."""
 
 import hashlib
 import subprocess

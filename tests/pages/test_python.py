@@ -1,4 +1,4 @@
-"""The Python of the repository has types (mypy --strict) and one form (black); pyproject.toml says of what."""
+"""The repository's Python has types (mypy --strict) and one form (black); pyproject.toml says which files."""
 
 import shutil
 import subprocess

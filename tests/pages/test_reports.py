@@ -1,5 +1,5 @@
-"""What tests/run.sh counts: passed, failed, skipped with the reason, and unsteady, of reports as pytest and ctest write them;
-and which of several workers tries what."""
+"""What tests/run.sh counts in reports as pytest and ctest write them: passed, failed, skipped with the reason, and unsteady.
+And which of several workers tries what."""
 
 import os
 import subprocess

@@ -1,1 +1,1 @@
-"""Programs that are refused one allocation."""
+"""Programs to which one allocation is refused."""

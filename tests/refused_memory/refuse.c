@@ -1,7 +1,7 @@
-/* Refuses one allocation of a program, for LD_PRELOAD.
+/* Refuses one allocation of a program, by LD_PRELOAD.
  *
- * Each call that asks for memory is counted, from 1. The call that REFUSE_CALL names answers null, and no other does.
- * Where REFUSE_COUNT names a file, the number of calls is written to it as the program ends.
+ * It counts each call that asks for memory, from 1. The call that REFUSE_CALL names answers null, and no other does.
+ * If REFUSE_COUNT names a file, the number of calls is written to it as the program ends.
  *
  * The memory itself comes from glibc, by the names that its allocator keeps for such a library as this.
  */

@@ -1,4 +1,4 @@
-"""The built program once for each of its allocations, with that one refused; and tests of the crates in the same way."""
+"""Runs the built program once for each of its allocations, and refuses that one; and tests of the crates in the same way."""
 
 import os
 import re

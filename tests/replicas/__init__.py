@@ -1,1 +1,1 @@
-"""Two gateways and three database hosts, tried."""
+"""Tries two gateways and three database hosts."""

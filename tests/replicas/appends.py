@@ -3,9 +3,9 @@
 
 usage: appends.py OUT [--seconds N] [--images FOLDER]
 
-Runs terms_test, log_test and connection_log_test of OUT, the folder in which the gateway was built,
-on a gateway's host: they are let in at the primary as its gateway is, the owner of the logs makes
-their tables, and no more is allowed than to a gateway. Then log_bench with one, two and four logs.
+It runs terms_test, log_test and connection_log_test of OUT, the folder in which the gateway was built,
+on a gateway's host. The primary lets them in as it does the host's gateway, the owner of the logs makes
+their tables, and they may do no more than a gateway. Then it runs log_bench with one, two and four logs.
 """
 
 import argparse

@@ -1,4 +1,4 @@
-"""The day's log as PostgreSQL has it, in the form of the gateway's own tests."""
+"""Reads the day's log from PostgreSQL, in the form of the gateway's own tests."""
 
 from tests.gateway.ledger import Entry, Ledger
 from tests.lab.database import DatabaseHost

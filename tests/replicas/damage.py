@@ -1,4 +1,4 @@
-"""What is done to the hosts in the middle of a day, one thing at a time, and undone."""
+"""Does damage to the hosts in the middle of a day, one thing at a time, and undoes it."""
 
 import random
 import time

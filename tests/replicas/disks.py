@@ -1,9 +1,9 @@
 #!/usr/bin/env python3
-"""Tries a host's disk: what a cut of power leaves of it.
+"""Tries what a cut of power leaves on a host's disk.
 
 usage: disks.py [--images FOLDER]
 
-What was synchronised stands after a cut, what was not is gone, and a disk that was full and was
+What was synchronised is there after a cut, what was not is gone, and a disk that was full and was
 emptied is empty.
 """
 

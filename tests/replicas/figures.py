@@ -1,4 +1,4 @@
-"""How long firms had no answer after each fault."""
+"""Says how long firms had no answer after each fault."""
 
 import statistics
 from dataclasses import dataclass, field

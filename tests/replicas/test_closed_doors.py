@@ -1,5 +1,5 @@
 """What somebody on a host of the site's network can reach of the database hosts without a certificate and a password: nothing
-of etcd, of Patroni's interface, of replication, or of the log. And that the keeper and a gateway, with theirs, can do their work.
+of etcd, of Patroni's interface, of replication, or of the log. The keeper and a gateway, which have theirs, can do their work.
 """
 
 import os

@@ -1,4 +1,4 @@
-"""What two gateways on one log keep of it outside of the database: both what the one that speaks has signed."""
+"""What two gateways on one log keep of it outside of the database: both keep what the one that speaks has signed."""
 
 import re
 import shutil

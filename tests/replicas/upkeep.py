@@ -1,5 +1,5 @@
-"""What an operator does to database hosts, as install/hosts/README.md says it: one is taken out and in,
-the primary by a switch to its standby, and one whose disk is lost is replaced.
+"""Does to database hosts what an operator does, as install/hosts/README.md says it: takes one out and in,
+makes the standby the primary for that, and replaces one whose disk is lost.
 """
 
 from collections.abc import Callable

@@ -1,6 +1,5 @@
 #!/usr/bin/env python3
-"""Plays a day of two venues behind one gateway: firms that are in both, each with a session a
-venue.
+"""Plays a day of two venues behind one gateway: each firm is in both, with a session at each.
 
 usage: venues.py GATEWAY PLAYER [--messages N] -- VENUE WORDS ..
 

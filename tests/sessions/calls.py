@@ -1,4 +1,4 @@
-"""The second implementation's calls, as gateway/src/session/fix_sessions.h has them."""
+"""Calls the second implementation as gateway/src/session/fix_sessions.h has it."""
 
 import ctypes
 from dataclasses import dataclass

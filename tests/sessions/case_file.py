@@ -1,4 +1,4 @@
-"""Files of cases, in the form of crates/all_cases/README.md."""
+"""Reads files of cases, in the form of crates/all_cases/README.md."""
 
 from collections.abc import Iterator
 from dataclasses import dataclass, field

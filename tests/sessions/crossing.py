@@ -1,4 +1,4 @@
-"""Messages between the wire and the venue, driven by lines: crates/wire_cases has the calls and their answers."""
+"""Drives messages between the wire and the venue by lines: crates/wire_cases has the calls and their answers."""
 
 import ctypes
 from pathlib import Path

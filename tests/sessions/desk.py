@@ -1,4 +1,4 @@
-"""A session that is driven by lines: crates/session_cases/src/desk.rt has the calls and their answers."""
+"""Drives a session by lines: crates/session_cases/src/desk.rt has the calls and their answers."""
 
 from dataclasses import dataclass
 from pathlib import Path

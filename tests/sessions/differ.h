@@ -1,4 +1,4 @@
-// What two libraries said, field by field.
+// Finds in which fields two libraries answered differently.
 #ifndef SESSIONS_DIFFER_H
 #define SESSIONS_DIFFER_H
 

@@ -1,4 +1,4 @@
-// What the two sides do with their ends of a line.
+// What the two sides do at their ends of a line.
 #include "world.h"
 
 #include "texts.h"

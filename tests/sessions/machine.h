@@ -1,5 +1,5 @@
-// A session, call by call, of each library that the program has. Where two do not say the same, the
-// test ends.
+// Calls a session in each library that the program has. If two do not answer the same, the test
+// ends.
 #ifndef SESSIONS_MACHINE_H
 #define SESSIONS_MACHINE_H
 

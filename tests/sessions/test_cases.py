@@ -1,4 +1,4 @@
-"""The gate's cases over the second implementation: of the session, row by row of docs/SESSIONS.md, and of messages
+"""Runs the gate's cases on the second implementation: of the session, row by row of docs/SESSIONS.md, and of messages
 between the wire and the venue."""
 
 import hashlib

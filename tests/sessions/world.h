@@ -1,5 +1,5 @@
 // The two sides and the lines between them. A line delays each way, cuts at any byte, and brings a
-// message in pieces; each side hears at a time of its own that it is gone.
+// message in pieces. Each side hears at its own time that the line is gone.
 #ifndef SESSIONS_WORLD_H
 #define SESSIONS_WORLD_H
 

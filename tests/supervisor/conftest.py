@@ -1,4 +1,4 @@
-"""What the tests of the supervisor's commands are given."""
+"""The fixtures for the tests of the supervisor's commands."""
 
 import subprocess
 import sys

@@ -1,4 +1,4 @@
-"""Reads an export back, with nothing of the audit."""
+"""Reads an export back, without any of the audit's code."""
 
 import csv
 import json

@@ -1,4 +1,4 @@
-"""The figures of a day in one shape, however they were found."""
+"""Puts the figures of a day into one shape, however they were found."""
 
 from collections.abc import Iterable
 from dataclasses import dataclass, field

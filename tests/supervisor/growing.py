@@ -1,4 +1,4 @@
-"""A log that grows, as a gateway writes it: an existing one, entry by entry."""
+"""Grows a log as a gateway writes it: an existing one, entry by entry."""
 
 import sqlite3
 from contextlib import closing

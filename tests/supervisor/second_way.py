@@ -1,4 +1,4 @@
-"""The figures of a day a second way: by SQL over its export.
+"""Computes the figures of a day a second way: by SQL over its export.
 
 Prices are whole 256ths of a point, so that the numbers of SQL are exact.
 """

@@ -1,4 +1,4 @@
-"""The sheet of a day that was read by hand; its head says what its lines are."""
+"""Reads the sheet of a day that somebody read by hand; its head says what its lines mean."""
 
 from dataclasses import dataclass, field
 from fractions import Fraction

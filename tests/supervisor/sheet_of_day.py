@@ -1,6 +1,6 @@
-"""The sheet of a day as a script reads it off the messages; it shares nothing with the audit.
+"""Makes the sheet of a day from its messages; it shares nothing with the audit.
 
-A person read the stored day by hand. A drawn day has one that is made here by the same words: what
+A person read the stored day by hand. For a drawn day, this makes the sheet by the same words: what
 a dealer answered, when a quote ended and how, what a trade was beside the others' quotes.
 """
 

@@ -1,4 +1,4 @@
-"""A day that is followed while it grows, and as it stood at an entry."""
+"""A day that is followed while it grows, and a day as it stood at an entry."""
 
 import filecmp
 import re

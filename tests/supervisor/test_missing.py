@@ -1,4 +1,4 @@
-"""What is missing is told in one line that says what to do, and never by a traceback."""
+"""If something is missing, one line says so and what to do, never a traceback."""
 
 import os
 import subprocess

@@ -1,5 +1,5 @@
-"""The figures of a day: those of the stored one as they were found by hand, and of a drawn one a
-second way.
+"""The figures of a day: those of the stored day as somebody found them by hand, and those of a drawn day
+computed a second way.
 """
 
 import json

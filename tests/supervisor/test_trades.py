@@ -1,4 +1,4 @@
-"""Confirmations: both firms have the same name of a trade, and each its own rows alone."""
+"""Confirmations: both firms have the same name for a trade, and each sees its own rows alone."""
 
 import json
 import re

@@ -1,4 +1,4 @@
-"""Wrong code that nobody chose: one small change at a time, drawn by a seed, and held against the tests that pass through it.
+"""Wrong code that nobody chose: a seed draws one small change at a time, and the tests that pass through it have to refuse it.
 
 `python3 -m tests.mutants.drawn --seed 7 --count 100` draws a hundred, and prints which of them every test lets through.
 """

@@ -3,13 +3,15 @@
 usage: python3 -m tests.mutants.drawn [--seed N] [--count N] [--part NAME ..] [--jobs N] [--limit SECONDS]
            [--since COMMIT] [--venue VENUE] [--gateway PROGRAM] [--record] [--remember] [--below SECONDS] [--list] [WORDS ..]
 
-Draws --count changes (100) of the parts (all), each part in proportion to its lines; with --since only of files that have changed since
-that commit. Each is tried in a copy of the tree, --jobs of them side by side, against the tests that pass through its line, the fastest
-first. WORDS are pytest's. --below leaves out tests that take as many seconds. --record runs the tests of the parts first, and records
-through which lines each passes; without it what was recorded last is taken; where nothing was, what the tree remembers of each
-function (--remember writes that anew, from what was recorded); and else all tests of a part. --list tries nothing.
+It draws --count changes (100) of the parts (all), each part in proportion to its lines; with --since only from files that have
+changed since that commit. It tries each in a copy of the tree, --jobs of them side by side, against the tests that pass through
+its line, the fastest first. WORDS are pytest's. --below leaves out tests that take as many seconds. --record runs the tests of
+the parts first, and records through which lines each passes. Without it the last recording is taken; if there is none, what the
+tree remembers of each function (--remember writes that anew, from the recording); and otherwise all tests of a part. --list
+tries nothing.
 
-The last lines are a table: of each part how many were drawn, refused, equal (left_out.toml), and how many passed. The status is 0.
+The last lines are a table: of each part how many were drawn, refused, equal (left_out.toml), and how many passed. The status is
+0.
 """
 
 import argparse

@@ -1,4 +1,4 @@
-"""One small change of a file: where it stands, what stands there in the mutant, and what kind of mistake that is."""
+"""One small change of a file: where it stands, what stands there in the mutant, and which kind of mistake that is."""
 
 from collections.abc import Iterator
 from dataclasses import dataclass

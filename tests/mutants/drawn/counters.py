@@ -1,7 +1,7 @@
-"""What gcc's counters say of one run: the lines of C++ that it passed through.
+"""Reads gcc's counters of one run: the lines of C++ that it passed through.
 
-A program that is built with `--coverage` writes its counters at its end below the folder that GCOV_PREFIX names, at the whole path
-that its objects have. One that is killed writes none: what only a kill reaches is recorded by nobody.
+A program that is built with `--coverage` writes its counters at its end, below the folder that GCOV_PREFIX names, at the whole
+path of its objects. One that is killed writes none: so nobody records what only a kill reaches.
 """
 
 import json

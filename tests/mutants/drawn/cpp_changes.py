@@ -1,4 +1,4 @@
-"""The changes of a file in C++, by clang's syntax tree."""
+"""Finds the possible changes of a file in C++, by clang's syntax tree."""
 
 from collections.abc import Iterator, Sequence
 

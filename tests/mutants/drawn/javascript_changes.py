@@ -1,4 +1,4 @@
-"""The changes of a file in JavaScript: acorn's syntax tree is read by a script of node."""
+"""Finds the possible changes of a file in JavaScript: a script of node reads acorn's syntax tree."""
 
 import json
 import subprocess

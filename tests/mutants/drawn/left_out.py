@@ -1,4 +1,4 @@
-"""Which changes are not drawn, and which passed every test and are no mistake: left_out.toml has them with reasons."""
+"""Reads left_out.toml: which changes are not drawn, which passed every test and are no mistake, and why."""
 
 import re
 import tomllib

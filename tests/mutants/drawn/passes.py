@@ -1,4 +1,4 @@
-"""Which tests pass through a line, and how long each takes: from one run of a part's tests that records it."""
+"""Says which tests pass through a line, and how long each takes, by one recorded run of a part's tests."""
 
 import ast
 import json

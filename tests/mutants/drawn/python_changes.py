@@ -1,4 +1,4 @@
-"""The changes of a file in Python, by its syntax tree."""
+"""Finds the possible changes of a file in Python, by its syntax tree."""
 
 import ast
 from collections import defaultdict

@@ -1,8 +1,8 @@
 """A plugin of pytest (`-p tests.mutants.drawn.recorder`) that records through which lines each test passes.
 
-Python: `recording/sitecustomize.py` marks them, in pytest's own process and in each program that it starts. What a fixture of a module
-or a class does is recorded as the fixture's, and counts for each test that takes it. C++: what is built with `--coverage` writes its
-counters into a folder for each file of tests, which GCOV_PREFIX names.
+Python: `recording/sitecustomize.py` marks them, in pytest's own process and in each program that it starts. What a fixture of a
+module or a class does is recorded as the fixture's, and counts for each test that takes it. C++: a program that is built with
+`--coverage` writes its counters into a folder for each file of tests, which GCOV_PREFIX names.
 """
 
 import hashlib

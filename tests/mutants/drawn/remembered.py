@@ -1,7 +1,7 @@
-"""What a recording found, in a small file of the tree: of each function the tests that pass through it the fastest.
+"""Keeps in a small file of the tree what a recording found: for each function the tests that pass through it the fastest.
 
-A landing tries mistakes of changed files without a recording of its own. Lines move with each change, so the file has functions. A test
-that is gone since, or has another name, is left out; what is new in a function is known with the next recording.
+A landing tries mistakes of changed files without a recording of its own. Lines move with each change, so the file has
+functions. It leaves out a test that is gone since, or has another name; the next recording finds what is new in a function.
 """
 
 import ast

@@ -1,4 +1,6 @@
-"""The changes of a script of the shell. There is no syntax tree of it in Debian: what stands on a line of its own is changed."""
+"""Finds the possible changes of a shell script. Debian has no syntax tree of it, so this changes what stands on a line of its
+own.
+"""
 
 import re
 

@@ -1,4 +1,4 @@
-"""One change in a copy of the tree: built, and held against the tests that pass through its line, until one fails."""
+"""Builds one change in a copy of the tree, and tries it with the tests that pass through its line, until one fails."""
 
 import os
 import signal

@@ -1,4 +1,4 @@
-// What is drawn of a seed.
+// Draws from a seed.
 #ifndef SESSIONS_EVENTS_DRAW_H
 #define SESSIONS_EVENTS_DRAW_H
 

@@ -1,5 +1,5 @@
-// Messages of a firm as a session may meet them: most as an engine sends them, and each with what
-// an engine never does.
+// Messages of a firm as a session may meet them: most as an engine sends them, each also with
+// something that an engine never does.
 #ifndef SESSIONS_EVENTS_MESSAGES_H
 #define SESSIONS_EVENTS_MESSAGES_H
 

@@ -1,8 +1,8 @@
-"""Python imports this at its start where its folder is on the path: each program that a test starts records its lines.
+"""Python imports this at its start if its folder is on the path: so each program that a test starts records its lines.
 
-Each statement of a recorded file is compiled with a mark before it, which is set in a file that all programs of one test map into
-their memory. So the lines of a program that is killed are there, too, and a program takes hardly longer than without; coverage.py,
-which looks at each line of each module, takes twice the time.
+It compiles each statement of a recorded file with a mark before it, which is set in a file that all programs of one test map
+into their memory. So the lines of a program that is killed are there, too, and a program takes hardly longer than without.
+coverage.py, which looks at each line of each module, takes twice the time.
 """
 
 import ast
