@@ -31,14 +31,14 @@ namespace {
 
 constexpr const char *usage = R"(usage: mireseason-gateway CONFIG
        mireseason-gateway --check CONFIG [--date YYYYMMDD]
-                                           looks for what a start on that day would find, and ends
-       mireseason-gateway --hash           reads a password, a line, and prints its salted hash
+                                           says what a start on that day would find
+       mireseason-gateway --hash           reads a password from a line, and prints its salted hash
        mireseason-gateway --make-keys DIR [NAME ..]
                                            makes the secret of a log, and for each gateway its keys
        mireseason-gateway --accept-loss CONFIG
-                                           takes the log as it is, where its end was lost
+                                           accepts a log whose end was lost
        mireseason-gateway --confined COMMAND ..
-                                           runs a command without network, and with its own files alone
+                                           runs a command without a network, with its own files alone
        mireseason-gateway --version
 )";
 

@@ -183,8 +183,8 @@ TEST_CASE("the quotes of all dealers are at most 65,536") {
     const std::string head = "version = 2\n";
     CHECK(told_of(head + rows_of("dealer", 16, rest)) == "no fault");
     CHECK(told_of(head + rows_of("dealer", 17, rest)) ==
-          "venue.toml: line 85: dealer F16: quotes = 4096: with those above it is 69632 of all "
-          "dealers, of at most 65536");
+          "venue.toml: line 85: dealer F16: quotes = 4096: the dealers up to this one have 69632, "
+          "and all may have 65536");
 }
 
 TEST_CASE("a value of any length takes one short line") {

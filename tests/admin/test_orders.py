@@ -229,7 +229,7 @@ def test_quotes_of_one_trader(stage_of_log: Stage) -> None:
         said = admin(stage, "cancel", "DLR1", "--trader", "T9", "--because", WHY)
         check(said.status == 1 and "has no trader T9: its traders are T1, T3" in said.err, said)
         said = admin(stage, "cancel", "DLR1", "--trader", "")
-        check(said.status == 1 and "--trader has no name behind it" in said.err, said)
+        check(said.status == 1 and "--trader needs a name after it" in said.err, said)
         did(stage, "cancel", "DLR1", "--trader", "T1", "--because", WHY)
         check(
             acts(stage)[-1].endswith(b' cancel DLR1 --trader T1 because="%s"' % WHY.encode()),
@@ -323,7 +323,7 @@ def test_a_halt(stage: Stage) -> None:
         check(said.status == 1 and "has no bond BONDX0000009" in said.err, said.text)
         for word in ("halt", "resume"):
             said = admin(stage, word, "--bond", "")
-            check(said.status == 1 and "--bond has no ID behind it" in said.err, said)
+            check(said.status == 1 and "--bond needs an ID after it" in said.err, said)
         did(stage, "halt", "--bond", BOND.decode(), "--because", WHY)
         halted(dealer, investor, shown, BOND_HALTED)
         halt_is_seen(stage, BOND.decode(), takes_business=True)

@@ -35,7 +35,7 @@ def test_no_act_of_these_without_a_reason(stage: Stage) -> None:
         assert said.status == 1 and "say why: --because" in said.err, (words, said)
         for blank in WITHOUT_WORDS:
             said = admin(stage, *words, "--because", blank)
-            assert said.status == 1 and "--because has no reason behind it" in said.err, said
+            assert said.status == 1 and "--because needs a reason after it" in said.err, said
     assert acts(stage) == []
     assert json.loads(did(stage, "--json", "status"))["rows"][0]["takes_business"] is True
 

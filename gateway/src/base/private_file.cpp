@@ -28,8 +28,8 @@ constexpr mode_t forbidden = S_IWGRP | S_IRWXO;
 void require_private(mode_t mode, const fs::path &path) {
     if ((mode & forbidden) != 0) {
         throw std::runtime_error(fmt::format(
-            "{}: has the mode {:04o}: its group may not write it, and others may not read it (0640 "
-            "or 0600)",
+            "{}: has the mode {:04o}: give it 0640 or 0600, so that its group can't write it and "
+            "others can't read it",
             path.string(), mode & 07777));
     }
 }

@@ -63,7 +63,7 @@ class ConfigReader {
         std::vector<std::string> names;
         for (const auto &[key, node] : *venue) {
             if (!node.is_table()) {
-                section("venue").fail_at(key.str(), "stands in a part without a command");
+                section("venue").fail_at(key.str(), "needs the key command beside it");
             }
             names.emplace_back(key.str());
         }
@@ -191,7 +191,7 @@ class ConfigReader {
         if (venue != std::string::npos) {
             text.replace(venue, 7, config_.venue);
         } else if (!config_.venue.empty()) {
-            fail(path_, "[log] has no {venue}, and there are several");
+            fail(path_, "[log] needs {venue} in the name, since there are several venues");
         }
         return text;
     }
@@ -212,7 +212,7 @@ class ConfigReader {
         }
         log.end();
         if (file.empty() == config_.postgres.empty()) {
-            fail(path_, "[log] names neither sqlite nor postgres, or both");
+            fail(path_, "[log] has to name one of sqlite and postgres");
         }
         if (!file.empty()) {
             config_.sqlite = log.beside(filled(file));

@@ -49,7 +49,7 @@ void check_trader(const Section &row, const std::string &configuration, const st
     const auto has = [&](const toml::node &each) { return has_trader(each, firm, trader); };
     if (dealers == nullptr || std::none_of(dealers->begin(), dealers->end(), has)) {
         row.fail_at("cancel_on_disconnect",
-                    fmt::format("is {}, who is no trader of a dealer {}", trader, firm));
+                    fmt::format("is {}: there is no dealer {} with such a trader", trader, firm));
     }
 }
 

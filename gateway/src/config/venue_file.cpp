@@ -244,8 +244,8 @@ class FileCheck {
         sum += own;
         if (sum > rule.most_sum) {
             check.tell(line_of_node(*value),
-                       fmt::format("{} = {}: with those above it is {} of all {}s, of at most {}",
-                                   rule.sum_key, own, sum, rule.table, rule.most_sum));
+                       fmt::format("{} = {}: the {}s up to this one have {}, and all may have {}",
+                                   rule.sum_key, own, rule.table, sum, rule.most_sum));
         }
     }
 

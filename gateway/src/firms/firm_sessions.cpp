@@ -27,7 +27,8 @@ FirmSessions::FirmSessions(VenueDay &day, Log &log, const States &states)
     open_firms(states);
     for (const auto &[name, state] : states) {
         if (!firms_.contains(name) && has_begun(state)) {
-            throw std::runtime_error(fmt::format("the log has {}, which the venue has not", name));
+            throw std::runtime_error(
+                fmt::format("the log has {}, and the venue has no such firm", name));
         }
     }
 }

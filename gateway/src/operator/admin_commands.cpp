@@ -41,7 +41,7 @@ std::string take_reason(std::vector<std::string> &words) {
         return "";
     }
     if (found + 1 == words.end() || is_blank(*(found + 1))) {
-        throw AdminFault("--because has no reason behind it");
+        throw AdminFault("--because needs a reason after it");
     }
     std::string text = *(found + 1);
     words.erase(found, found + 2);
@@ -105,17 +105,19 @@ const std::vector<AdminCommand> &admin_commands() {
          run_hand_out},
         {"next-day", "", "says which day opens next and what its configuration says", run_next_day},
         {"end-day", "[--now] [--because TEXT]",
-         "takes no new request, and ends the day once none is open; or now, without notices",
+         "takes no new request, and ends the day once none is open; --now: at once, without "
+         "notices",
          run_end_day},
         {"admit", "FIRM REPORT [--because TEXT]",
-         "lets a firm log on whose desk was certified, where it has to be", run_admit},
+         "lets a firm log on whose desk was certified, if [fix] certified asks for that",
+         run_admit},
         {"suspend", "FIRM --because TEXT",
          "logs a firm out, refuses it, and cancels its quotes or passes its requests", run_suspend},
         {"resume", "[FIRM | --bond ID] [--because TEXT]",
-         "lets a suspended firm log on again; or the venue, or a bond, go on after a halt",
+         "lets a suspended firm log on again; or ends a halt, of the venue or of a bond",
          run_resume},
         {"halt", "[--bond ID] --because TEXT",
-         "takes no request, quote or hit, of one bond or of any", run_halt},
+         "refuses requests, quotes and hits, of one bond or of all", run_halt},
         {"cancel", "FIRM [--trader TRADER] --because TEXT",
          "cancels all quotes of a dealer, or those that one trader sent", run_cancel},
         {"reset-session", "FIRM [--because TEXT]",
@@ -132,7 +134,7 @@ const std::vector<AdminCommand> &admin_commands() {
          "takes requests and quotes again after the clock was set", run_clock_accept},
         {"reload", "[--because TEXT]", "reads credentials and certificates again", run_reload},
         {"log accept-loss", "[--halt] --because TEXT",
-         "takes a log whose end was lost as it is, and opens the day, or opens it halted",
+         "accepts a log whose end was lost, and opens the day; with --halt it opens halted",
          run_log_accept_loss},
         {"help", "", "lists the commands", run_help},
     };

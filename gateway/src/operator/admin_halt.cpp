@@ -19,7 +19,7 @@ std::string bond_of(const AdminCall &call) {
     }
     if (call.words[1].empty()) {
         // As an unset variable of a script: it is not the whole venue.
-        throw AdminFault("--bond has no ID behind it");
+        throw AdminFault("--bond needs an ID after it");
     }
     return call.words[1];
 }

@@ -72,7 +72,7 @@ AdminAnswer run_cancel(AdminCall &call) {
     }
     const FirmEnd end{call.words[0], call.words.size() == 3 ? call.words[2] : ""};
     if (call.words.size() == 3 && end.trader.empty()) {
-        throw AdminFault("--trader has no name behind it");
+        throw AdminFault("--trader needs a name after it");
     }
     check_reason(call, "their desk has lost its connection");
     OpenDay day(call.scene);
@@ -85,7 +85,7 @@ AdminAnswer run_cancel(AdminCall &call) {
         OpenDay::commit_with_end(*leader, end,
                                  call.act(fmt::format("cancel {}{}", end.firm, of_trader)));
     }
-    return {fmt::format("{} are cancelled; it is told as of a cancel of its own",
+    return {fmt::format("{} are cancelled; the firm is told as if it had cancelled them",
                         end.trader.empty()
                             ? fmt::format("all quotes of {}", end.firm)
                             : fmt::format("the quotes that {} of {} sent", end.trader, end.firm)),

@@ -213,8 +213,8 @@ std::optional<std::string> doubt_about(const Config &config) {
     if (config.keys->is_own_listed) {
         return std::nullopt;
     }
-    return "[seal] gateways: none of them is the public key of signing_key. Who checks a day by "
-           "these keys takes this gateway's signatures for nobody's";
+    return "[seal] gateways: none of them is the public key of signing_key. Add it: whoever checks "
+           "a day by these keys accepts no signature of this gateway";
 }
 
 std::vector<std::string> kept_out(const Config &config, std::string_view day) {
