@@ -41,7 +41,7 @@ def quote_bid(stage: Stage) -> None:
     passed(stage, request)
 
 
-@case("Takes a quote off the grid for refused, and quotes a price that is on it", needs=QUOTES)
+@case("Accepts that a quote off the grid is refused, and quotes a price on it", needs=QUOTES)
 def off_grid(stage: Stage) -> None:
     request = ask(stage)
     price = stage.draw.off_grid(request.bond)
@@ -52,7 +52,7 @@ def off_grid(stage: Stage) -> None:
     passed(stage, request)
 
 
-@case("Takes a quote behind the deadline for refused", needs=QUOTES)
+@case("Accepts that a quote after the deadline is refused", needs=QUOTES)
 def late(stage: Stage) -> None:
     request = ask(stage, seconds=SHORT)
     notice(stage, request, "3", SHORT + 10)
@@ -62,7 +62,7 @@ def late(stage: Stage) -> None:
     stage.holds(request.bond, 0)
 
 
-@case("Takes a quote beyond its exposure for refused", needs=QUOTES)
+@case("Accepts that a quote beyond its exposure is refused", needs=QUOTES)
 def over_exposure(stage: Stage) -> None:
     requests = [ask(stage, quantity=FULL) for _ in range(3)]
     for request in requests[:2]:
@@ -73,7 +73,7 @@ def over_exposure(stage: Stage) -> None:
         passed(stage, request)
 
 
-@case("Trades at the price of its last quote where it has replaced one", needs=WINS)
+@case("Trades at the price of its last quote after it replaced one", needs=WINS)
 def replaced(stage: Stage) -> None:
     request = ask(stage)
     first = stage.draw.price(request.bond)
@@ -126,7 +126,7 @@ def cancelled_all(stage: Stage) -> None:
         passed(stage, request)
 
 
-@case("Cancels all where it has no quote, and takes the answer")
+@case("Cancels all without having a quote, and accepts the answer")
 def nothing_to_cancel(stage: Stage) -> None:
     stage.task("Cancel all quotes, though you have none.", "cancel all", may_refuse=True)
     sent = stage.desk_sends_or_refuses("a QuoteCancel of all (298=4)", is_kind("Z", _298="4"))
@@ -143,7 +143,7 @@ def declined(stage: Stage) -> None:
     passed(stage, request)
 
 
-@case("Declines a request behind its withdrawn quote", needs=("declined", "withdrawn"))
+@case("Declines a request after it withdrew its quote", needs=("declined", "withdrawn"))
 def declined_behind_a_quote(stage: Stage) -> None:
     request = ask(stage)
     name = quote(stage, request)
@@ -155,7 +155,7 @@ def declined_behind_a_quote(stage: Stage) -> None:
     passed(stage, request)
 
 
-@case("Books a trade where it has won", needs=QUOTES)
+@case("Books a trade when it has won", needs=QUOTES)
 def won(stage: Stage) -> None:
     request = ask(stage)
     quote(stage, request)
@@ -164,12 +164,12 @@ def won(stage: Stage) -> None:
     stage.holds(request.bond, request.change(is_dealer=True))
 
 
-@case("Books no trade where it is the cover", needs=QUOTES)
+@case("Books no trade when it is the cover", needs=QUOTES)
 def cover(stage: Stage) -> None:
     _lost(stage, "4", steps=1)
 
 
-@case("Books no trade where it is done away", needs=QUOTES)
+@case("Books no trade when it is done away", needs=QUOTES)
 def done_away(stage: Stage) -> None:
     _lost(stage, "5", steps=2)
 
@@ -186,7 +186,7 @@ def _lost(stage: Stage, end: str, steps: int) -> None:
     stage.holds(request.bond, 0)
 
 
-@case("Books no trade where the investor passes", needs=QUOTES)
+@case("Books no trade when the investor passes", needs=QUOTES)
 def passed_by(stage: Stage) -> None:
     request = ask(stage)
     quote(stage, request)
@@ -194,7 +194,7 @@ def passed_by(stage: Stage) -> None:
     stage.holds(request.bond, 0)
 
 
-@case("Books no trade where the request expires", needs=QUOTES)
+@case("Books no trade when the request expires", needs=QUOTES)
 def expired(stage: Stage) -> None:
     request = ask(stage, seconds=stage.soon)
     quote(stage, request)
@@ -203,7 +203,7 @@ def expired(stage: Stage) -> None:
     stage.holds(request.bond, 0)
 
 
-@case("Takes a request that it did not answer, and its end")
+@case("Accepts a request that it does not answer, and its end")
 def not_answered(stage: Stage) -> None:
     request = ask(stage, others=stage.dealers[:1])
     stage.task("Do nothing with the request %s." % request.id, "nothing", request=request.id)
@@ -214,7 +214,7 @@ def not_answered(stage: Stage) -> None:
     stage.holds(request.bond, 0)
 
 
-@case("Books the trade where its withdrawal comes too late", needs=("won", "withdrawn"))
+@case("Books the trade when its withdrawal comes too late", needs=("won", "withdrawn"))
 def hit_in_the_race(stage: Stage) -> None:
     request = ask(stage)
     name = quote(stage, request)

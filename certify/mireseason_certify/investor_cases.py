@@ -41,13 +41,13 @@ def ask_three(stage: Stage) -> None:
     passes(stage, ask(stage, stage.dealers))
 
 
-@case("Takes a request of a bond that the venue does not have for refused", needs=ASKS)
+@case("Accepts that a request for a bond that the venue does not have is refused", needs=ASKS)
 def unknown_bond(stage: Stage) -> None:
     bond = Bond("XSNONE999999", 256)
     _refused(stage, bond, stage.draw.quantity(), "1", "a bond that the venue does not have")
 
 
-@case("Takes a request beyond its quantity for refused", needs=ASKS)
+@case("Accepts that a request above its quantity is refused", needs=ASKS)
 def too_much(stage: Stage) -> None:
     most = stage.venue.cast.quantity
     _refused(stage, stage.draw.bond(), most + 100_000, "3", "more than your quantity")
@@ -67,7 +67,7 @@ def _refused(stage: Stage, bond: Bond, quantity: int, reason: str, why: str) -> 
     passes(stage, ask(stage))
 
 
-@case("Books a trade where it has hit the only quote", needs=ASKS)
+@case("Books a trade when it has hit the only quote", needs=ASKS)
 def hit_only(stage: Stage) -> None:
     request = ask(stage)
     offer = dealer_quotes(stage, stage.dealers[0], request, stage.draw.price(request.bond))
@@ -75,7 +75,7 @@ def hit_only(stage: Stage) -> None:
     stage.holds(request.bond, request.change(is_dealer=False))
 
 
-@case("Hits the quote that it is told, of three", needs=("ask-three", "hit-only"))
+@case("Hits the one of three quotes that it is told to hit", needs=("ask-three", "hit-only"))
 def hit_one_of_three(stage: Stage) -> None:
     request = ask(stage, stage.dealers)
     price = stage.draw.price(request.bond)
@@ -101,7 +101,7 @@ def hit_replaced(stage: Stage) -> None:
     stage.holds(request.bond, request.change(is_dealer=False))
 
 
-@case("Takes a hit of a quote that is gone for refused", needs=HITS)
+@case("Accepts that a hit of a quote that is gone is refused", needs=HITS)
 def hit_gone(stage: Stage) -> None:
     request = ask(stage)
     offer = dealer_quotes(stage, stage.dealers[0], request, stage.draw.price(request.bond))
@@ -112,7 +112,7 @@ def hit_gone(stage: Stage) -> None:
     passes(stage, request)
 
 
-@case("Takes a hit that races a withdrawal for refused where it comes second", needs=("hit-gone",))
+@case("Accepts that a hit is refused if a withdrawal comes first", needs=("hit-gone",))
 def hit_in_the_race(stage: Stage) -> None:
     request = ask(stage)
     offer = dealer_quotes(stage, stage.dealers[0], request, stage.draw.price(request.bond))
@@ -141,7 +141,7 @@ def hit_the_other(stage: Stage) -> None:
     stage.holds(request.bond, request.change(is_dealer=False))
 
 
-@case("Books no trade where it passes", needs=ASKS)
+@case("Books no trade when it passes", needs=ASKS)
 def passed(stage: Stage) -> None:
     request = ask(stage)
     dealer_quotes(stage, stage.dealers[0], request, stage.draw.price(request.bond))
@@ -149,7 +149,7 @@ def passed(stage: Stage) -> None:
     stage.holds(request.bond, 0)
 
 
-@case("Books no trade where its request expires", needs=ASKS)
+@case("Books no trade when its request expires", needs=ASKS)
 def expired(stage: Stage) -> None:
     request = ask(stage, seconds=stage.soon)
     dealer_quotes(stage, stage.dealers[0], request, stage.draw.price(request.bond))
@@ -158,7 +158,7 @@ def expired(stage: Stage) -> None:
     stage.holds(request.bond, 0)
 
 
-@case("Takes a hit of an expired request for refused", needs=("hit-gone", "expired"))
+@case("Accepts that a hit on an expired request is refused", needs=("hit-gone", "expired"))
 def hit_late(stage: Stage) -> None:
     request = ask(stage, seconds=stage.soon)
     offer = dealer_quotes(stage, stage.dealers[0], request, stage.draw.price(request.bond))

@@ -34,26 +34,41 @@ def parser() -> argparse.ArgumentParser:
         description="Starts a venue of its own, and tries a firm's desk against it, case by case.",
     )
     made.add_argument("firm", nargs="?", help="the desk's SenderCompID (49)")
-    made.add_argument("--role", choices=("dealer", "investor"), default="dealer")
-    made.add_argument("--only", action="append", default=[], metavar="CASE", help="and the Logon")
+    made.add_argument(
+        "--role",
+        choices=("dealer", "investor"),
+        default="dealer",
+        help="the desk's role (%(default)s)",
+    )
+    made.add_argument(
+        "--only",
+        action="append",
+        default=[],
+        metavar="CASE",
+        help="plays this case, those that it needs, and the Logon; once for each",
+    )
     made.add_argument("--list", action="store_true", help="prints the cases of the role")
     made.add_argument("--seed", type=int, help="draws names, numbers and the order of the cases")
-    made.add_argument("--port", type=int, default=0, help="where the desk connects to")
-    made.add_argument("--page", type=int, default=0, metavar="PORT", help="of the page")
+    made.add_argument("--port", type=int, default=0, help="the port that the desk connects to")
+    made.add_argument("--page", type=int, default=0, metavar="PORT", help="the port of the page")
     made.add_argument(
         "--patience",
         type=float,
         default=PATIENCE,
-        help="seconds for one task, and more than half of them for a deadline",
+        help="seconds for one task (%(default)g); a deadline has more than half of them",
     )
-    made.add_argument("--out", type=Path, default=Path("."), help="the folder of the report")
-    made.add_argument("--gateway", type=Path, default=GATEWAY, help="the folder of its programs")
+    made.add_argument("--out", type=Path, default=Path("."), help="the folder for the report")
+    made.add_argument(
+        "--gateway", type=Path, default=GATEWAY, help="the folder that has the gateway"
+    )
     made.add_argument("--venue", nargs="+", help="the words of the venue's program")
-    made.add_argument("--clock", type=Path, metavar="LIBRARY", help="moves the clock: next-day")
-    made.add_argument("--key", type=Path, help="the Ed25519 key of the venue's host: signs")
-    made.add_argument("--days", type=int, default=VALID, help="for which the report holds")
-    made.add_argument("--verify", type=Path, metavar="REPORT", help="checks a report and ends")
-    made.add_argument("--public-key", type=Path, help="with which --verify checks")
+    made.add_argument("--clock", type=Path, metavar="LIBRARY", help="moves clocks, for next-day")
+    made.add_argument("--key", type=Path, help="the Ed25519 key that signs the report")
+    made.add_argument(
+        "--days", type=int, default=VALID, help="for which the report holds (%(default)d)"
+    )
+    made.add_argument("--verify", type=Path, metavar="REPORT", help="checks a report, and ends")
+    made.add_argument("--public-key", type=Path, help="the key for --verify")
     return made
 
 

@@ -185,7 +185,7 @@ class Trial:
         if self.outcomes[FIRST].outcome != PASSED:
             raise Unreachable("the desk has not logged on as it has to")
         if self.broken_by:
-            raise Unreachable("the desk's session is not in order behind %s" % self.broken_by)
+            raise Unreachable("the desk's session is not in order after %s" % self.broken_by)
         if not stage.relay.has_line() and one.name != NEXT_DAY:
             self._brought_back(stage)
 

@@ -74,29 +74,29 @@ class SessionCases:
         case("Logs on, and answers the TestRequest that follows")(self.logon)
         case("Sends a Heartbeat as often as its Logon says")(self.heartbeat)
         case("Logs out, and is answered", acts)(self.logout)
-        case("Goes on behind a line that was cut, with its numbers", acts)(self.lost_line)
+        case("Goes on with its numbers after its line was cut", acts)(self.lost_line)
         case("Is refused with a wrong password, and logs on with the right one", ("logout",))(
             self.password
         )
         case("Asks for a message of the venue that was lost, and acts on it", acts)(
             self.gap_to_the_desk
         )
-        case("Sends again as it was, or passes over, a message of its own that was lost", acts)(
-            self.gap_of_the_desk
-        )
-        case("Has a message come again that its line was cut on", ("lost-line", "gap-of-the-desk"))(
-            self.lost_with_its_line
-        )
+        case(
+            "Sends again as it was, or fills the gap of, a message of its own that was lost", acts
+        )(self.gap_of_the_desk)
+        case(
+            "Gets a message again during which its line was cut", ("lost-line", "gap-of-the-desk")
+        )(self.lost_with_its_line)
         case("Takes what came while it was away", ("lost-line", gap))(self.away)
         case("Books the trade that was made while it was away", ("away", self.trade))(
             self.trade_while_away
         )
-        case("Goes on behind a kill of the venue", ("lost-line",))(self.restart)
+        case("Goes on after the venue was killed", ("lost-line",))(self.restart)
         case("Is suspended, and logs on once that is over", ("lost-line",))(self.suspended)
         case(
             "Comes back with a lost store, by the operator's reset", ("lost-line", gap, self.trade)
         )(self.lost_store)
-        case("Takes the end of the day", ("suspended",))(self.day_end)
+        case("Copes with the end of the day", ("suspended",))(self.day_end)
         if self.has_clock:
             case("Begins the next day with new numbers", ("day-end",))(self.next_day)
         return case
