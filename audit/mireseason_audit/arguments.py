@@ -63,7 +63,7 @@ class Commands:
         text = "what was sent, as `live --frames` prints it"
         parser.add_argument("--sent", type=Path, help=text)
         venue = os.environ.get("VENUE", shlex.quote(str(VENUE)))
-        text = "the words of the venue's program (VENUE)"
+        text = "the command line of the venue's program (VENUE)"
         parser.add_argument("--venue", default=venue, help=text)
         text = "processes at one time (%(default)s)"
         parser.add_argument("--jobs", type=int, default=AT_ONCE, help=text)
@@ -82,7 +82,7 @@ def with_evidence(parser: argparse.ArgumentParser) -> None:
     parser.add_argument("--gateway-key", type=Path, action="append", default=[], help=text)
     text = "a checkpoint that was kept outside of the log's database; once for each file"
     parser.add_argument("--checkpoint", type=Path, action="append", default=[], help=text)
-    parser.add_argument("--date", type=date_of, help="the date that the log has to be of: YYYYMMDD")
+    parser.add_argument("--date", type=date_of, help="the date that the log has to have: YYYYMMDD")
     text = "the name that its venue has to have; - for a gateway's only venue"
     parser.add_argument("--venue-name", metavar="NAME", help=text)
     text = "the SHA-256 that the day's program has to have"

@@ -54,13 +54,13 @@ def bond_of(row: Mapping[str, object]) -> Bond:
     if not isinstance(name, str) or not BOND.fullmatch(name):
         raise Wrong("entry 0: the configuration has a bond named %r" % (name,))
     if not isinstance(currency, str) or (currency and not CURRENCY.fullmatch(currency)):
-        text = "entry 0: the currency of bond %s is %r: three capital letters are meant"
+        text = "entry 0: the currency of bond %s is %r: it has to be three capital letters"
         raise Wrong(text % (name, currency))
     if quoted not in WAYS:
-        text = 'entry 0: bond %s is quoted in %r: "32nds" or "decimals" is meant'
+        text = 'entry 0: bond %s is quoted in %r: it has to be "32nds" or "decimals"'
         raise Wrong(text % (name, quoted))
     words, isin = row.get("name", ""), row.get("isin", "")
     if not isinstance(words, str) or len(words) > LONGEST_NAME or not isinstance(isin, str):
-        text = "entry 0: bond %s has a name or an isin that is none"
+        text = "entry 0: bond %s has a wrong name or isin"
         raise Wrong(text % name)
     return Bond(name, currency, quoted == "32nds", printable(words), isin)

@@ -107,7 +107,7 @@ class ChainReader:
         if entry.place != place:
             text = "entry %d is missing" % place
             if before is not None:
-                text += ": behind %d comes %d" % (before.place, entry.place)
+                text += ": after %d comes %d" % (before.place, entry.place)
             self.tell("order", entry._replace(place=place), text)
         if before is not None and self._has_chain and entry.moment < before.moment:
             text = "its moment %s is before %s, that of entry %d"
@@ -132,7 +132,7 @@ class ChainReader:
         elif entry.number is not None:
             before, _ = self.found.numbers.get(entry.firm, NO_NUMBER)
             if entry.number <= before:
-                text = "number %d of %s's session comes behind %d"
+                text = "number %d of %s's session comes after %d"
                 self.tell("number", entry, text % (entry.number, entry.firm, before))
             self.found.numbers[entry.firm] = max(before, entry.number), entry.place
 
@@ -152,7 +152,7 @@ class ChainReader:
             text = "its line is of %s, and its row of %s" % (time, entry.moment)
             self.tell("time", entry, text)
         if (firm, time) == (entry.firm, entry.moment):
-            self.tell("line", entry, "its line is none that a gateway writes")
+            self.tell("line", entry, "its line is not one that a gateway writes")
 
 
 def is_step_line(line: bytes, firm: str | None, moment: str) -> bool:

@@ -73,7 +73,7 @@ class DoorReader:
         while self._next is not None:
             event = self._next
             if event.entry > self._place:
-                text = "it stands behind entry %d, and the last one is %d"
+                text = "it stands after entry %d, and the last one is %d"
                 self._tell_event("behind", event, text % (event.entry, self._place))
             self._take_event(event, "")
             self._next = next(self._events, None)
@@ -114,7 +114,7 @@ class DoorReader:
 
     def _check_received(self, entry: Entry, received: str) -> None:
         if received[:MILLISECOND] > entry.moment:
-            text = "it was received at %s, behind its moment %s"
+            text = "it was received at %s, after its moment %s"
             self._tell_entry("received", entry, text % (received, entry.moment))
         if entry.firm is None:
             return
@@ -172,7 +172,7 @@ class DoorReader:
             text = "it does not follow on the row before it, as that is now"
             self._tell_event("before", event, text)
         if before is not None and event.entry < before.entry:
-            text = "it stands behind entry %d, and the row before it behind %d"
+            text = "it stands after entry %d, and the row before it after %d"
             self._tell_event("entry", event, text % (event.entry, before.entry))
         if before is not None and event.term < before.term:
             text = "its term %d is before %d, that of the row before it"
@@ -187,17 +187,17 @@ class DoorReader:
             text = "its moment %s is before %s, that of the row before it"
             self._tell_event("moment", event, text % (event.moment, before))
         elif event.moment[:MILLISECOND] < self._moment:
-            text = "its moment %s is before %s, that of entry %d, behind which it stands"
+            text = "its moment %s is before %s, that of entry %d, after which it stands"
             words = text % (event.moment, self._moment, event.entry)
             self._tell_event("moment of entry", event, words)
         elif next_moment and event.moment[:MILLISECOND] > next_moment:
-            text = "its moment %s is behind %s, that of the entry behind it"
+            text = "its moment %s is after %s, that of the entry after it"
             self._tell_event("moment behind", event, text % (event.moment, next_moment))
 
     def _check_columns(self, event: ConnectionEvent) -> None:
         """Which columns each event has."""
         if event.event not in (LOGON, END, REFUSED, STRANGER, LEFT_OUT):
-            self._tell_event("event", event, "it is `%s`, which there is not" % event.event)
+            self._tell_event("event", event, "it is `%s`, and there is no such event" % event.event)
             return
         for column, is_there, should in (
             ("number", event.number is not None, event.event in HAS_NUMBER),
@@ -219,7 +219,7 @@ class DoorReader:
 
     def _begin(self, event: ConnectionEvent, firm: str, number: int) -> None:
         if number <= self._last_number:
-            text = "connection %d comes behind connection %d"
+            text = "connection %d comes after connection %d"
             self._tell_event("number", event, text % (number, self._last_number))
         self._last_number = max(self._last_number, number)
         before = self._open.get(firm)
@@ -234,7 +234,7 @@ class DoorReader:
     def _end(self, event: ConnectionEvent, firm: str, number: int) -> None:
         logon = self._open.get(firm)
         if logon is None or logon.number != number:
-            text = "connection %d of %s ends, which it has not" % (number, firm)
+            text = "connection %d of %s ends, and it has no such connection" % (number, firm)
             self._tell_event("end", event, text)
             return
         if (logon.address, logon.certificate) != (event.address, event.certificate):

@@ -94,7 +94,7 @@ class Evidence:
         text = "the log has all up to entry %d of %d, as %s says"
         words = text % (last.place, end, last.source)
         if last.place < end:
-            words += "; nothing from outside says what came behind that"
+            words += "; nothing from outside says what came after that"
         return words if self.keys else words + "; its signature was not checked: no --gateway-key"
 
     def _judge_seal(self, log: Log, verdict: Verdict, seal: Sealed) -> None:

@@ -75,7 +75,7 @@ class TwoFiles:
                 return b"".join(lines)
             lines.append(line)
             left -= len(line)
-        raise Unreadable("%s: no line `%%%%` stands behind a configuration" % self.day)
+        raise Unreadable("%s: no line `%%%%` follows a configuration" % self.day)
 
     def _messages(self) -> Iterator[tuple[str, int, bytes]]:
         numbers: dict[str, int] = {}

@@ -81,7 +81,7 @@ class KeptReader(WireReader):
         if row.epoch < self._epoch:
             return "its epoch is %d" % row.epoch
         if row.number <= before:
-            return "it comes behind %d" % before
+            return "it comes after %d" % before
         return None
 
     def _begin(self, row: Outgoing) -> None:
@@ -95,7 +95,9 @@ class KeptReader(WireReader):
         """Copies are the last messages of the venue in the epoch before, in their order."""
         text = "message %d of its session" % row.number
         if self._copied is None:
-            return Finding(row.firm, text + ": a copy stands behind what is none", found=row.bytes)
+            return Finding(
+                row.firm, text + ": a copy stands after a message that is none", found=row.bytes
+            )
         if row.sent != self._copied + 1:
             text += " copies number %s where %d comes next" % (row.sent, self._copied + 1)
             return Finding(row.firm, text, found=row.bytes)
@@ -132,7 +134,7 @@ def mark_fault(row: Outgoing) -> str | None:
     if row.copy and (row.sent is None or row.epoch == 0):
         return "it is a copy of nothing"
     if row.dropped and (row.sent is not None or row.kind not in REJECTS):
-        return "it was dropped, and is none that a session drops"
+        return "it was dropped, and a session drops no such message"
     if not TIME.fullmatch(row.moment or ""):
         return "it was kept at %s, which is no time" % row.moment
     return None
@@ -152,5 +154,5 @@ def form_fault(row: Outgoing) -> str | None:
     if CARRIED in row.bytes:
         return "it carries what the log does not say"
     if own is None or not own.fullmatch(row.bytes[header.end() + 1 : -TRAILER_BYTES]):
-        return "it carries nothing, and is none that a session keeps of its own"
+        return "it carries nothing, and a session keeps no such message of its own"
     return None

@@ -60,7 +60,7 @@ def parser_of() -> argparse.ArgumentParser:
     parser.add_argument("--version", action=PrintVersion)
     parser.set_defaults(run=act)
     commands = Commands(parser)
-    text = "holds what was sent, and the record, against the venue"
+    text = "checks what was sent, and the record, against the venue"
     check = commands.add("check", text, do_check)
     check.epilog = checks_text()
     check.formatter_class = argparse.RawDescriptionHelpFormatter
@@ -70,9 +70,9 @@ def parser_of() -> argparse.ArgumentParser:
     seal.add_argument("--key", type=Path, required=True, help="a private Ed25519 key in PEM")
     seal.add_argument("--out", type=Path, help=SEAL_HELP)
     add_page(commands)
-    pair = commands.add("pair", "second days beside this one, for one dealer", do_pair)
+    pair = commands.add("pair", "compares the day with second days, for one dealer", do_pair)
     pair.add_argument("dealer", metavar="DEALER", help="a dealer of the day")
-    pair.add_argument("--seed", type=int, default=1, help="of the prices that are drawn")
+    pair.add_argument("--seed", type=int, default=1, help="the seed of the drawn prices")
     add_tables(commands)
     add_receive(commands)
     return parser
@@ -87,7 +87,7 @@ def add_page(commands: Commands) -> None:
     with_evidence(page)
     page.add_argument("--sign", type=Path, help="a private Ed25519 key that signs the pages")
     with_moment(page)
-    text = "who stands behind the names: write the reports of trades beside the pages"
+    text = "who the names belong to: writes the reports of trades beside the pages"
     page.add_argument("--parties", type=Path, help=text)
     text = "make the pages anew while the log grows; DIR/index.html leads to them"
     page.add_argument("--follow", action="store_true", help=text)
@@ -102,7 +102,7 @@ def add_tables(commands: Commands) -> None:
     text = "an investor: its own file for best execution"
     export.add_argument("--for", dest="firm", metavar="FIRM", help=text)
     trades = commands.add("trades", "prints each firm's confirmations", do_trades)
-    trades.add_argument("--for", dest="firm", metavar="FIRM", help="those of one firm")
+    trades.add_argument("--for", dest="firm", metavar="FIRM", help="only those of this firm")
     stats = commands.add("stats", "prints the figures of the day", do_stats)
     stats.add_argument("--json", action="store_true", help="as JSON")
     record = commands.add("record", "writes a record that the law asks for", do_record)
@@ -114,7 +114,7 @@ def add_tables(commands: Commands) -> None:
     text = "an empty folder, or a new one"
     reports.add_argument("folder", metavar="FOLDER", type=Path, help=text)
     for parser in (record, reports):
-        text = "who stands behind the names (parties.toml)"
+        text = "who the names belong to (parties.toml)"
         parser.add_argument("--parties", type=Path, default=Path("parties.toml"), help=text)
     did = commands.add("acts", "prints what operators did", do_acts)
     for parser in (export, trades, record, reports, did):

@@ -160,7 +160,7 @@ def checked(kind: str, value: object, *keys: str, where: str = "parties") -> str
         return value
     form, words = FORMS.get(kind, (None, "true or false"))
     if form is None or not isinstance(value, str) or not form.fullmatch(value):
-        text = "%s: %s is %r: %s are meant"
+        text = "%s: %s is %r: it has to be %s"
         raise Unreadable(text % (where, ".".join(keys), value, words))
     return value
 

@@ -259,7 +259,7 @@ def reasons_of(text: bytes) -> tuple[tuple[tuple[str, str], ...], bytes]:
         line, feed, text = text.partition(b"\n")
         found = REASON_LINE.fullmatch(line)
         if not feed or not found:
-            raise Wrong("entry 0 has a line `reason` that is none: %r" % line[:MOST_SHOWN])
+            raise Wrong("entry 0 has a wrong line `reason`: %r" % line[:MOST_SHOWN])
         reasons.append((found[1].decode(), found[2].decode()))
     names, words = zip(*reasons) if reasons else ((), ())
     if len(set(names)) != len(names) or len(set(words)) != len(words):

@@ -193,7 +193,7 @@ def compared_door(seal: Sealed, now: Sealed, kept: Kept) -> Iterator[Finding]:
         more = count_of(after) - count_of(before)
         text = "its rows are not those that were sealed"
         if more > 0 and (first == "0" or kept.event_hash_at(count_of(before)) == last):
-            text = "its rows go on behind those that were sealed: %d more" % more
+            text = "its rows go on after those that were sealed: %d more" % more
         yield Finding(DOOR, text)
 
 
@@ -207,7 +207,7 @@ def compared_messages(seal: Sealed, now: Sealed, kept: Kept) -> Iterator[Finding
                 more = count_of(after) - count_of(before)
                 text = "its %s are not those that were sealed" % whose
                 if more > 0 and kept.first(word, firm, count_of(before)) == before:
-                    text = "its %s go on behind those that were sealed: %d more" % (whose, more)
+                    text = "its %s go on after those that were sealed: %d more" % (whose, more)
                 yield Finding(firm, text)
 
 
@@ -241,7 +241,7 @@ def at_the_end(whole: int, last: int, there: int) -> str:
         return between(whole, last) + "; the log ends at entry %d" % there
     if there == last:
         return between(whole, last)
-    more = "the log goes on to entry %d, behind entry %d, the last that was sealed" % (there, last)
+    more = "the log goes on to entry %d, after entry %d, the last that was sealed" % (there, last)
     return more if whole > last else "%s; %s" % (between(whole, last), more)
 
 

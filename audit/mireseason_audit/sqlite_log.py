@@ -115,7 +115,7 @@ class SqliteLog(SqlLog):
         ((pages,),), ((size,),) = self.rows("PRAGMA page_count"), self.rows("PRAGMA page_size")
         more = self._path.stat().st_size - pages * size
         if more > 0 and not has_more(self._path):
-            yield "%d bytes behind the last page" % more
+            yield "%d bytes after the last page" % more
 
     def close(self, failed: bool = False) -> None:
         self._connection.close()

@@ -123,7 +123,7 @@ class Verdict:
         """Evidence that ends before the log says nothing of what is behind it."""
         if self.reach < 0 or self.reach >= self.last_place:
             return Look(items.CUT, bool(self.uncut), self.uncut or looks.NO_CUT)
-        left = "cut-off end behind entry %d" % self.reach
+        left = "cut-off end after entry %d" % self.reach
         return Look(items.CUT, False, self.uncut, left=left)
 
     @property

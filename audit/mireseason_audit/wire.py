@@ -107,7 +107,7 @@ def header_fault(data: bytes, number: int, firm: str, carries: bool) -> str | No
     if not carries and CARRIED in data:
         return "it carries what the log does not say"
     if not carries and not OWN.match(data):
-        return "it carries nothing, and is none that a session sends of itself"
+        return "it carries nothing, and a session sends no such message of itself"
     return None
 
 

@@ -163,7 +163,7 @@ MORE = {
     "a kept message as dropped": (
         "UPDATE outgoing SET dropped = 1 WHERE sent = 3",
         BARE,
-        "and is none that a session drops",
+        "and a session drops no such message",
     ),
     "a Reject that never was": (
         "INSERT INTO outgoing SELECT firm, epoch, (SELECT max(number) + 1 FROM outgoing o WHERE o.firm ="

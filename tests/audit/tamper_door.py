@@ -52,7 +52,7 @@ def anew_received(log: Tamperer) -> Change:
     log.chain_anew(row[0])
     pattern = r"entries: entry %d: it was received at %s, which is no time" % (row[0], text)
     if len(text) == 15:
-        text = r"entries: entry %d: it was (?:received|made) at 23:59:59.999999, (?:behind|and) its"
+        text = r"entries: entry %d: it was (?:received|made) at 23:59:59.999999, (?:after|and) its"
         pattern = text % row[0]
     return Change("when entry %d was received, and the chain made anew" % row[0], pattern)
 
@@ -163,7 +163,7 @@ def anew_ended(log: Tamperer) -> Change:
     pattern = r"entries: entry %d: number \d+ of %s's session came on connection %d, which had"
     what = "an earlier end of connection %d" % number
     if any(one[4] > last[number] - 1 for one in log.rows(EVENTS) if one[0] < row[0]):
-        return Change(what, r"door: row %d: it stands behind entry" % row[0])
+        return Change(what, r"door: row %d: it stands after entry" % row[0])
     return Change(what, pattern % (last[number], row[6], number))
 
 

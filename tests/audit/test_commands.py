@@ -108,7 +108,7 @@ class Commands(LogCase):
             day.write_bytes(text)
             ran = audit("check", day, "--sent", sent)
             self.assertEqual((ran.status, ran.out), (2, ""), text[:9])
-            self.assertIn("no line `%%` stands behind a configuration", ran.err)
+            self.assertIn("no line `%%` follows a configuration", ran.err)
 
     def test_two_files_are_paged(self) -> None:
         """One line more has bytes that are no message: the venue drops them without an answer."""
@@ -241,9 +241,9 @@ class Commands(LogCase):
         self.assertEqual(
             told,
             [
-                "entries: entry 336: the log goes on to entry 337, behind entry 336, the last that was"
+                "entries: entry 336: the log goes on to entry 337, after entry 336, the last that was"
                 " sealed",
-                "ALPHA: its messages of its session go on behind those that were sealed: 1 more",
+                "ALPHA: its messages of its session go on after those that were sealed: 1 more",
             ],
         )
         beat.do(
@@ -330,10 +330,10 @@ class Commands(LogCase):
         """A firm's pages are as many as there are places."""
         self.change("UPDATE entry SET place = 1000000000000000 WHERE place = 336")
         ran = audit("check", self.log)
-        self.assertIn("entry 336 is missing: behind 335 comes 1000000000000000", ran.out)
+        self.assertIn("entry 336 is missing: after 335 comes 1000000000000000", ran.out)
         ran = audit("page", self.log, self.place / "pages")
         self.assertEqual((ran.status, ran.err), (1, ""))
-        self.assertIn("entry 336 is missing: behind 335 comes 1000000000000000", ran.out)
+        self.assertIn("entry 336 is missing: after 335 comes 1000000000000000", ran.out)
         text = "entries: no pages are written of 336 entries with places up to 1000000000000000"
         self.assertIn(text, ran.out)
         self.assertEqual(list((self.place / "pages").iterdir()), [])

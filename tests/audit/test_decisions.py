@@ -230,7 +230,7 @@ def test_what_is_said_of_a_bond_and_an_order() -> None:
     }
     said = Parties({"bond": bonds, "firm": {"INV1": firm}})
     assert [said.is_cleared(bond) for bond in ("B1", "B2")] == ["true", "false"]
-    with pytest.raises(Unreadable, match="bond.B3.cleared is 'yes': true or false are meant"):
+    with pytest.raises(Unreadable, match="bond.B3.cleared is 'yes': it has to be true or false"):
         said.is_cleared("B3")
     for trader, order, expected in (
         ("T1", "o1", "of the order"),

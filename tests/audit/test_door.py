@@ -156,7 +156,7 @@ class Doors(unittest.TestCase):
             (
                 2,
                 {"received": "09:00:01.001000"},
-                "entry 2: it was received at 09:00:01.001000," " behind its moment 09:00:01.000",
+                "entry 2: it was received at 09:00:01.001000," " after its moment 09:00:01.000",
             ),
             (
                 3,
@@ -194,28 +194,28 @@ class Doors(unittest.TestCase):
                 4,
                 {"moment": "09:00:01.999999"},
                 "row 4: its moment 09:00:01.999999 is before"
-                " 09:00:02.000, that of entry 3, behind which it stands",
+                " 09:00:02.000, that of entry 3, after which it stands",
             ),
             (
                 3,
                 {"moment": "09:00:02.001000"},
-                "row 3: its moment 09:00:02.001000 is behind"
-                " 09:00:02.000, that of the entry behind it",
+                "row 3: its moment 09:00:02.001000 is after"
+                " 09:00:02.000, that of the entry after it",
             ),
             (3, {"moment": "9:00"}, "row 3: its moment 9:00 is no time"),
-            (4, {"entry": 1}, "row 4: it stands behind entry 1, and the row before it behind 2"),
-            (8, {"entry": 6}, "row 8: it stands behind entry 6, and the last one is 5"),
-            (2, {"event": "let in"}, "row 2: it is `let in`, which there is not"),
+            (4, {"entry": 1}, "row 4: it stands after entry 1, and the row before it after 2"),
+            (8, {"entry": 6}, "row 8: it stands after entry 6, and the last one is 5"),
+            (2, {"event": "let in"}, "row 2: it is `let in`, and there is no such event"),
             (1, {"number": None}, "row 1: it is `logon`, without number"),
             (3, {"firm": "DLR1"}, "row 3: it is `stranger`, with firm"),
             (4, {"why": None}, "row 4: it is `end`, without why"),
-            (5, {"number": 1}, "row 5: connection 1 comes behind connection 1"),
+            (5, {"number": 1}, "row 5: connection 1 comes after connection 1"),
             (
                 6,
                 {"firm": "DLR1"},
                 "row 6: connection 5 of DLR1 begins, and its connection 2 has" " not ended",
             ),
-            (8, {"number": 3}, "row 8: connection 3 of DLR1 ends, which it has not"),
+            (8, {"number": 3}, "row 8: connection 3 of DLR1 ends, and it has no such connection"),
             (
                 8,
                 {"address": "192.0.2.9:1"},
@@ -388,7 +388,7 @@ class DrawnDay(unittest.TestCase):
             marks = ", ".join(["?"] * len(values))
             connection.execute("INSERT INTO connection VALUES (%s)" % marks, values)
             ran = audit("check", log, "--key", public)
-            text = "door: its rows go on behind those that were sealed: 1 more"
+            text = "door: its rows go on after those that were sealed: 1 more"
             self.assertIn(text, ran.out.splitlines())
             connection.execute("DELETE FROM connection WHERE place >= ?", (last,))
         ran = audit("check", log, "--key", public)

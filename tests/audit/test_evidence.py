@@ -319,4 +319,4 @@ def test_bytes_behind_the_last_page(day: Day) -> None:
     with day.log.open("ab") as file:
         file.write(b"more")
     with SqliteSource(day.log).open() as log:
-        assert list(log.beyond_form()) == ["4 bytes behind the last page"]
+        assert list(log.beyond_form()) == ["4 bytes after the last page"]

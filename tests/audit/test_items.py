@@ -182,7 +182,7 @@ def test_a_checkpoint_of_the_beginning(day: Day, tmp_path: Path, evidence: Evide
     (look,) = [one for one in verdict.looks if one.name == "cut-off end"]
     assert look.kind == "in part"
     text = "reach up to entry 0 of %d; not checked: " % verdict.last_place
-    assert text in verdict.words and "cut-off end behind entry 0" in verdict.words
+    assert text in verdict.words and "cut-off end after entry 0" in verdict.words
 
 
 def test_another_days_checkpoint_reaches_nowhere(

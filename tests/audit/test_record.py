@@ -88,7 +88,7 @@ class Chains(unittest.TestCase):
         second = entry(1, "09:00:01.000", b"clock 09:00:01.000", first.hash)
         third = entry(2, "09:00:02.000", b"clock 09:00:02.000", second.hash)
         self.assertEqual(self.found(first, second, third), [])
-        self.assertIn("entry 1 is missing: behind 0 comes 2", self.found(first, third))
+        self.assertIn("entry 1 is missing: after 0 comes 2", self.found(first, third))
         self.assertIn("entry 0 is missing", self.found(second))
         earlier = entry(2, "09:00:00.500", b"clock 09:00:00.500", second.hash)
         self.assertEqual(len(self.found(first, second, earlier)), 1)
@@ -117,7 +117,7 @@ class Chains(unittest.TestCase):
         ):
             second = entry(1, moment, line, first.hash, firm="DLR1", number=1)
             found = self.found(first, second)
-            expected = [] if is_right else ["its line is none that a gateway writes"]
+            expected = [] if is_right else ["its line is not one that a gateway writes"]
             self.assertEqual(found, expected, line)
 
     def test_each_entry_that_is_spoilt_is_told(self) -> None:
@@ -379,7 +379,7 @@ class Seals(unittest.TestCase):
 
     def test_how_a_log_ends(self) -> None:
         self.assertEqual(self.found(120, 120), [])
-        behind = "the log goes on to entry 234, behind entry %d, the last that was sealed"
+        behind = "the log goes on to entry 234, after entry %d, the last that was sealed"
         self.assertEqual(self.found(200, 234), [behind % 200])
         self.assertEqual(self.found(120, 234, "hash120"), [behind % 120])
         others = "from entry 101 to 120 they are not those that were sealed"
@@ -390,8 +390,8 @@ class Seals(unittest.TestCase):
         """Those that were sealed are still there, or not."""
         for word, whose in (("sent", "messages"), ("session", "messages of its session")):
             for before, after, kept, text in (
-                ("2 d", "5 e", "2 d", "go on behind those that were sealed: 3 more"),
-                ("0 d", "1 e", "0 d", "go on behind those that were sealed: 1 more"),
+                ("2 d", "5 e", "2 d", "go on after those that were sealed: 3 more"),
+                ("0 d", "1 e", "0 d", "go on after those that were sealed: 1 more"),
                 ("2 d", "5 e", "2 x", "are not those that were sealed"),
                 ("5 d", "2 e", "5 d", "are not those that were sealed"),
                 ("2 d", "2 e", "2 d", "are not those that were sealed"),

@@ -253,7 +253,7 @@ def test_what_the_parties_lack_is_told_and_not_made_up(run: Audit, tmp_path: Pat
         ("[venue", "can't be read"),
         ('[venue]\nmic = "x"\n', "venue.mic is 'x'"),
         ('[bond.US91282CBB27]\nisin = "XS0000000010"\n', "whose last digit is not that of an"),
-        ('[firm.GROVE]\ndea = "no"\n', "true or false are meant"),
+        ('[firm.GROVE]\ndea = "no"\n', "it has to be true or false"),
     ],
 )
 def test_parties_that_are_none(run: Audit, tmp_path: Path, text: str | None, told: str) -> None:
