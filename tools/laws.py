@@ -22,7 +22,7 @@ from pathlib import Path
 
 from made import filled, write
 from promises import DOC, Clause, FileReader, head_of, in_cell
-from reading_list import lines_to_read
+from reading_list import laws_of, lines_to_read
 
 ROOT = Path(__file__).resolve().parent.parent
 SCRIPT = "tools/laws.py"
@@ -339,10 +339,13 @@ def row_in_short(root: Path, laws: list[Law]) -> list[str]:
     return [on_page(sentence), cited, on_page(laws[0].ends), rounded(lines_to_read(root, names))]
 
 
-def row_in_full(laws: list[Law]) -> list[str]:
-    """The row of a law in the table of its section."""
+def row_in_full(root: Path, laws: list[Law]) -> list[str]:
+    """The row of a law in the table of its section. A function with arguments has no number of lines."""
     said = f"{laws[0].sentence} {laws[0].more}".strip()
-    return [on_page(said), ", ".join(law.cited() for law in laws), on_page(laws[0].ends)]
+    cited = ", ".join(law.cited() for law in laws)
+    names = tuple(law.name for law in laws)
+    lines = lines_to_read(root, names) if all(name in laws_of(root) for name in names) else 0
+    return [on_page(said), cited, on_page(laws[0].ends), rounded(lines) if lines else ""]
 
 
 def comment_above(text: str, name: str) -> str:
@@ -380,12 +383,12 @@ def table_lines(laws: Laws, name: str) -> Iterator[str]:
         raise LookupError(f"{SCRIPT} has no table {name}")
     is_short = name == ONE_PAGE
     yield "| sentence | law | where it ends | lines |" if is_short else (
-        "| what is promised | what carries it | where it ends |"
+        "| what is promised | what carries it | where it ends | lines |"
     )
-    yield "|---|---|---|---|" if is_short else "|---|---|---|"
+    yield "|---|---|---|---|"
     for paths in ROWS[name]:
         row = [laws.named(path) for path in paths.split()]
-        cells = row_in_short(laws.root, row) if is_short else row_in_full(row)
+        cells = (row_in_short if is_short else row_in_full)(laws.root, row)
         yield "| %s |" % " | ".join(cell or "-" for cell in cells)
 
 

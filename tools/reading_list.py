@@ -76,34 +76,58 @@ def cited_by(text: str, clauses: str) -> list[Definitions]:
     return cited
 
 
+@cache
+def read_once(path: Path) -> str:
+    """The text of a file."""
+    return path.read_text(encoding="utf-8")
+
+
+@cache
+def text_of(root: Path, one: Definitions) -> str | None:
+    """A file of definitions, or none where there is no such file: std's, and what code declares."""
+    path = root / "crates" / one[0] / "specs" / f"{one[1]}.antt"
+    return read_once(path) if path.exists() else None
+
+
+@cache
+def used_by(text: str) -> list[Definitions]:
+    """The files of definitions that one of them uses."""
+    return [(crate, file) for crate, file, _, _ in USE.findall(text)]
+
+
 def below(root: Path, cited: list[Definitions]) -> dict[Definitions, str]:
     """These files and all that they use, with their texts. What code declares, and std, are none."""
     found: dict[Definitions, str] = {}
     left = list(cited)
     while left:
-        crate, file = left.pop()
-        path = root / "crates" / crate / "specs" / f"{file}.antt"
-        if (crate, file) in found or not path.exists():
-            continue
-        found[(crate, file)] = path.read_text(encoding="utf-8")
-        left += [(other, name) for other, name, _, _ in USE.findall(found[(crate, file)])]
+        one = left.pop()
+        text = None if one in found else text_of(root, one)
+        if text is not None:
+            found[one] = text
+            left += used_by(text)
     return found
+
+
+@cache
+def named_in(text: str) -> frozenset[Declared]:
+    """The types and constants that a file of definitions names."""
+    found: set[Declared] = set()
+    for crate, modules, name, owner, names in DECLARED.findall(text):
+        file = modules.rstrip(".").replace(".", "/")
+        if name != "TheConstants":
+            found.add(Declared(crate, file, name))
+            continue
+        constants = re.findall(r"(\w+)(?: as \w+)?", names) or re.findall(r"\w+", owner)
+        found |= {Declared(crate, file, constant) for constant in constants}
+    return frozenset(found)
 
 
 def declared_in(texts: list[str]) -> set[Declared]:
     """The types and constants that definitions name."""
-    found: set[Declared] = set()
-    for text in texts:
-        for crate, modules, name, owner, names in DECLARED.findall(text):
-            file = modules.rstrip(".").replace(".", "/")
-            if name != "TheConstants":
-                found.add(Declared(crate, file, name))
-                continue
-            constants = re.findall(r"(\w+)(?: as \w+)?", names) or re.findall(r"\w+", owner)
-            found |= {Declared(crate, file, constant) for constant in constants}
-    return found
+    return {one for text in texts for one in named_in(text)}
 
 
+@cache
 def lines_of(text: str) -> int:
     """How many lines of definitions a text has."""
     others = ("use ", "pub use ", "--", "//", "#[")
@@ -112,6 +136,7 @@ def lines_of(text: str) -> int:
     )
 
 
+@cache
 def lines_declared(root: Path, declared: Declared) -> int:
     """How many lines a type, or a constant, of the code has; none where it is std's."""
     source = root / "crates" / declared.crate / "src"
@@ -120,7 +145,7 @@ def lines_declared(root: Path, declared: Declared) -> int:
     )
     if path is None:
         return 0
-    text = path.read_text(encoding="utf-8")
+    text = read_once(path)
     kind = r"^(?:pub(?:\([\w ]+\))? )?(?:struct|enum) " + declared.name + r"\b.*?(?:;$|^\})"
     found = re.search(kind, text, re.MULTILINE | re.DOTALL)
     if found is not None:
@@ -149,12 +174,20 @@ class Read:
         return sum(self.files.values()) + sum(self.types.values())
 
 
-def read_for(root: Path, names: tuple[str, ...]) -> list[Read]:
-    """What is read of each crate to judge some laws, the highest crate first."""
+def definitions_for(
+    root: Path, names: tuple[str, ...]
+) -> tuple[dict[Definitions, str], set[Declared]]:
+    """The files of definitions that are read to judge some laws, and the types and constants."""
     laws = [law_named(root, name) for name in names]
     files = below(root, [file for law in laws for file in cited_by(law.text, law.contract)])
-    declared = sorted(declared_in(list(files.values())), key=lambda d: (d.file, d.name))
-    listed = (root / "crates.txt").read_text(encoding="utf-8").split("\n")
+    return files, declared_in(list(files.values()))
+
+
+def read_for(root: Path, names: tuple[str, ...]) -> list[Read]:
+    """What is read of each crate to judge some laws, the highest crate first."""
+    files, types_named = definitions_for(root, names)
+    declared = sorted(types_named, key=lambda d: (d.file, d.name))
+    listed = read_once(root / "crates.txt").split("\n")
     crates = [line.split(":")[0].split()[0] for line in listed if ":" in line and line[0] != "#"]
     found: list[Read] = []
     for crate in reversed(crates):
@@ -170,7 +203,9 @@ def read_for(root: Path, names: tuple[str, ...]) -> list[Read]:
 
 def lines_to_read(root: Path, names: tuple[str, ...]) -> int:
     """How many lines are read to judge some laws."""
-    return sum(one.lines() for one in read_for(root, names))
+    files, declared = definitions_for(root, names)
+    of_types = sum(lines_declared(root, one) for one in declared)
+    return sum(map(lines_of, files.values())) + of_types
 
 
 def reading_list(root: Path, names: tuple[str, ...] = HEADLINE) -> str:

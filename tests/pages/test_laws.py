@@ -58,15 +58,17 @@ def root(tmp_path: Path) -> Path:
     return tmp_path
 
 
-def test_a_comment_is_a_row(root: Path) -> None:
+def test_a_comment_is_a_row(root: Path, monkeypatch: pytest.MonkeyPatch) -> None:
+    monkeypatch.setattr(laws, "lines_to_read", lambda _, names: 234 * len(names))
     read = laws.Laws(root)
     both = [read.named("desk::prices_rise"), read.named("desk::it_rises")]
-    assert laws.row_in_full(both) == [
+    assert laws.row_in_full(root, both) == [
         "A price rises (`once`) in every [venue](MARKET.md#a-quote). And it stays",
         "`desk::prices_rise` (`once`, `twice`), `desk::it_rises`",
         "[days](#answers) on which a duty is left; fields",
+        "470",
     ]
-    assert laws.row_in_full(both[1:]) == ["It rises", "`desk::it_rises`", ""]
+    assert laws.row_in_full(root, both[1:]) == ["It rises", "`desk::it_rises`", "", "230"]
 
 
 def test_a_row_in_short_has_the_sentence_alone(root: Path, monkeypatch: pytest.MonkeyPatch) -> None:

@@ -6,9 +6,9 @@ ghost use Rattle.step_replay.specs.declared.steps.Step.{Step};
 ghost use Rattle.laws_answers.specs.Later.{BeginsWith};
 
 /// A longer log takes nothing back: what a firm was sent after a list of steps begins what it is
-/// sent after each longer list (`sent`), and so do the facts of the day (`facts`; `specs/Later`).
+/// sent after each longer list (`sent`), and so do the facts of the day (`facts`).
 ///
-/// So a trade stands, whatever comes later.
+/// So a trade stands, whatever comes later (`specs/Later`).
 pub fn a_longer_log_takes_nothing_back()
     ensures sent { (config : Configuration) (steps more : List Step) (firm : ℕ)
         → BeginsWith (venue.sent_to config firm (venue.audit_trail config (steps ++ more)))

@@ -26,7 +26,7 @@ use laws_answers::an_award_is_in_time;
 /// its request was awarded (`dealers`), and an investor's answer 297=0 to a hit one at which a room
 /// of the investor was (`investors`; `specs/TradeTimes`).
 ///
-/// It ends at: which fields the messages have; that this list is what stood there as the message
+/// It ends at: which fields the messages have; what stood at the investor's desk as that message
 /// came (that the answer bears the 52 of the hit that it answers:
 /// `laws_rooms::each_response_is_answered`); that the room is that of the answer's 131.
 pub fn a_trade_has_a_time()

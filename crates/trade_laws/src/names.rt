@@ -35,6 +35,8 @@ pub fn a_trade_has_one_name()
 /// Where no duty is left, the two lists of `a_trade_has_one_name` are one: each trade has one place
 /// in both.
 ///
+/// The premise is that of `a_trade_has_one_name`.
+///
 /// It ends at: days on which a duty is left; what `a_trade_has_one_name` ends at.
 pub fn a_trade_is_named_on_both_sides()
     ensures { (config : Configuration) (steps : List Step) (investor dealer : ℕ)
