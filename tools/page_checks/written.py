@@ -26,6 +26,7 @@ MAKERS = [
     "tools/conformance.py",
     "tools/commands.py",
     "tools/crates.py",
+    "tools/page_tables.py",
 ]
 
 
