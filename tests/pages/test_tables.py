@@ -1,0 +1,62 @@
+"""The tables that scripts make of what code and tests have: none of their rows is lost on the way."""
+
+import re
+from pathlib import Path
+
+import commands
+import conformance
+import pytest
+import reasons
+
+from tests.harness.options import ROOT
+
+
+def test_each_rule_has_its_words_and_no_other() -> None:
+    source = reasons.read()
+    named = {name for rules in source["rules"].values() for name, _ in rules}
+    assert named == {one["name"] for one in source["reason"]}
+    assert len(reasons.words(source).splitlines()) == len(named) + 2
+
+
+def test_the_words_are_printable() -> None:
+    for one in reasons.read()["reason"]:
+        assert re.fullmatch(r"[ -{}~]{1,100}", one["words"]), one["name"]
+
+
+def test_each_command_and_flag_of_the_help_is_listed() -> None:
+    told, source = commands.read(), (ROOT / commands.TABLE).read_text(encoding="utf-8")
+    assert len(told.commands) == len(re.findall(r"\n        name: ", source)) == 8
+    assert len(told.flags) == source.count(": FlagLine = ")
+    assert set(told.flags) == {flag for one in told.commands for flag in one.flags}
+
+
+def test_what_the_help_lists_is_whole() -> None:
+    """A name whose words begin on the next line, and words of two lines."""
+    text = "head\n  a B\n            of a\n  c   of c\n            and more\nbetween\n  d   of d"
+    wanted = [[["a B", "of a"], ["c", "of c and more"]], [["d", "of d"]]]
+    assert list(commands.lists(text)) == wanted
+
+
+def definitions(folder: Path, **texts: str) -> Path:
+    place = folder / conformance.DEFINITIONS / "quickfix"
+    place.mkdir(parents=True)
+    for name, text in texts.items():
+        (place / (name + ".def")).write_text(text, encoding="utf-8")
+    return folder
+
+
+def test_a_difference_stands_in_one_row(tmp_path: Path) -> None:
+    place = definitions(
+        tmp_path,
+        **{"2b_One": "# @differs x: y | z | why\n", "1a_Two": "# @differs as 2b_One: x\n"},
+    )
+    (found,) = conformance.differences(place)
+    assert conformance.line_of(found) == ["1a, 2b", "x: y", "z", "why"]
+
+
+@pytest.mark.parametrize("text", ["as 2b_None: x", "as 1a_One: y", "x | y", "x | y | z | w"])
+def test_a_difference_at_fault(tmp_path: Path, text: str) -> None:
+    """It names none, or one that begins otherwise, or has not three parts."""
+    place = definitions(tmp_path, **{"1a_One": "# @differs %s\n" % text})
+    with pytest.raises(SystemExit):
+        conformance.differences(place)
