@@ -30,7 +30,7 @@ ARGUMENT = re.compile(
 )
 INPUT = re.compile(r'const (\w+): &str = "\\\n(.*?)";', re.DOTALL)
 LISTED = re.compile(r"  (\S.*?)(?: {2,}(\S.*))?")  # what the help lists, and what it says of that
-ASKED = re.compile(r"(line|part)s (\d) to (\d) of (\w+)")
+ASKED = re.compile(r"(line|part|fault)s (\d) to (\d) of (\w+)")
 COMMAND = re.compile(
     r'CommandLine \{\s+name: "(\w+)",\s+about: (\w+),\s+input: \w+,\s+flags: &\[([^]]*)\],'
     r"\s+argument: (None|Some\((\w+)\)),"
@@ -69,7 +69,11 @@ def read(root: Path = ROOT) -> Help:
         shown = "%s %s" % (name, arguments[argument]) if argument else name
         names = [flags[one][0] for one in taken.split(", ") if one]
         commands.append(Command(shown, texts[about], names))
-    inputs = INPUT.findall((root / INPUTS).read_text(encoding="utf-8"))
+    inputs = [
+        found
+        for file in (TEXTS, INPUTS)
+        for found in INPUT.findall((root / file).read_text(encoding="utf-8"))
+    ]
     unescaped = {name: text.replace('\\"', '"') for name, text in inputs}
     return Help(commands, dict(flags.values()), unescaped)
 
@@ -89,7 +93,7 @@ def lists(text: str) -> Iterator[list[list[str]]]:
 
 
 def listed(told: Help, what: str, first: int, last: int, name: str) -> str:
-    """Some of the lists of an input, in one table of lines, or of their parts."""
+    """Some of the lists of an input, in one table of lines, of their parts, or of faults."""
     chosen = [line for one in list(lists(told.inputs[name]))[first - 1 : last] for line in one]
     lines = [["`%s`" % form, said] for form, said in chosen]
     return rows([what, "says"], [[cell.replace("|", "\\|") for cell in line] for line in lines])
