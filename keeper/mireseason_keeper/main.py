@@ -89,7 +89,9 @@ def parser_of() -> argparse.ArgumentParser:
         epilog=EPILOG,
     )
     parser.add_argument("configuration", metavar="CONFIG", type=Path, nargs="?", default=USUAL)
-    parser.add_argument("--check", action="store_true", help="look for what a run would find")
+    parser.add_argument(
+        "--check", action="store_true", help="say what a run would find, and do nothing"
+    )
     parser.add_argument("--version", action="store_true", help="print version and commit")
     return parser
 

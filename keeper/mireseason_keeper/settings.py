@@ -141,12 +141,12 @@ def check_logs(path: Path, table: Mapping[str, Any]) -> None:
     """Logs are in PostgreSQL, or files of SQLite, whose copies the gateway makes and whose old ones it removes."""
     log, copies = table.get("log", {}), table.get("copies", {})
     if ("postgres" in log) == ("copies" in log):
-        raise Fault("%s: [log] has postgres, or copies" % path)
-    other = {"schema", "readers"} if "copies" in log else {"file"}
+        raise Fault("%s: [log] has to have one of postgres and copies" % path)
+    other, kind = ({"schema", "readers"}, "PostgreSQL") if "copies" in log else ({"file"}, "SQLite")
     for key in other & log.keys():
-        raise Fault("%s: [log] %s is of the other kind of logs" % (path, key))
+        raise Fault("%s: [log] %s is for logs in %s" % (path, key, kind))
     for key in ({"keep"} if "copies" in log else {"sealed"}) & copies.keys():
-        raise Fault("%s: [copies] %s is of the other kind of logs" % (path, key))
+        raise Fault("%s: [copies] %s is for logs in %s" % (path, key, kind))
 
 
 def name_of_logs(part: "Parts", venues: tuple[str, ...]) -> str:
@@ -156,9 +156,9 @@ def name_of_logs(part: "Parts", venues: tuple[str, ...]) -> str:
     )
     name = part.text("log", key, usual)
     if key == "file" and (not name.endswith(".db") or "/" in name):
-        raise Fault("%s: [log] file is a name that ends in .db" % part.path)
+        raise Fault("%s: [log] file has to be a name that ends in .db" % part.path)
     if "{date}" not in name or ("{venue}" in name) != (venues != (ALONE,)):
-        words = "%s: [log] %s has {date}, and {venue} where [venue] has names"
+        words = "%s: [log] %s needs {date}, and {venue} if and only if [venue] has names"
         raise Fault(words % (part.path, key))
     if not all(VENUE.fullmatch(venue) for venue in venues if venue != ALONE):
         raise Fault("%s: [venue] names: a name is of small letters, digits and _" % part.path)

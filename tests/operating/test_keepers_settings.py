@@ -57,13 +57,13 @@ FAULTS = {
     "another part": ("[copies]", "[copy]", "there is no part [copy]"),
     "a number as a text": ('folder = "copies"', "folder = 1", "has to be a text"),
     "nothing kept": ("[seal]", "keep = 0\n[seal]", "has to be a number from 1 on"),
-    "a schema without a date": ("[copies]", 'schema = "day"\n[copies]', "schema has {date}"),
+    "a schema without a date": ("[copies]", 'schema = "day"\n[copies]', "schema needs {date}"),
     "a venue without a name": (
         "[copies]",
         'schema = "{venue}_{date}"\n[copies]',
-        "{venue} where [venue] has names",
+        "{venue} if and only if [venue] has names",
     ),
-    "names in one schema": ("[copies]", '[venue]\nnames = ["north"]\n[copies]', "schema has"),
+    "names in one schema": ("[copies]", '[venue]\nnames = ["north"]\n[copies]', "schema needs"),
     "a name of a venue": (
         "[copies]",
         'schema = "{venue}_{date}"\n[venue]\nnames = ["north", "South"]\n[copies]',
@@ -98,46 +98,46 @@ FAULTS = {
     "no file of holidays": ("[copies]", '[day]\nholidays = "none"\n[copies]', "No such file"),
     "no holiday": ("[copies]", '[day]\nholidays = "faulty"\n[copies]', "line 2: a holiday is"),
     "no TOML": ("[copies]", "[copies", "keeper.toml"),
-    "no logs": ('postgres = "host=db1"', "", "[log] has postgres, or copies"),
+    "no logs": ('postgres = "host=db1"', "", "[log] has to have one of postgres and copies"),
     "logs of both kinds": (
         "[copies]",
         'copies = "given"\n[copies]',
-        "[log] has postgres, or copies",
+        "[log] has to have one of postgres and copies",
     ),
     "a schema of files": (
         POSTGRES,
         'copies = "given"\nschema = "{date}"',
-        "[log] schema is of the other",
+        "[log] schema is for logs in PostgreSQL",
     ),
     "a file of a database": (
         "[copies]",
         'file = "{date}.db"\n[copies]',
-        "[log] file is of the other",
+        "[log] file is for logs in SQLite",
     ),
     "files that are kept here": (
         POSTGRES + "\n[copies]",
         'copies = "given"\n[copies]\nkeep = 30',
-        "[copies] keep is of the other",
+        "[copies] keep is for logs in PostgreSQL",
     ),
     "a database that is told": (
         "[seal]",
         'sealed = "sealed"\n[seal]',
-        "[copies] sealed is of the other",
+        "[copies] sealed is for logs in SQLite",
     ),
     "a log elsewhere": (
         POSTGRES,
         'copies = "given"\nfile = "../{date}.db"',
-        "is a name that ends in .db",
+        "has to be a name that ends in .db",
     ),
     "a log of another kind": (
         POSTGRES,
         'copies = "given"\nfile = "{date}.log"',
-        "is a name that ends in",
+        "has to be a name that ends in",
     ),
     "files without a date": (
         POSTGRES,
         'copies = "given"\nfile = "day.db"',
-        "[log] file has {date}",
+        "[log] file needs {date}",
     ),
 }
 
@@ -266,7 +266,7 @@ def test_where_readers_read(file: Path) -> None:
     file.write_text(RIGHT.replace(POSTGRES, POSTGRES + "\n" + readers))
     assert read_settings(file).readers == "host=read1 user=keeper"
     file.write_text(RIGHT.replace(POSTGRES, 'copies = "given"\n' + readers))
-    with pytest.raises(Fault, match="readers is of the other kind"):
+    with pytest.raises(Fault, match="readers is for logs in PostgreSQL"):
         read_settings(file)
 
 
