@@ -192,7 +192,7 @@ def test_a_backup_from_before_a_stop(stage: Stage) -> None:
     assert stage.door.ledger().entries[-1].place == last
     done = restored(stage, data)
     assert done.returncode == 0, done.stderr
-    assert b"but what sessions did behind it" in done.stdout and b"accept-loss" in done.stdout, done
+    assert b"but what sessions did after it" in done.stdout and b"accept-loss" in done.stdout, done
     stage.door.start()
     until("it waits", LONG, lambda: "log accept-loss" in admin(stage, "status").out)
 

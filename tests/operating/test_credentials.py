@@ -148,7 +148,7 @@ def test_a_last_day_is_one_of_the_calendar(office: Office, day: str) -> None:
 def test_who_removes_is_told_of_a_restart(office: Office) -> None:
     """The firm is out today too, once the gateway is started again."""
     ran = office.call("--remove", "DLR1")
-    assert ran.returncode == 0 and "any restart, also of today's day" in ran.stderr
+    assert ran.returncode == 0 and "a restart keeps DLR1 out, also within" in ran.stderr
 
 
 NEXT = """
