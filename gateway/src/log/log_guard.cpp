@@ -226,7 +226,7 @@ std::string LogGuard::accept(LogReader &log, const std::function<void(const Entr
     read_on(log);
     was_kept_ = true;
     file_.write(sealer_.sign({0, sealed_.at, {}, false, {}}));
-    return fmt::format("{}: the log goes on behind {}; the checkpoint that was kept had {}",
+    return fmt::format("{}: the log goes on after {}; the checkpoint that was kept had {}",
                        file_.path().string(),
                        last ? fmt::format("entry {}", last->place) : "nothing", had);
 }

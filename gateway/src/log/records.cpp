@@ -66,7 +66,7 @@ void check_link(const Entry &entry, std::uint32_t place, const Digest &before) {
     // What stands in front of the place.
     const std::string front = place == 0 ? "the begin" : fmt::format("entry {}", place - 1);
     if (entry.place != place) {
-        throw std::runtime_error(fmt::format("the log has no entry {}: behind {} comes entry {}",
+        throw std::runtime_error(fmt::format("the log has no entry {}: after {} comes entry {}",
                                              place, front, entry.place));
     }
     if (entry.before != before) {
