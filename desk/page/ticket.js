@@ -199,7 +199,7 @@ export class Ticket {
     const now = this.link.now(), day = moment => new Date(moment).toISOString().slice(0, 10);
     if (seconds < leastSeconds) return {at: 'deadline', isWrong: true, why: `A deadline is ${leastSeconds} seconds away at least.`};
     return (seconds > mostSeconds || day(now + seconds * 1000) !== day(now)) &&
-      {at: 'deadline', isWrong: true, why: 'The deadline is past midnight in UTC, where the venue\u2019s day ends.'};
+      {at: 'deadline', isWrong: true, why: 'The deadline is after midnight in UTC, when the venue\u2019s day ends.'};
   }
   // Whether a request like this one is open already, and the trader has not been asked about it.
   isDoubtful({bond, side, quantity}) {

@@ -59,7 +59,7 @@ std::string why_not_deadline(std::chrono::seconds within, Moment now) {
     }
     return within <= most_deadline && date_of(now + within) == date_of(now)
                ? ""
-               : "The deadline is past midnight in UTC, where the venue's day ends.";
+               : "The deadline is after midnight in UTC, when the venue's day ends.";
 }
 
 bool has(const std::vector<std::string> &names, const std::string &name) {
@@ -153,7 +153,7 @@ std::string why_ask(const command::Quote &quote, const References &references,
     const OwnQuote *last = last_like(request, day);
     const std::vector<Price> live = live_beside(request, day);
     if (reference == nullptr && last == nullptr && live.empty()) {
-        return "There is nothing to hold the price against: the firm sets a reference first.";
+        return "There is nothing to compare the price with: the firm sets a reference first.";
     }
     const Price distance = references.distance();
     const std::string far = "The price is more than " + text_of(distance) + " from ";

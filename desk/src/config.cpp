@@ -101,7 +101,7 @@ void read_program(const TomlTable &row, Config &config) {
     }
     if (is_taken(config, name)) {
         row.fail("'name' is '" + name +
-                 "', which another one has: what a program did is told by it");
+                 "', which another program has: the name says which of them did something");
     }
     Program program{token_digest_in(row), *trader};
     if (std::any_of(config.programs.begin(), config.programs.end(),

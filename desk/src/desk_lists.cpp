@@ -33,7 +33,7 @@ std::string Desk::act(const Trader &trader, const command::AskList &ask) {
             });
         });
     if (static_cast<std::size_t>(waiting) >= most_lists) {
-        return "As many lists wait as the desk takes: stop one first.";
+        return "The desk takes no more lists for now: stop one first.";
     }
     std::string why = why_not(ask, trader, config_.market, day, now());
     if (why.empty()) {

@@ -36,18 +36,18 @@ bool is_programs(const Command &command) {
 
 std::string Desk::why_may_not(const Trader &trader, const Command &command) const {
     if (trader.is_program && !is_programs(command)) {
-        return "A program does not do this.";
+        return "A program may not do this.";
     }
     if (trader.is_program && programs_.is_stopped(trader.name) &&
         !std::holds_alternative<command::Withdraw>(command)) {
         return "This program is stopped: a trader has to release it.";
     }
     if (is_admins(command)) {
-        return trader.is_admin ? "" : "The firm's admin does this.";
+        return trader.is_admin ? "" : "Only the firm's admin may do this.";
     }
     const bool controls = is_one_of<command::StopProgram, command::ReleaseProgram>(command);
     const bool may = trader.may_act || (controls && trader.is_admin);
-    return may ? "" : "You may look, and do nothing else: ask for the permission.";
+    return may ? "" : "You may only look: ask for the permission to act.";
 }
 
 json Desk::view_of(const Trader &trader) const {

@@ -46,7 +46,7 @@ void read_each(const std::string &path,
             each(key, value);
         }
     } catch (const json::exception &fault) {
-        throw std::runtime_error(path + " is none that the desk wrote: " + fault.what());
+        throw std::runtime_error(path + " is not as the desk wrote it: " + fault.what());
     }
 }
 
@@ -55,7 +55,7 @@ std::function<std::string()> writer_of(const std::string &path, json text) {
         try {
             write_json(path, text);
         } catch (const std::exception &fault) {
-            return std::string("It holds until the next start and no longer: ") + fault.what();
+            return std::string("It holds only until the next start: ") + fault.what();
         }
         return {};
     };

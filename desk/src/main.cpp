@@ -30,7 +30,7 @@ namespace {
 constexpr const char *usage =
     "usage: mireseason-desk CONFIG                  serves the desk until SIGTERM or SIGINT\n"
     "       mireseason-desk --check CONFIG          reads CONFIG and what it names, and ends\n"
-    "       mireseason-desk --next-number N CONFIG  goes on with session number N: after the loss\n"
+    "       mireseason-desk --next-number N CONFIG  goes on with session number N after the loss\n"
     "                                               of the journal\n"
     "       mireseason-desk --hash                  reads a password, and prints its hash\n"
     "       mireseason-desk --version               prints its version and commit\n";

@@ -260,7 +260,7 @@ TEST_CASE_FIXTURE(Fixture, "the desk helps before it sends") {
     CHECK_FALSE(with([](auto &one) { one.within = std::chrono::seconds(1); }).empty());
     for (const auto within : {std::chrono::hours(24), std::chrono::hours(25)}) {
         CHECK(with([&](auto &one) { one.within = within; }) ==
-              "The deadline is past midnight in UTC, where the venue's day ends.");
+              "The deadline is after midnight in UTC, when the venue's day ends.");
     }
     CHECK_FALSE(with([](auto &one) { one.dealers = {}; }).empty());
     CHECK_FALSE(with([](auto &one) { one.dealers = {"DLR9"}; }).empty());

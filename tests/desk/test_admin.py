@@ -12,7 +12,7 @@ def test_limits_while_the_desk_runs(house: House) -> None:
     admin, tess = house.view(house.dealer, "ada"), house.view(house.dealer)
     investor = house.view(house.investor)
     limits: Json = {"do": "set limits", "login": "tess", "quantity": 1_000_000, "exposure": None}
-    assert tess.act(**limits) == "The firm's admin does this."
+    assert tess.act(**limits) == "Only the firm's admin may do this."
     assert admin.act(**{**limits, "login": "nobody"}) == "The desk has no trader 'nobody'."
     investor.ask_for(["DLR1"])
     shown = tess.wait_shown(1)
@@ -54,7 +54,8 @@ def test_references(house: House) -> None:
     admin, tess = house.view(house.dealer, "ada"), house.view(house.dealer)
     assert tess.told["references"] == {"t": "references", "references": {}, "distance": POINT}
     assert (
-        tess.act(do="set reference", bond=BOND, price=99 * POINT) == "The firm's admin does this."
+        tess.act(do="set reference", bond=BOND, price=99 * POINT)
+        == "Only the firm's admin may do this."
     )
     assert admin.act(do="set reference", bond="none", price=1) == "The market has no bond 'none'."
     assert admin.act(do="set reference", bond=BOND, price=0).startswith("This is no price")

@@ -102,7 +102,7 @@ def test_f9_takes_back_and_stops(house: House) -> None:
         house.view(house.dealer, "lou"),
     )
     assert program.act(**quote) == STOPPED
-    assert program.act(do="release program", name="P1") == "A program does not do this."
+    assert program.act(do="release program", name="P1") == "A program may not do this."
     assert lou.act(do="release program", name="P1").startswith("You may look")
     assert tom.act(do="release program", name="P2") == "The desk has no program 'P2'."
     assert tom.act(do="release program", name="P1") == ""
@@ -123,7 +123,7 @@ def test_where_a_page_asks_a_program_is_refused(house: House) -> None:
             do="quote", request=shown, price=int(points * POINT), seconds=0, replaces=""
         )
 
-    assert quoted(99).startswith("There is nothing to hold the price against")
+    assert quoted(99).startswith("There is nothing to compare the price with")
     set_reference(house, 99 * POINT)
     assert quoted(100.25) == "The price is more than 1 from the reference 99."
     assert quoted(97.75) == "The price is more than 1 from the reference 99."
@@ -213,8 +213,10 @@ def test_what_a_program_does_not_do(house: House) -> None:
         {"do": "stop program", "name": "P1"},
     ]
     for command in commands:
-        assert program.act(**command) == "A program does not do this."
-    assert program.act(do="set reference", bond=BOND, price=1) == "The firm's admin does this."
+        assert program.act(**command) == "A program may not do this."
+    assert (
+        program.act(do="set reference", bond=BOND, price=1) == "Only the firm's admin may do this."
+    )
     again = enter(house.dealer)
     assert program.until_closed() == 1008
     assert program.why == "This program has connected again."

@@ -12,7 +12,7 @@ FAULTS = (
     ("#quantity", "0", "A quantity is more than 0: 2,000,000, 2m or 500k."),
     ("#quantity", "9m", "9,000,000 is above the limit of 5,000,000 a request."),
     ("#deadline", "3", "A deadline is 5 seconds away at least."),
-    ("#deadline", "24h", "The deadline is past midnight in UTC, where the venue\u2019s day ends."),
+    ("#deadline", "24h", "The deadline is after midnight in UTC, when the venue\u2019s day ends."),
     ("#deadline", "soon", "A deadline is a time from now: 90 (seconds), 2:00, 5m or 1h."),
     ("#bond", "nothing of the kind", "No bond has \u201cnothing of the kind\u201d in its name"),
 )
