@@ -19,8 +19,9 @@ namespace {
 std::uint32_t term_in(Database &database) {
     const auto term = database.take_over();
     if (!term) {
-        throw std::runtime_error("another gateway writes the log: there it was accepted, or is to "
-                                 "be, and this one can put nothing there");
+        throw std::runtime_error(
+            "another gateway writes the log, and this one can write nothing "
+            "there: accept the loss at that one, unless it was accepted there");
     }
     return *term;
 }
