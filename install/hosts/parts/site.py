@@ -231,7 +231,7 @@ def text(value: object) -> str:
 
 def password(word: str, value: Any) -> str:
     if not PASSWORD.fullmatch(text(value)):
-        raise ValueError("the password of %s is not of letters, digits and . _ ~ + - alone" % word)
+        raise ValueError("the password of %s may have only letters, digits and . _ ~ + -" % word)
     return text(value)
 
 
