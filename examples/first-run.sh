@@ -39,7 +39,7 @@ trap 'exit 143' HUP INT TERM
 start=$(date +%s)
 say() { printf '\n== %s (%d s from the start)\n' "$*" "$(($(date +%s) - start))"; }
 
-say "Packages of Debian: minutes, where many are missing"
+say "Packages of Debian: minutes, if many are missing"
 # shellcheck disable=SC2046 # a word for each package
 "$root/tests/packages.sh" $("$root/gateway/packages.sh")
 
@@ -78,7 +78,7 @@ else
     venue=$root/crates/rfq_venue/out/rfq_venue
 fi
 
-say "The gateway: where it is not built yet, some minutes"
+say "The gateway: some minutes, if it is not built yet"
 built
 if [ -z "$unproved" ]; then # its sessions were not proved yet when it was begun
     build 0

@@ -240,7 +240,7 @@ def prove(crates: dict[str, list[str]], tops: list[str], jobs: int) -> None:
     names = [name for name in dict.fromkeys(every) if name not in tops or name in LIBRARIES]
     print("Proving %d crates:" % len(names), flush=True)
     print(
-        "about %d minutes the first time, where nothing else runs." % (MINUTES_OF_ONE // jobs),
+        "about %d minutes the first time, if nothing else runs." % (MINUTES_OF_ONE // jobs),
         flush=True,
     )
     # Outside the repository: rt ci runs at the top of one.

@@ -186,10 +186,10 @@ done
 if [ -z "$are_built" ]; then
     gateway=$built/gateway/mireseason-gateway
     desks=$built/desk
-    say "Packages of Debian: minutes, where many are missing"
+    say "Packages of Debian: minutes, if many are missing"
     # shellcheck disable=SC2046,SC2086 # a word for each package
     "$root/tests/packages.sh" $("$root/gateway/packages.sh") $("$root/desk/packages.sh") $audit_packages
-    say "The programs are built: two minutes on four quiet processors, where nothing is built yet"
+    say "The programs are built: two minutes on four quiet processors, if nothing is built yet"
     build
 fi
 
