@@ -1,13 +1,13 @@
 // A firm's FIX session for one day, as C++ calls it: docs/SESSIONS.md has the rules.
 //
 // Two libraries have these calls. crates/fix_sessions_c is proved; gateway/session_model is the
-// second implementation. One program can have both: where SESSION_PREFIX is defined, its text
-// stands before each name, and the calls are those of the library that was built so.
+// second implementation. One program can have both: if SESSION_PREFIX is defined, its text stands
+// before each name, and the calls are those of the library that was built so.
 //
-// A session is a struct of the caller's, and each call changes it by one event, or changes nothing
-// and answers false: an argument is none, memory is refused, or `out` is too short. A copy of the
-// struct is a snapshot. What a turn says stands in `out`, in this order: what leaves first, what
-// leaves behind it, what is kept; three frames of 4,096 bytes fit into 12,288.
+// A session is a struct of the caller's. Each call changes it by one event, or changes nothing and
+// answers false, if an argument is none, memory is refused, or `out` is too short. A copy of the
+// struct is a snapshot. `out` has what a turn says, in this order: what leaves first, what leaves
+// after it, what is kept; three frames of 4,096 bytes fit into 12,288.
 #ifndef GATEWAY_SESSION_FIX_SESSIONS_H
 #define GATEWAY_SESSION_FIX_SESSIONS_H
 
