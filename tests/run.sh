@@ -1,24 +1,28 @@
 #!/bin/sh
-# All tests: the gate (rt ci, and the wrong bodies that each landing tries), ctest (the gateway's own tests in C++) and
-# pytest (the folders below tests/). What is counted is what these report, and nothing else. The last line is
+# Runs all tests: the gate (rt ci, and the wrong bodies that each landing tries), ctest (the gateway's own tests in C++)
+# and pytest (the folders below tests/). It counts what these report, and nothing else. The last line is
 # `N passed, M failed`.
 #
 #     tests/run.sh                 the gate first, and then the short forms of the others, in the time that is left
-#     tests/run.sh --beside        the others alone, with the program that stands
+#     tests/run.sh --beside        only the others, with the program that is built
 #     tests/run.sh --quick         ten to twenty minutes from a fresh clone, with `rt` or without: the second
-#                                  implementation of the venue stands in the program's place, and
+#                                  implementation of the venue takes the program's place, and
 #                                  nothing is proved
 #
-# Each folder is a part: it tells that it begins, and what it installs from Debian, and prints a line with its seed and
-# its time, and one for each reason for which a test was skipped. A skipped test is neither passed nor failed, and neither
-# is an unsteady one, which failed and then passed alone: it is named, and somebody has to mend it. A part
-# that fails prints its last lines, and the others go on. Its limit of time is many times what it takes, also on two
-# processors that have other work: one that is not done by then hangs, has failed, and ends with all that it started.
-# What a machine can't do (a package that can't be had) is told as not run. Before the last line each part has one with its
-# wall-clock and its processor time, the most expensive first; behind them stands again what was not run, and why. The
-# day of a gateway ends at midnight in UTC: what would come too near to it waits for the next day, on top of its limit.
+# Each folder is a part. A part
+# - says that it begins, and what it installs from Debian;
+# - prints a line with its seed and its time, and one for each reason for which it skipped a test;
+# - prints its last lines if it fails, and the others go on;
+# - has a limit of time, many times what it takes, also on two processors that have other work. A part that is not done
+#   by then hangs: it has failed, and ends with all that it started.
 #
-# SEED is the seed of all (1), JOBS how many processors they take (all). GATEWAY has a gateway that is
+# A skipped test is neither passed nor failed, and neither is an unsteady one, which failed and then passed alone: it is
+# named, and somebody has to mend it. What a machine can't do (a package that can't be had) is told as not run. Before the
+# last line each part has one with its wall-clock and its processor time, the most expensive first; after them comes again
+# what was not run, and why. The day of a gateway ends at midnight in UTC: what would come too near to it waits for the
+# next day, on top of its limit.
+#
+# SEED is the seed of all (1), JOBS how many processors they take (all). GATEWAY names a gateway that is
 # built already. MINUTES is the time for everything (no limit): a part that can't be done in what is left
 # of it is told as not run.
 set -u

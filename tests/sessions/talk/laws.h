@@ -1,4 +1,4 @@
-// The laws of a session, held against each turn of one.
+// Checks each turn of a session against the laws of a session.
 #ifndef SESSIONS_TALK_LAWS_H
 #define SESSIONS_TALK_LAWS_H
 
