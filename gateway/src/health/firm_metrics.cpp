@@ -58,15 +58,15 @@ struct FirmFamilies::Parts {
     Family<Gauge> &waiting_bytes =
         gauges(registry, "mireseason_firm_waiting_bytes", "bytes that the firm has not taken yet");
     Family<Gauge> &suspended =
-        gauges(registry, "mireseason_firm_suspended", "1 while an operator has suspended it");
+        gauges(registry, "mireseason_firm_suspended", "1 while an operator has suspended the firm");
     Family<Counter> &messages =
         counters(registry, "mireseason_firm_messages_total", "messages of the firm in the log");
-    Family<Counter> &requests =
-        counters(registry, "mireseason_firm_requests_total", "of these its requests (35=R)");
+    Family<Counter> &requests = counters(registry, "mireseason_firm_requests_total",
+                                         "requests of the firm in the log (35=R)");
     Family<Counter> &quotes =
-        counters(registry, "mireseason_firm_quotes_total", "of these its quotes (35=S)");
-    Family<Counter> &hits =
-        counters(registry, "mireseason_firm_hits_total", "of these its hits (35=AJ, 694=1)");
+        counters(registry, "mireseason_firm_quotes_total", "quotes of the firm in the log (35=S)");
+    Family<Counter> &hits = counters(registry, "mireseason_firm_hits_total",
+                                     "hits of the firm in the log (35=AJ, 694=1)");
     Family<Counter> &refusals = counters(registry, "mireseason_firm_refusals_total",
                                          "messages of the venue that refuse one of the firm's");
 };

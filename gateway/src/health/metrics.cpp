@@ -86,19 +86,19 @@ struct Metrics::Parts {
     Counter &clock_steps = counter(*registry, "mireseason_clock_steps_total",
                                    "times that the machine's clock was set by more than 100 ms");
     Gauge &clock_synchronised = gauge(*registry, "mireseason_clock_synchronised",
-                                      "1 where the kernel says that its clock is synchronised");
+                                      "1 if the kernel says that its clock is synchronised");
     Gauge &clock_error = gauge(*registry, "mireseason_clock_greatest_error_seconds",
                                "how wrong the kernel says that its clock may be");
     Gauge &speaking = gauge(*registry, "mireseason_speaks", "logs that this gateway writes");
     Gauge &faulty = gauge(*registry, "mireseason_next_configuration_faulty",
-                          "1 where the next day can't open with the files as they are");
+                          "1 if the next day can't open with the files as they are");
     Gauge &ready = gauge(*registry, "mireseason_ready", "1 while firms may log on");
     Gauge &healthy = gauge(*registry, "mireseason_healthy",
                            "1 while every part that does the work shows that it does");
     Gauge &opens = gauge(*registry, "mireseason_day_opens_timestamp_seconds",
-                         "when the trading day opens, the next one while none goes on");
-    Gauge &ends =
-        gauge(*registry, "mireseason_day_ends_timestamp_seconds", "when that trading day ends");
+                         "when the trading day opens, or the next one if none goes on");
+    Gauge &ends = gauge(*registry, "mireseason_day_ends_timestamp_seconds",
+                        "when the trading day ends, or the next one if none goes on");
     Gauge &uncopied = gauge(*registry, "mireseason_days_without_copy",
                             "days that have ended and are not at the place of copies");
     Family<Gauge> &certificates =
@@ -108,13 +108,13 @@ struct Metrics::Parts {
                                        "entries of the log that the venue has not answered");
     Family<Gauge> &waiting = gauges(*registry, "mireseason_log_backlog_messages",
                                     "messages of firms that wait for room in the log");
-    Family<Gauge> &disk_free =
-        gauges(*registry, "mireseason_log_disk_free_bytes", "what is free on the disk of the log");
-    Family<Gauge> &disk_held =
-        gauges(*registry, "mireseason_log_disk_reserve_bytes", "what of it is held back");
-    Family<Gauge> &disk_reserve =
-        gauges(*registry, "mireseason_log_disk_reserve_reached",
-               "1 where less is free there than is held back: no request and no quote is taken");
+    Family<Gauge> &disk_free = gauges(*registry, "mireseason_log_disk_free_bytes",
+                                      "bytes that are free on the disk of the log");
+    Family<Gauge> &disk_held = gauges(*registry, "mireseason_log_disk_reserve_bytes",
+                                      "bytes that are held back on the disk of the log");
+    Family<Gauge> &disk_reserve = gauges(*registry, "mireseason_log_disk_reserve_reached",
+                                         "1 if less is free on the disk of the log than is held "
+                                         "back: no request and no quote is taken");
     Family<Gauge> &clock_doubtful =
         gauges(*registry, "mireseason_clock_doubtful",
                "1 while no request and no quote is taken, since the clock was set");
