@@ -18,9 +18,15 @@ def text_of(counts: Counts, now: datetime) -> str:
             "copies in whose log the audit found what should not be there",
             counts.without_seal,
         ),
-        "mireseason_keeper_faults": ("what the last run could not do", counts.at_fault),
-        "mireseason_days_without_tables": ("of the days that are next", counts.without_tables),
-        "mireseason_keeper_last_run_timestamp_seconds": ("the last run", int(now.timestamp())),
+        "mireseason_keeper_faults": ("things that the last run could not do", counts.at_fault),
+        "mireseason_days_without_tables": (
+            "days that are next and have no tables",
+            counts.without_tables,
+        ),
+        "mireseason_keeper_last_run_timestamp_seconds": (
+            "when the keeper ran last",
+            int(now.timestamp()),
+        ),
     }
     return "".join(
         "# HELP %s %s\n# TYPE %s gauge\n%s %d\n" % (name, text, name, name, value)
