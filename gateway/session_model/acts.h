@@ -1,4 +1,4 @@
-// The steps that a session can take, whatever the reason: to write a message, to end, to wait.
+// The steps that a session can take, whatever the reason: to count a message, to answer, to end.
 #ifndef SESSION_MODEL_ACTS_H
 #define SESSION_MODEL_ACTS_H
 

@@ -1,4 +1,4 @@
-// How many wait at one place, for a metric.
+// How much waits at one place.
 #ifndef GATEWAY_HEALTH_QUEUE_SIZE_H
 #define GATEWAY_HEALTH_QUEUE_SIZE_H
 

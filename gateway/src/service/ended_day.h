@@ -1,4 +1,4 @@
-// Marks a day that an operator has ended early: no start opens it again.
+// Recognises a day that an operator has ended early: no start opens it again.
 #ifndef GATEWAY_SERVICE_ENDED_DAY_H
 #define GATEWAY_SERVICE_ENDED_DAY_H
 

@@ -1,4 +1,4 @@
-// How a connection reads: at its firm's rate, and at its end without looking.
+// How a connection reads: at its firm's rate, and at its end only to pass over what still comes.
 #include "session/connection.h"
 
 #include "session/refusal_words.h"

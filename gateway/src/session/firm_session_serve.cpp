@@ -1,4 +1,4 @@
-// How a session's own messages leave.
+// How what a session has to send leaves.
 #include "session/firm_session.h"
 #include "session/transport.h"
 
