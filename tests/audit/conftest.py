@@ -1,4 +1,4 @@
-"""Settings for the tests of the audit, in the form in which the programs that they start read them."""
+"""Shares the kept answers of the venue's program among all tests of the audit."""
 
 import os
 from collections.abc import Iterator

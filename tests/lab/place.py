@@ -1,4 +1,4 @@
-"""A host of an installation: where its files are, and which service runs its programs."""
+"""A host of an installation: where its files are, and what keeps its programs running."""
 
 from dataclasses import dataclass
 from pathlib import Path
