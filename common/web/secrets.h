@@ -1,4 +1,4 @@
-// Makes random tokens, keeps them, and compares them.
+// Makes random tokens, hashes them to be kept, and compares them.
 #ifndef WEB_SECRETS_H
 #define WEB_SECRETS_H
 
