@@ -1,5 +1,6 @@
-"""A restart within a day: what `--check` says that it would do. Only an operator's word closes a day, and not hours that were
-changed since it began."""
+"""A restart within a day: what `--check` says that it would do. A day is closed by an operator's word, and not by hours
+that were changed since it began.
+"""
 
 import os
 import re
