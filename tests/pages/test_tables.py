@@ -7,6 +7,7 @@ import commands
 import conformance
 import pytest
 import reasons
+import variants
 
 from tests.harness.options import ROOT
 
@@ -60,3 +61,32 @@ def test_a_difference_at_fault(tmp_path: Path, text: str) -> None:
     place = definitions(tmp_path, **{"1a_One": "# @differs %s\n" % text})
     with pytest.raises(SystemExit):
         conformance.differences(place)
+
+
+ENUM = """pub enum Fault {
+    /// BodyLength is
+    /// wrong.
+    #[error("a")]
+    Length,
+    /// A sum. It is wrong.
+    Sum(u16),
+    /// Memory was refused.
+    Memory,
+}
+"""
+
+
+def test_each_variant_stands_in_a_row_with_its_comment(tmp_path: Path) -> None:
+    """With a text before its name, small at its begin but for a name; Memory is left out."""
+    place = tmp_path / "crates" / "low" / "src"
+    place.mkdir(parents=True)
+    (place / "fault.rt").write_text(ENUM, encoding="utf-8")
+    rows = variants.table("low::Fault, each day: NAME", tmp_path).splitlines()[2:]
+    assert rows == ["| `day: Length` | BodyLength is wrong |", "| `day: Sum` | a sum. It is wrong. |"]
+
+
+@pytest.mark.parametrize("what", ["low::None", "low", "low::Fault, each"])
+def test_an_enum_that_is_not_there(tmp_path: Path, what: str) -> None:
+    (tmp_path / "crates" / "low" / "src").mkdir(parents=True)
+    with pytest.raises(SystemExit):
+        variants.table(what, tmp_path)

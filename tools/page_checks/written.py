@@ -27,6 +27,7 @@ MAKERS = [
     "tools/commands.py",
     "tools/crates.py",
     "tools/page_tables.py",
+    "tools/variants.py",
     "tools/tables_of_tests.py",
 ]
 

@@ -13,15 +13,15 @@ pub enum Garbled {
     /// They do not begin `8=FIXT.1.1`, SOH, `9=` (BeginString, and the tag of BodyLength).
     #[error("the message does not begin with BeginString FIXT.1.1 and BodyLength")]
     Start,
-    /// BodyLength (9) is not 1 to 6 digits and SOH, or not the number of the bytes behind it but
-    /// for the last seven.
+    /// They do not go on with BodyLength (9), 1 to 6 digits and SOH, or what follows is not exactly
+    /// that number of bytes and seven more.
     #[error("BodyLength is not the length of the body")]
     Length,
-    /// The body is not one or more fields `tag=value` SOH, each with a tag of 1 to 9 digits that
+    /// Their body is not one or more fields `tag=value` SOH, each with a tag of 1 to 9 digits that
     /// does not begin with 0 and is not 8, 9 or 10, the first with tag 35 (MsgType).
     #[error("the body is no list of fields that begins with MsgType")]
     Field,
-    /// The last seven bytes are not `10=` (CheckSum), three digits and SOH.
+    /// They do not end in `10=` (CheckSum), three digits and SOH.
     #[error("the message does not end with CheckSum")]
     End,
     /// CheckSum (10) is not the sum of all bytes before it, modulo 256.
@@ -34,17 +34,17 @@ pub enum Garbled {
 #[derive(Clone, Copy, Debug, PartialEq, Eq, Error)]
 pub enum StreamFault {
     /// A message departs from `8=FIXT.1.1`, SOH, `9=` (BeginString, and the tag of BodyLength). It
-    /// shows at the first other byte.
+    /// shows at the first byte that does.
     #[error("a message does not begin with BeginString FIXT.1.1 and BodyLength")]
     Start,
     /// BodyLength (9) is not 1 to 6 digits and SOH. It shows at the first byte that can't belong to
     /// them.
     #[error("BodyLength is not 1 to 6 digits")]
     Length,
-    /// The message would have more than 4,096 bytes. It shows at the SOH behind BodyLength (9).
+    /// The message would have more than 4,096 bytes. It shows at the SOH after BodyLength (9).
     #[error("a message is longer than 4,096 bytes")]
     TooLong,
-    /// The seven bytes behind the body are not `10=` (CheckSum), three digits and SOH. It shows at
+    /// The seven bytes after the body are not `10=` (CheckSum), three digits and SOH. It shows at
     /// the last of the seven.
     #[error("a message does not end with CheckSum")]
     End,

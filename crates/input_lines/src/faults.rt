@@ -14,17 +14,22 @@ use venue_config::ConfigFault;
 /// What does not agree after a day on threads: a fault of the venue, and none of its input.
 #[derive(Clone, Copy, Debug, PartialEq, Eq)]
 pub enum UnkeptDay {
-    /// A firm's own messages are not its inbox.
+    /// A firm's own messages are not its inbox, or an investor was answered other responses than
+    /// its messages left, or no action belongs to an event at the firm's desk or in a room of its
+    /// requests.
     Inbox,
-    /// A dealer's closing notices do not agree with how its requests ended.
+    /// A dealer's closing notices do not agree with how the rooms that name it ended.
     Told,
     /// A room was not swept as the clock was told.
     Sweep,
-    /// A dealer was not shown the requests that name it.
+    /// The requests that a dealer was shown are not those that name it, each once and as it was
+    /// asked.
     Shown,
-    /// The quotes that came to an investor are not those that were posted for its request.
+    /// The quotes that took effect in a room are not those that came to its investor, each dealer's
+    /// in order and as they were posted.
     Relayed,
-    /// The replies that came to an investor are not those of the room of its request.
+    /// The replies to the hits and passes in a room are not those that its investor was answered,
+    /// in their order, or it was not told once that its request expired, where it did.
     Answered,
 }
 

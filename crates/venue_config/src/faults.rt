@@ -12,10 +12,10 @@ use thiserror::Error;
 /// point. [`ConfigFault::name`] is what a fault is called.
 #[derive(Clone, Copy, Debug, PartialEq, Eq, Error)]
 pub enum ConfigFault {
-    /// The text is no TOML.
+    /// The text is no TOML (a key given twice, a number past 64 bits): this comes before all else.
     #[error("Toml")]
     Toml,
-    /// A key is absent, or its value is of another kind than it has to be.
+    /// A required value is absent, or of another kind.
     #[error("Missing")]
     Missing,
     /// A date, an identifier of a bond or a name is not of its form, or a firm is named `VENUE` or

@@ -1,0 +1,89 @@
+#!/usr/bin/python3
+"""Makes tables of faults, from the comments of the enums in Rattle that have them.
+
+    tools/variants.py            writes each table that a page marks as made by it
+    tools/variants.py --check    says which pages are not as it would write them, and ends with 1 then
+
+A mark says `CRATE::ENUM`, or `CRATE::ENUM, each TEXT NAME` for names behind a text. No table has `Memory`:
+the page says when memory may be refused.
+"""
+
+from __future__ import annotations
+
+import argparse
+import re
+import sys
+from collections.abc import Iterator
+from pathlib import Path
+
+from formats import rows
+from made import filled, write
+
+ROOT = Path(__file__).resolve().parent.parent
+SCRIPT = "tools/variants.py"
+PAGES = ("docs/FORMATS.md", "docs/PROGRAM.md")
+ASKED = re.compile(r"(\w+)::(\w+)(?:, each (.+) NAME)?")
+VARIANT = re.compile(r"    (\w+)(?:\(.*\))?,")
+
+
+def body_of(root: Path, crate: str, enum: str) -> str:
+    """The lines of an enum, between its braces."""
+    for path in sorted((root / "crates" / crate / "src").glob("**/*.rt")):
+        text = path.read_text(encoding="utf-8")
+        found = re.search(r"^pub enum %s \{\n(.*?)^\}" % enum, text, re.DOTALL | re.MULTILINE)
+        if found is not None:
+            return found[1]
+    raise SystemExit("crates/%s has no enum %s" % (crate, enum))
+
+
+def variants(body: str) -> Iterator[tuple[str, str]]:
+    """The variants without fields of their own, each with its comment."""
+    said: list[str] = []
+    for line in body.splitlines():
+        comment = line.strip()
+        if comment.startswith("///"):
+            said.append(comment.removeprefix("///").strip())
+        elif (found := VARIANT.fullmatch(line)) is not None:
+            yield found[1], " ".join(said)
+            said = []
+
+
+def sentence(text: str) -> str:
+    """A comment as a cell has it: it begins small, and a single sentence has no full stop."""
+    is_name = text.split()[0][1:].lower() != text.split()[0][1:]  # as BodyLength is
+    first = text[0] if is_name else text[0].lower()
+    return first + (text[1:] if ". " in text else text[1:].removesuffix("."))
+
+
+def table(what: str, root: Path = ROOT) -> str:
+    """The table that a mark asks for."""
+    found = ASKED.fullmatch(what)
+    if found is None:
+        raise SystemExit("no enum is named so: %s" % what)
+    crate, enum, before = found.groups()
+    lines = [
+        ["`%s`" % (f"{before} {name}" if before else name), sentence(said)]
+        for name, said in variants(body_of(root, crate, enum))
+        if name != "Memory"
+    ]
+    return rows(["fault", "when"], lines)
+
+
+def made(root: Path = ROOT) -> dict[str, str]:
+    """Each page with its tables made anew."""
+    texts = {file: (root / file).read_text(encoding="utf-8") for file in PAGES}
+    return {
+        file: filled(text, SCRIPT, lambda what: table(what, root)) for file, text in texts.items()
+    }
+
+
+def main() -> int:
+    parser = argparse.ArgumentParser(
+        description=__doc__, formatter_class=argparse.RawTextHelpFormatter
+    )
+    parser.add_argument("--check", action="store_true")
+    return write(ROOT, made(), parser.parse_args().check)
+
+
+if __name__ == "__main__":
+    sys.exit(main())
