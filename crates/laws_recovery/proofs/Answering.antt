@@ -2,7 +2,7 @@
 use Rattle.std.proofs.Common.{◌≡◌, ℕ, Bool, true, false, List, [], ◌∷◌, ◌++◌, Some, sym, ap, subst, ◌∙◌, append-nil, append_assoc}
 use Rattle.std.proofs.lemmas.Option.{same_Some}
 use Rattle.fix_sessions.specs.declared.texts.Names.{Names}
-use Rattle.laws_recovery.proofs.Acts.{act_next, all_stand, found_countable, most_of}
+use Rattle.laws_recovery.proofs.Acts.{act_next, acts_next, all_stand, found_countable, most_of}
 use Rattle.laws_recovery.proofs.Choices.{choice}
 use Rattle.laws_recovery.proofs.CountedSteps.{keeps_parts}
 use Rattle.laws_recovery.proofs.LeftAgain.{rejects_are_kept}
@@ -128,10 +128,8 @@ act_answers names w u (Stops is_there) s stands keeping m h =
     (ap (λ (v : World). v.flight.notes ++ v.fill.notes) (sym e) ∙ b.pending) m
 
 acts_answer : (names : Names) (more : List Act) (w u : World) (s : Sealed) → Stands w → AreSoundActs names (Some w) more
-    → AllKeepAnswers names (Some w) more → MayAnswer w s → world_after_all names (Some w) more ≡ Some u
-    → IsKept (kept_reject s) u.memory.kept
-acts_answer names [] w u s stands sound keeping m h =
-    subst (λ (v : World). IsKept (kept_reject s) v.memory.kept) (same_Some w u h) (kept_in_memory w stands.recovered s m)
+    → AllKeepAnswers names (Some w) more → MayAnswer w s → world_after_all names (Some w) more ≡ Some u → MayAnswer u s
+acts_answer names [] w u s stands sound keeping m h = subst (λ v. MayAnswer v s) (same_Some w u h) m
 acts_answer names (act ∷ more) w u s stands sound keeping m h =
     let one = act_next names w act stands sound.0 in
     acts_answer names more one.world u s one.stands (subst (λ o. AreSoundActs names o more) one.is sound.1)
@@ -139,9 +137,24 @@ acts_answer names (act ∷ more) w u s stands sound keeping m h =
     (act_answers names w one.world act s stands keeping.0 m one.is)
     (ap (λ o. world_after_all names o more) (sym one.is) ∙ h)
 
+-- what may be answered may be answered ever after, as long as no such note is put
+pub answers_ever : (names : Names) (acts more : List Act) (w later : World) (s : Sealed) → AreSoundActs names (Some first_world) acts
+    → world_after_all names (Some first_world) acts ≡ Some w → MayAnswer w s → AreSoundActs names (Some w) more
+    → AllKeepAnswers names (Some w) more → world_after_all names (Some w) more ≡ Some later → MayAnswer later s
+answers_ever names acts more w later s sound h m behind keeping g =
+    acts_answer names more w later s (all_stand names acts w sound h) behind keeping m g
+
+pub later_stands : (names : Names) (acts more : List Act) (w later : World) → AreSoundActs names (Some first_world) acts
+    → world_after_all names (Some first_world) acts ≡ Some w → AreSoundActs names (Some w) more
+    → world_after_all names (Some w) more ≡ Some later → Stands later
+later_stands names acts more w later sound h behind g =
+    let n = acts_next names more w (all_stand names acts w sound h) behind in
+    subst Stands (same_Some n.world later (sym n.is ∙ g)) n.stands
+
 pub answers_stand : (names : Names) (acts more : List Act) (w later : World) (s : Sealed) → AreSoundActs names (Some first_world) acts
     → world_after_all names (Some first_world) acts ≡ Some w → MayAnswer w s → AreSoundActs names (Some w) more
     → AllKeepAnswers names (Some w) more → world_after_all names (Some w) more ≡ Some later
     → IsKept (kept_reject s) later.memory.kept
 answers_stand names acts more w later s sound h m behind keeping g =
-    acts_answer names more w later s (all_stand names acts w sound h) behind keeping m g
+    kept_in_memory later (later_stands names acts more w later sound h behind g).recovered s
+    (answers_ever names acts more w later s sound h m behind keeping g)

@@ -23,3 +23,6 @@ mod Answering
 mod Placed
 mod Numbered
 mod Apart
+mod SaidWords
+mod HandedBack
+mod NotDenied

@@ -202,7 +202,7 @@ same_number low high (k ∷ ks) x y w (inr h) (inl g) e =
 same_number low high (k ∷ ks) x y w (inr h) (inr g) e = same_number (k.number + 1) high ks x y w.1 h g e
 
 -- in memory
-one_kept : (w : World) (r : IsRecovered w) (x y : Kept) → IsKept x w.memory.kept → IsKept y w.memory.kept → x.number ≡ y.number → x ≡ y
+pub one_kept : (w : World) (r : IsRecovered w) (x y : Kept) → IsKept x w.memory.kept → IsKept y w.memory.kept → x.number ≡ y.number → x ≡ y
 one_kept w r x y a b e =
     let n = read_points IsNumbered numbered_is_kept r.told (all_notes w) r.point (record { within = omega arith; low = tt }) r.reads in
     let same = sym r.agrees.kept in

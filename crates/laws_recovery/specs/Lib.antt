@@ -5,3 +5,4 @@ pub mod Starts
 pub mod Used
 pub mod Left
 pub mod Leaves
+pub mod Handed

@@ -1,13 +1,14 @@
 //! What holds of a start after every list of events.
-ghost use Rattle.std.specs.Prelude.{◌≡◌, ◌≢◌, ◌≤◌, ◌<◌, ◌++◌, ◌∷◌, Bool, false, List, Some};
+ghost use Rattle.std.specs.Prelude.{◌≡◌, ◌≢◌, ◌≤◌, ◌<◌, ◌++◌, ◌∷◌, Bool, ℕ, false, List, Some};
 ghost use Rattle.fix_sessions.specs.declared.texts.Names.{Names};
 ghost use Rattle.session_recovery.specs.Recovered.{Kept, Message, Point, Sealed, gives_all, kept_reject, reads_all, start};
 ghost use Rattle.session_recovery.specs.declared.notes.NoteKind.TheVariants as kind;
 ghost use Rattle.laws_recovery.specs.Agrees.{Agrees, with_more};
 ghost use Rattle.laws_recovery.specs.Counts.{AreFrom, AreRising, last_from};
+ghost use Rattle.laws_recovery.specs.Handed.{AreBelow, Denies, IsDeniedBelow, IsHanded, MakesGap, is_heartbeat};
 ghost use Rattle.laws_recovery.specs.Leaves.{AllKeepAnswers, AreUncommitted, AreWithoutResets, IsNth, MayAnswer, MayLeave};
 ghost use Rattle.laws_recovery.specs.Left.{AreKeeping, AreLater, IsKept, is_reset, lost, lost_taken};
-ghost use Rattle.laws_recovery.specs.Memory.{AreSound, Step, fresh, memory_after_all, puts_all, tells_all};
+ghost use Rattle.laws_recovery.specs.Memory.{AreSound, Event, Step, fresh, memory_after_all, puts_all, tells_all, turn};
 ghost use Rattle.laws_recovery.specs.Starts.{Act, AreSoundActs, IsReadable, IsRecovered, Stops, World, all_taken, first_world, found, world_after, world_after_all};
 ghost use Rattle.laws_recovery.specs.Used.{AreUsed, IsAbove};
 
@@ -182,4 +183,55 @@ pub fn what_left_stands()
         → MayLeave old x
         → world_after names w (Stops is_there) ≡ Some next
         → IsKept x next.memory.kept }
+{}
+
+/// Nothing is denied: no message that left is a gap later, what was taken is not denied, and what
+/// was denied is not taken.
+///
+/// So after every list of acts, with kills, commits that fail and failovers. No gap fill covers the
+/// number of a message of the venue that may leave and is no Heartbeat (35=0), until a reset is
+/// carried out (`messages`), nor that of a Reject or a BusinessMessageReject that may, until a reset
+/// or a Logon with 141=Y (`rejects`). A BusinessMessageReject (35=j) names in 45 a number above those
+/// of all entries behind the last reset (`taken`). Once it may leave, the venue is given a message of
+/// the firm only under a number above that one, until a reset or a Logon with 141=Y (`denied`).
+///
+/// It ends at: that a gateway waits so before anything leaves (`MayLeave`, `MayAnswer`), and hands the
+/// session what it keeps, as it keeps it (`IsHanded`), which is tested; a Reject (35=3), which may name
+/// a message that was taken, where the firm sends that again, and wrongly.
+pub fn nothing_is_denied()
+    ensures messages { (names : Names) (acts more : List Act) (w later : World) (x : Kept) (midnight : ℕ) (e : Event)
+        → AreSoundActs names (Some first_world) acts
+        → world_after_all names (Some first_world) acts ≡ Some w
+        → MayLeave w x
+        → is_heartbeat x.body ≡ false
+        → AreSoundActs names (Some w) more
+        → AreWithoutResets more
+        → world_after_all names (Some w) more ≡ Some later
+        → IsHanded midnight later.memory.kept later.memory.session e
+        → MakesGap x.number (turn names later.memory.session e)
+        → ⊥ }
+    ensures rejects { (names : Names) (acts more : List Act) (w later : World) (s : Sealed) (midnight : ℕ) (e : Event)
+        → AreSoundActs names (Some first_world) acts
+        → world_after_all names (Some first_world) acts ≡ Some w
+        → MayAnswer w s
+        → AreSoundActs names (Some w) more
+        → AllKeepAnswers names (Some w) more
+        → world_after_all names (Some w) more ≡ Some later
+        → IsHanded midnight later.memory.kept later.memory.session e
+        → MakesGap s.note.number (turn names later.memory.session e)
+        → ⊥ }
+    ensures taken { (names : Names) (acts : List Act) (w : World) (e : Event) (number : ℕ)
+        → AreSoundActs names (Some first_world) acts
+        → world_after_all names (Some first_world) acts ≡ Some w
+        → Denies number (turn names w.memory.session e)
+        → AreBelow w.memory.since number (all_taken w) }
+    ensures denied { (names : Names) (acts more : List Act) (w later : World) (s : Sealed) (e : Event) (number : ℕ)
+        → AreSoundActs names (Some first_world) acts
+        → world_after_all names (Some first_world) acts ≡ Some w
+        → MayAnswer w s
+        → AreSoundActs names (Some w) more
+        → AllKeepAnswers names (Some w) more
+        → world_after_all names (Some w) more ≡ Some later
+        → (turn names later.memory.session e).takes ≡ Some number
+        → IsDeniedBelow number s }
 {}

@@ -10,6 +10,8 @@
 //! - [`numbers_leave_once`]: no number that left is free, and under one number leaves one message.
 //! - [`nothing_is_lost_or_taken_twice`]: no message of the firm is taken twice, and one that is lost is asked
 //!   for again.
+//! - [`nothing_is_denied`]: no message that left is a gap later, no message that was taken is denied, and none
+//!   that was denied is taken.
 //!
 //! No code stands on this crate.
 #![tactic(auto)]
@@ -17,6 +19,6 @@
 mod laws;
 
 pub use laws::{
-    a_start_is_a_fold, nothing_is_lost_or_taken_twice, numbers_leave_once,
+    a_start_is_a_fold, nothing_is_denied, nothing_is_lost_or_taken_twice, numbers_leave_once,
     recovered_is_the_session, rejects_stand, what_left_is_recovered, what_left_stands,
 };
