@@ -26,3 +26,4 @@ mod Apart
 mod SaidWords
 mod HandedBack
 mod NotDenied
+mod Times

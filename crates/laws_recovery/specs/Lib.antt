@@ -6,3 +6,4 @@ pub mod Used
 pub mod Left
 pub mod Leaves
 pub mod Handed
+pub mod Times

@@ -1,6 +1,12 @@
 //! What holds of a start after every list of events.
-ghost use Rattle.std.specs.Prelude.{◌≡◌, ◌≢◌, ◌≤◌, ◌<◌, ◌++◌, ◌∷◌, Bool, ℕ, false, List, Some};
+ghost use Rattle.std.specs.Prelude.{◌≡◌, ◌≢◌, ◌≤◌, ◌<◌, ◌+◌, ◌++◌, ◌∷◌, Bool, ℕ, true, false, List, Some};
+ghost use Rattle.fix_fields.specs.Frame.{value_of};
+ghost use Rattle.fix_fields.specs.UtcTimestamp.{timestamp_text};
+ghost use Rattle.fix_sessions.specs.Steps.{given};
+ghost use Rattle.fix_sessions.specs.Written.{said_fields};
 ghost use Rattle.fix_sessions.specs.declared.texts.Names.{Names};
+ghost use Rattle.fix_sessions.specs.declared.turns.Said.{Said};
+ghost use Rattle.fix_sessions.specs.declared.turns.Stored.{Stored};
 ghost use Rattle.session_recovery.specs.Recovered.{Kept, Message, Point, Sealed, gives_all, kept_reject, reads_all, start};
 ghost use Rattle.session_recovery.specs.declared.notes.NoteKind.TheVariants as kind;
 ghost use Rattle.laws_recovery.specs.Agrees.{Agrees, with_more};
@@ -8,8 +14,9 @@ ghost use Rattle.laws_recovery.specs.Counts.{AreFrom, AreRising, last_from};
 ghost use Rattle.laws_recovery.specs.Handed.{AreBelow, Denies, IsDeniedBelow, IsHanded, MakesGap, is_heartbeat};
 ghost use Rattle.laws_recovery.specs.Leaves.{AllKeepAnswers, AreUncommitted, AreWithoutResets, IsNth, MayAnswer, MayLeave};
 ghost use Rattle.laws_recovery.specs.Left.{AreKeeping, AreLater, IsKept, is_reset, lost, lost_taken};
-ghost use Rattle.laws_recovery.specs.Memory.{AreSound, Event, Step, fresh, memory_after_all, puts_all, tells_all, turn};
+ghost use Rattle.laws_recovery.specs.Memory.{AreSound, Event, Handed, Memory, Step, Told, fresh, memory_after, memory_after_all, puts_all, tells_all, turn};
 ghost use Rattle.laws_recovery.specs.Starts.{Act, AreSoundActs, IsReadable, IsRecovered, Stops, World, all_taken, first_world, found, world_after, world_after_all};
+ghost use Rattle.laws_recovery.specs.Times.{HasTime, is_again, later_of};
 ghost use Rattle.laws_recovery.specs.Used.{AreUsed, IsAbove};
 
 /// With more notes, and more that the venue gave, a start goes on from where fewer end. So a
@@ -234,4 +241,64 @@ pub fn nothing_is_denied()
         → world_after_all names (Some w) more ≡ Some later
         → (turn names later.memory.session e).takes ≡ Some number
         → IsDeniedBelow number s }
+{}
+
+/// The times of a message stand: OrigSendingTime (122) of what is sent again does not change, at
+/// whichever gateway; nor is it after the first SendingTime (52), if each turn is at the later of two
+/// moments.
+///
+/// Each time that a message of the venue that may leave is sent again, it has in 122 the moment with
+/// which it is kept, that of its entry, until a reset is carried out (`messages`). A Reject or a
+/// BusinessMessageReject has that of its note, until a reset or a Logon with 141=Y (`rejects`). 52 is
+/// the moment of the turn (`sent`). Whatever a gateway's clock says, a turn at the later of that and
+/// of the moment with which a message is kept (`later_of`) is not before the latter: where the message
+/// is handed back (`first`), and where the session is told of it (`told`).
+///
+/// It ends at: that a gateway waits before anything leaves, takes the later of the two moments, hands
+/// the session what it keeps, as it keeps it (`IsHanded`), and writes the moment of its note into 52 of
+/// a Reject that leaves at once. These are duties of the gateway in C++, and not proved.
+pub fn times_stand()
+    ensures messages { (names : Names) (acts more : List Act) (w later : World) (x : Kept) (midnight : ℕ) (e : Event)
+        (date : List ℕ) (moment : ℕ) (said : Said)
+        → AreSoundActs names (Some first_world) acts
+        → world_after_all names (Some first_world) acts ≡ Some w
+        → MayLeave w x
+        → AreSoundActs names (Some w) more
+        → AreWithoutResets more
+        → world_after_all names (Some w) more ≡ Some later
+        → IsHanded midnight later.memory.kept later.memory.session e
+        → (turn names later.memory.session e).first ≡ Some said
+        → is_again said.word ≡ true
+        → said.number ≡ x.number
+        → HasTime 122 midnight x.moment date (said_fields names date moment said) }
+    ensures rejects { (names : Names) (acts more : List Act) (w later : World) (s : Sealed) (midnight : ℕ) (e : Event)
+        (date : List ℕ) (moment : ℕ) (said : Said)
+        → AreSoundActs names (Some first_world) acts
+        → world_after_all names (Some first_world) acts ≡ Some w
+        → MayAnswer w s
+        → AreSoundActs names (Some w) more
+        → AllKeepAnswers names (Some w) more
+        → world_after_all names (Some w) more ≡ Some later
+        → IsHanded midnight later.memory.kept later.memory.session e
+        → (turn names later.memory.session e).first ≡ Some said
+        → is_again said.word ≡ true
+        → said.number ≡ s.note.number
+        → HasTime 122 midnight s.note.moment date (said_fields names date moment said) }
+    ensures sent { (names : Names) (date : List ℕ) (moment : ℕ) (said : Said)
+        → value_of 52 (said_fields names date moment said) ≡ Some (timestamp_text date moment) }
+    ensures first { (names : Names) (acts : List Act) (w : World) (x : Kept) (midnight clock next_kept : ℕ) (one : Stored) (said : Said)
+        → AreSoundActs names (Some first_world) acts
+        → world_after_all names (Some first_world) acts ≡ Some w
+        → IsKept x w.memory.kept
+        → IsHanded midnight w.memory.kept w.memory.session (Handed (later_of clock one.first) next_kept (Some one))
+        → (turn names w.memory.session (Handed (later_of clock one.first) next_kept (Some one))).first ≡ Some said
+        → said.number ≡ x.number
+        → x.moment ≤ midnight + later_of clock one.first }
+    ensures told { (names : Names) (m : Memory) (message : Message) (midnight clock time : ℕ) (said : Said)
+        → midnight + time ≡ message.moment
+        → (given m.session (later_of clock time) message.body).first ≡ Some said
+        → (k : Kept)
+        × IsKept k (memory_after names m (Told (later_of clock time) message)).kept
+        × (k.number ≡ said.number)
+        × (k.moment ≤ midnight + later_of clock time) }
 {}

@@ -12,6 +12,7 @@
 //!   for again.
 //! - [`nothing_is_denied`]: no message that left is a gap later, no message that was taken is denied, and none
 //!   that was denied is taken.
+//! - [`times_stand`]: what a firm reads as the time of a message does not change.
 //!
 //! No code stands on this crate.
 #![tactic(auto)]
@@ -20,5 +21,5 @@ mod laws;
 
 pub use laws::{
     a_start_is_a_fold, nothing_is_denied, nothing_is_lost_or_taken_twice, numbers_leave_once,
-    recovered_is_the_session, rejects_stand, what_left_is_recovered, what_left_stands,
+    recovered_is_the_session, rejects_stand, times_stand, what_left_is_recovered, what_left_stands,
 };
