@@ -55,7 +55,7 @@ use Rattle.laws_rooms.proofs.RoomLemmas.{opened_fact, some_of, stands}
 -- After every list of steps.
 
 module _ (lone : LoneQuotes) (words : WordsOfDay) (config : Configuration) where
-  abbrev AllLeft : AuditTrail → Type 0
+  abbrev pub AllLeft : AuditTrail → Type 0
   AllLeft venue = Every (λ fact. Still (FactIs config fact) venue) venue.facts
 
   left_open : (h : Here) (effect : Effect) (fact : Fact) → LeavesOf config h.by effect.duties fact
@@ -138,12 +138,12 @@ module _ (lone : LoneQuotes) (words : WordsOfDay) (config : Configuration) where
   unfolding audit_trail
   start_left = tt
 
-  all_left : (steps : List Step) → AllLeft (audit_trail config steps)
+  pub all_left : (steps : List Step) → AllLeft (audit_trail config steps)
   all_left steps = steps_left [] steps start_left
 
 -- An investor's trail.
 
-at_investor_all : (P : Fact → Type 0) (investor : ℕ) (some : List Fact) → Every P some
+pub at_investor_all : (P : Fact → Type 0) (investor : ℕ) (some : List Fact) → Every P some
     → Every (λ (entry : InvestorEntry). P (AtInvestor investor entry)) (of_investor investor some)
 unfolding of_investor
 at_investor_all P investor [] every = tt
@@ -157,7 +157,7 @@ at_investor_all P investor (AtInvestor other entry ∷ some) every =
     ]
 at_investor_all P investor (fact ∷ some) every = at_investor_all P investor some every.1
 
-in_investor : (fact : InvestorFact) (entries : List InvestorEntry) → In fact (investor_trail.facts_of entries)
+pub in_investor : (fact : InvestorFact) (entries : List InvestorEntry) → In fact (investor_trail.facts_of entries)
     → In (investor_trail.AtDesk fact) entries
 in_investor fact [] is = absurd is
 in_investor fact (investor_trail.AtDesk other ∷ entries) (inl is) =

@@ -3,6 +3,7 @@ mod CloseDays
 mod CloseLemmas
 mod DeclineLemmas
 mod LeftLemmas
+mod NamedLemmas
 mod ReplyDays
 mod ReplyDuties
 mod ReplyLemmas

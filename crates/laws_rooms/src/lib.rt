@@ -5,6 +5,8 @@
 //!   room's request names was shown it.
 //! - [`each_accepted_request_is_shown`]: then each request that was accepted was shown once to each
 //!   dealer that it names.
+//! - [`a_request_is_shown_to_no_other_dealer`]: at each moment of a day, a request is shown to no dealer
+//!   that it does not name, and none is shown that was not accepted.
 //! - [`each_quote_comes_to_its_investor`]: then each quote in a room was shown to its investor, or the
 //!   request was closed there.
 //! - [`each_decline_comes_to_its_investor`]: then of each decline in a room, too.
@@ -19,6 +21,7 @@
 mod asked;
 mod declines;
 mod expiries;
+mod named;
 mod quotes;
 mod responses;
 mod rooms;
@@ -26,6 +29,7 @@ mod rooms;
 pub use asked::each_accepted_request_is_shown;
 pub use declines::each_decline_comes_to_its_investor;
 pub use expiries::each_expiry_is_told_once;
+pub use named::a_request_is_shown_to_no_other_dealer;
 pub use quotes::each_quote_comes_to_its_investor;
 pub use responses::each_response_is_answered;
 pub use rooms::no_room_is_left_opening;

@@ -1,0 +1,36 @@
+//! A request is shown to no dealer that it does not name.
+ghost use Rattle.std.specs.Prelude.{ℕ, List};
+ghost use Rattle.investor_desk.specs.InvestorFacts.{Asked};
+ghost use Rattle.investor_desk.specs.declared.standing.AcceptedRequest.{AcceptedRequest};
+ghost use Rattle.laws_rooms.specs.Shown.{HasAsked, IsShown};
+ghost use Rattle.market_terms.specs.declared.rooms.RoomRef.{RoomRef};
+ghost use Rattle.step_replay.specs.AuditTrail as venue;
+ghost use Rattle.step_replay.specs.GrowthLemmas.{In};
+ghost use Rattle.step_replay.specs.VenueFacts.{of_dealer};
+ghost use Rattle.step_replay.specs.declared.steps.Step.{Step};
+ghost use Rattle.trade_laws.specs.Trades.{at_investor, room_of};
+ghost use Rattle.venue_rows.specs.Rows.{Configuration};
+
+use dealer_desk::{limits_are_kept, what_is_asked_is_of_the_day};
+
+/// A law: a request is shown to no dealer that it does not name. A dealer that was shown an accepted
+/// request is one of those that the request names (`only`), and no dealer was shown a request that was
+/// not accepted (`accepted`). So it is at each moment of a day, also while duties are left, in every
+/// venue, after every list of steps. It does nothing.
+///
+/// It ends at: the facts of the dealer's desk. That a message 35=R is sent only where such a fact
+/// stands, no clause of this crate says.
+pub fn a_request_is_shown_to_no_other_dealer()
+    ensures only { (config : Configuration) (steps : List Step) (investor : ℕ)
+        (request : AcceptedRequest) (dealer : ℕ)
+        → In (Asked request) (at_investor investor (venue.audit_trail config steps).facts)
+        → IsShown (of_dealer dealer (venue.audit_trail config steps).facts)
+        (room_of investor request.number)
+        → In dealer request.dealers }
+    ensures accepted { (config : Configuration) (steps : List Step) (room : RoomRef) (dealer : ℕ)
+        → IsShown (of_dealer dealer (venue.audit_trail config steps).facts) room
+        → HasAsked (at_investor room.investor (venue.audit_trail config steps).facts) room.n dealer }
+{
+    limits_are_kept();
+    what_is_asked_is_of_the_day();
+}
