@@ -195,6 +195,8 @@ ROWS = {
         "laws_recovery::what_left_stands",
         "laws_recovery::rejects_stand",
         "laws_recovery::numbers_leave_once",
+        "laws_recovery::nothing_is_denied",
+        "laws_recovery::times_stand",
     ),
     "between the wire and the venue": (
         "wire_messages::the_wire_reads_back",
