@@ -18,8 +18,9 @@ use dealer_desk::{limits_are_kept, what_is_asked_is_of_the_day};
 /// not accepted (`accepted`). So it is at each moment of a day, also while duties are left, in every
 /// venue, after every list of steps. It does nothing.
 ///
-/// It ends at: the facts of the dealer's desk. That a message 35=R is sent only where such a fact
-/// stands, no clause of this crate says.
+/// It ends at: the facts of the dealer's desk. Of the messages 35=R that a dealer was sent
+/// `what_is_shown_was_quoted` says it, and of the names that the investor wrote
+/// `requests_are_shown_as_written`, both of `shown_laws`.
 pub fn a_request_is_shown_to_no_other_dealer()
     ensures only { (config : Configuration) (steps : List Step) (investor : ℕ)
         (request : AcceptedRequest) (dealer : ℕ)

@@ -46,7 +46,7 @@ use Rattle.shown_laws.proofs.ShownComes.{answered_brings, asked_brings, closed_b
 use Rattle.shown_laws.proofs.ShownComes.{declined_brings, gone_brings}
 use Rattle.shown_laws.proofs.ShownDesk.{Brings, Stood, idle, shown_brings, told_brings}
 use Rattle.step_replay.specs.PlaceLemmas.{investor_grown}
-use Rattle.shown_laws.proofs.ShownParts.{turn_none, DutyOk, FactOk, IsAsked, Posts, asked_later}
+use Rattle.shown_laws.proofs.ShownParts.{turn_none, AsksThem, DutyOk, FactOk, Posts, each_later}
 use Rattle.shown_laws.proofs.ShownParts.{dealer_facts_grown}
 use Rattle.shown_laws.proofs.ShownParts.{investor_facts_grown, of_later, rooms_grown}
 use Rattle.shown_laws.proofs.ShownParts.{quote_later, written_later}
@@ -216,7 +216,7 @@ module _ (config : Configuration) (facts : List Fact) (stood : Stood config fact
         }))))
 
     opened_brings : (room : RoomRef) (ask : Ask) (dealers : List ℕ) (moment : ℕ)
-        → IsAsked config facts room ask
+        → AsksThem config facts room ask dealers
         → R (duty_effect config facts by (duty.Open room ask dealers moment))
     unfolding duty_effect
     opened_brings room ask dealers moment is =
@@ -228,8 +228,7 @@ module _ (config : Configuration) (facts : List Fact) (stood : Stood config fact
         (shown_then_ready room ask dealers moment)
         (shown_each (DutyOk config now by) config facts room moment
         (λ dealer. duty.Show dealer room ask moment) dealers (
-          every_all _ (λ dealer. asked_later config facts (map (InRoom room) happened) room ask is)
-              dealers,
+          each_later config facts (map (InRoom room) happened) room ask dealers is,
           tt,
         )))
 

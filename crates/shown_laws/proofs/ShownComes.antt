@@ -85,8 +85,15 @@ module _ (config : Configuration) (facts : List Fact) (by : Actor) (firm : ℕ) 
       said_left : (v : InvestorVerdict)
           → Every (λ fact. InvestorOk config now firm (AtDesk fact)) (verdict_facts v)
           → Every (DutyOk config now by) (option_to_list (verdict_duty market moment v))
-      said_left (verdict.RequestAccepted id request) stands =
-          (record { request = request; is_request = stands.0; ask_is = refl }, tt)
+      said_left (verdict.RequestAccepted id request) stands = (
+        record {
+          request = request;
+          is_request = stands.0;
+          ask_is = refl;
+          dealers_are = refl;
+        },
+        tt,
+      )
       said_left (verdict.Hits request response word) stands = (tt, tt)
       said_left (verdict.Passes request response) stands = (tt, tt)
       said_left other stands = tt

@@ -51,8 +51,8 @@ use Rattle.shown_laws.proofs.AcceptedQuotes.{asks_of}
 use Rattle.shown_laws.proofs.LawfulFields.{dealer_value}
 use Rattle.shown_laws.proofs.ListLemmas.{AreFrom}
 use Rattle.shown_laws.proofs.Messages.{plain_to_dealer, shows}
-use Rattle.shown_laws.proofs.ShownParts.{AreAsked, DealerOk, DutyOk, FactOk, IsAsked}
-use Rattle.shown_laws.proofs.ShownParts.{asked_later, asked_of, dealer_facts_grown}
+use Rattle.shown_laws.proofs.ShownParts.{AreAsked, AsksIt, DealerOk, DutyOk, FactOk, IsAsked}
+use Rattle.shown_laws.proofs.ShownParts.{asked_of, dealer_facts_grown, it_later}
 use Rattle.shown_laws.proofs.ShownParts.{number_asked}
 use Rattle.shown_laws.proofs.ShownTexts.{request_text}
 
@@ -208,23 +208,30 @@ module _ (config : Configuration) (facts : List Fact) (by : Actor) where
             (dealer_output.moment_of more)) message))
         by_message None is = tt
         by_message (Some message) is =
-            (λ limits. plain_to_dealer (ShowsWhatWasAsked config now) _ message is, tt)
+            (λ limits. plain_to_dealer (ShowsWhatWasAsked config now number) _ message is, tt)
 
   -- A dealer is shown a request.
 
   pub shown_brings : (number : ℕ) (row : DealerRow) → dealer_numbered config number ≡ Some row
-      → (room : RoomRef) (ask : Ask) (moment : ℕ) → IsAsked config facts room ask
+      → (room : RoomRef) (ask : Ask) (moment : ℕ) → AsksIt config facts room ask number
       → Brings (at_desk config facts (dealer_of number row) (event.Shown room ask moment) [])
   unfolding event_facts event_message
   shown_brings number row row_is room ask moment is =
       let more = event.Shown room ask moment in
       let day = now number row more [] in
-      let asked = asked_later config facts (effect number row more []).facts room ask is in
-      let from : ComesFromARequest config day ask = record {
+      let added = (effect number row more []).facts in
+      let later = it_later config facts added room ask number is in
+      let asked : IsAsked config day room ask = record {
+        request = later.request;
+        is_request = later.is_request;
+        ask_is = later.ask_is;
+      } in
+      let from : ComesFromARequest config day number ask = record {
         room = room;
-        request = asked.request;
-        is_written = asked.is_request;
-        ask_is = asked.ask_is;
+        request = later.request;
+        is_written = later.is_request;
+        ask_is = later.ask_is;
+        named = later.named;
       } in
       let head : Head = record {
         date = config.date;
@@ -233,8 +240,8 @@ module _ (config : Configuration) (facts : List Fact) (by : Actor) where
         moment = moment;
       } in
       desk_brings number row more [] (from, tt) (
-        λ limits. request_text config day head refl (dealer_value config limits number row row_is) _
-            ask from,
+        λ limits. request_text config day head refl (dealer_value config limits number row row_is)
+            number _ ask from,
         tt,
       ) (asked, tt) tt
 

@@ -159,7 +159,8 @@ module _ (config : Configuration) (steps : List Step) where
       (at_investor investor known) (investor_facts config known all investor) is
 
   pub request_shown : (dealer : ℕ) (ask : Ask) (moment : ℕ)
-      → In (Shown ask moment) (at_dealer dealer known) → ComesFromARequest config known ask
+      → In (Shown ask moment) (at_dealer dealer known)
+      → ComesFromARequest config known dealer ask
   request_shown dealer ask moment is =
       all_in (λ fact. DealerOk config known dealer (dealer_trail.AtDesk fact)) (Shown ask moment)
       (at_dealer dealer known) (dealer_facts config known all dealer) is
@@ -181,7 +182,7 @@ module _ (config : Configuration) (steps : List Step) where
   pub sent_to_dealer : (dealer : ℕ) (row : DealerRow) (message : List ℕ) → KeepsLimits config
       → dealer_numbered config dealer ≡ Some row
       → In message (sent_to config dealer (audit_trail config steps))
-      → SaysWhenRead (codes "R") (ShowsWhatWasAsked config known) message
+      → SaysWhenRead (codes "R") (ShowsWhatWasAsked config known dealer) message
   sent_to_dealer dealer row message limits is sent =
       all_in (λ text. DealerOk config known dealer (dealer_trail.Sent text)) message
       (dealer_trail.sent_by (of_dealer dealer known)) (dealer_sent config known all dealer)

@@ -138,14 +138,15 @@ quantity_again (Some text) quantity is =
 -- Requests.
 
 module _ (config : Configuration) (facts : List Fact) (head : Head)
-    (date_is : head.date ≡ config.date) (named : IsValue head.firm) (number : ℕ) (ask : Ask)
-    (from : ComesFromARequest config facts ask) where
-  says_asked : ShowsWhatWasAsked config facts
+    (date_is : head.date ≡ config.date) (named : IsValue head.firm) (dealer number : ℕ) (ask : Ask)
+    (from : ComesFromARequest config facts dealer ask) where
+  says_asked : ShowsWhatWasAsked config facts dealer
       (written_fields head (out.Request (record { number = number; ask = ask })))
   says_asked = record {
     room = from.room;
     request = from.request;
     is_written = from.is_written;
+    named = from.named;
     bond = ap (λ (a : Ask). Some a.bond) (sym from.ask_is) ∙ sym from.is_written.says.bond;
     side = ap (λ (a : Ask). Some (decimal (side_code a.side))) (sym from.ask_is)
         ∙ sym from.is_written.says.side;
@@ -181,10 +182,10 @@ module _ (config : Configuration) (facts : List Fact) (head : Head)
       (subst (λ (a : Ask). IsValue a.investor) from.ask_is
       (subst IsValue (sym is.says.asker) (came 49 is.row.name is.came.frame is.says.sender)))
 
-  pub request_text : SaysWhenRead (codes "R") (ShowsWhatWasAsked config facts)
+  pub request_text : SaysWhenRead (codes "R") (ShowsWhatWasAsked config facts dealer)
       (written head (out.Request (record { number = number; ask = ask })))
   request_text fields read type_is =
-      subst (ShowsWhatWasAsked config facts)
+      subst (ShowsWhatWasAsked config facts dealer)
       (sym (fields_read head (out.Request (record { number = number; ask = ask })) fields read
       asked_lawful)) says_asked
 

@@ -1,6 +1,7 @@
 -- What the fields of a message say, read as the venue reads them, and what firms wrote: the
 -- QuoteRequest (35=R) of an investor that was accepted, and the Quote (35=S) of a dealer that was.
-use Rattle.std.specs.Prelude.{◌≡◌, ℕ, true, List, codes, decimal, Option, Some, None, Result, Ok}
+use Rattle.std.specs.Prelude.{◌≡◌, ℕ, true, List, map, slice_get, codes, decimal, Option, Some, None}
+use Rattle.std.specs.Prelude.{Result, Ok}
 use Rattle.std.specs.Option.{option_map}
 use Rattle.bond_prices.specs.Price.{price_of}
 use Rattle.bond_prices.specs.declared.fault.PriceFault.{PriceFault}
@@ -10,6 +11,7 @@ use Rattle.fix_fields.specs.declared.fault.MomentFault.{MomentFault}
 use Rattle.market_terms.specs.Codes.{side_code}
 use Rattle.market_terms.specs.declared.asks.Side.{Side}
 use Rattle.market_terms.specs.declared.asks.Side.TheVariants.{Buy, Sell}
+use Rattle.quote_messages.specs.PartyGroup.{named_dealers}
 use Rattle.quote_messages.specs.ValueForms.{quantity_of}
 use Rattle.quote_messages.specs.Written.{price_tag, request_name}
 use Rattle.quote_messages.specs.declared.session_faults.SessionRejectReason.{SessionRejectReason}
@@ -64,9 +66,11 @@ pub record CameToInvestor (facts : List InvestorFact) (moment : ℕ) (fields : L
 -- What was written.
 
 -- These fields are a QuoteRequest of the firm with this name, and ask for what the request does
--- that was accepted.
-pub record SaysRequest (date name : List ℕ) (fields : List Field) (request : AcceptedRequest)
-    : Type 0 where
+-- that was accepted, and ask the same dealers. The fields give these by their names, in their order
+-- (PartyID 448, where 447 is D and 452 is 35), and the request by their numbers, each its place among
+-- the names of the venue's dealers.
+pub record SaysRequest (date : List ℕ) (dealers : List (List ℕ)) (name : List ℕ)
+    (fields : List Field) (request : AcceptedRequest) : Type 0 where
   pub is_request : value_of 35 fields ≡ Some (codes "R")
   pub sender : value_of 49 fields ≡ Some name
   pub id : value_of 131 fields ≡ Some request.id
@@ -75,6 +79,8 @@ pub record SaysRequest (date name : List ℕ) (fields : List Field) (request : A
   pub quantity : quantity_at 38 fields ≡ Some (Ok request.ask.quantity)
   pub deadline : moment_at date 126 fields ≡ Some (Ok request.ask.deadline)
   pub asker : request.ask.investor ≡ name
+  pub named : map (λ (dealer : ℕ). slice_get dealers dealer) request.dealers
+      ≡ map (λ (text : List ℕ). Some text) (named_dealers fields)
 
 -- These fields are a Quote of the firm with this name, and give the price that the quote has that
 -- was accepted, on the side that is asked for, and none on the other side; where they give a

@@ -21,8 +21,9 @@ ghost use Rattle.shown_laws.specs.ShownRequests.{ComesFromARequest, IsWrittenReq
 ghost use Rattle.shown_laws.specs.ShownRequests.{ShowsWhatWasAsked, at_dealer, at_investor};
 ghost use Rattle.shown_laws.specs.ShownRequests.{room_of};
 
-/// Each request that was accepted is what its investor wrote (`accepted`), and each that a dealer
-/// was shown is one that was accepted (`shown`).
+/// Each request that was accepted is what its investor wrote, and its dealers are those whose names
+/// the message gives (448), in their order (`accepted`). Each that a dealer was shown is one that was
+/// accepted, and names this dealer (`shown`).
 pub fn requests_are_shown_as_written()
     ensures accepted { (config : Configuration) (steps : List Step) (investor : ℕ)
         (request : AcceptedRequest)
@@ -32,7 +33,7 @@ pub fn requests_are_shown_as_written()
     ensures shown { (config : Configuration) (steps : List Step) (dealer : ℕ) (ask : Ask)
         (moment : ℕ)
         → In (Shown ask moment) (at_dealer dealer (venue.audit_trail config steps).facts)
-        → ComesFromARequest config (venue.audit_trail config steps).facts ask }
+        → ComesFromARequest config (venue.audit_trail config steps).facts dealer ask }
 {}
 
 /// Each quote that was accepted is what its dealer wrote, on a request that its investor wrote
@@ -72,16 +73,15 @@ pub fn quotes_are_shown_once()
 {}
 
 /// What is shown was quoted: of messages read as frames, a Quote shows an investor what its dealer
-/// wrote (`investors`), and a QuoteRequest shows a dealer what its investor wrote (`dealers`), read
-/// as prices, bonds and moments.
+/// wrote (`investors`), and a QuoteRequest shows a dealer what its investor wrote to it by name
+/// (`dealers`), read as prices, bonds and moments.
 ///
 /// There is one Quote for each quote that the investor was shown, in their order (`in_turn`). What
 /// a dealer is shown needs a configuration that keeps its limits, since a dealer whose name has an
 /// SOH could read anything after it.
 ///
 /// It ends at: [made-up lists](docs/MARKET.md#a-dealers-day-alone); bytes that are no frame; that
-/// the request names the dealer which is shown it; that there is a QuoteRequest for each request
-/// that a dealer was shown.
+/// there is a QuoteRequest for each request that a dealer was shown.
 pub fn what_is_shown_was_quoted()
     ensures investors { (config : Configuration) (steps : List Step) (investor : ℕ)
         (row : InvestorRow) (message : List ℕ)
@@ -99,5 +99,5 @@ pub fn what_is_shown_was_quoted()
         → KeepsLimits config → dealer_numbered config dealer ≡ Some row
         → In message (venue.sent_to config dealer (venue.audit_trail config steps))
         → SaysWhenRead (codes "R")
-        (ShowsWhatWasAsked config (venue.audit_trail config steps).facts) message }
+        (ShowsWhatWasAsked config (venue.audit_trail config steps).facts dealer) message }
 {}

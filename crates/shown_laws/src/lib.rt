@@ -5,7 +5,7 @@
 //! - [`what_is_shown_was_quoted`]: over the bytes that firms were sent, as anyone reads them. What
 //!   an investor is shown of a quote (35=S) is what the dealer wrote that 448 names, on the
 //!   investor's own request, in one message for each quote; what a dealer is shown of a request
-//!   (35=R) is what the investor wrote.
+//!   (35=R) is what the investor wrote, and names that dealer.
 //! - [`quotes_are_shown_as_written`], [`requests_are_shown_as_written`]: the same over the facts of
 //!   the audit trail.
 //! - [`quotes_are_shown_in_order`], [`quotes_are_shown_once`]: the quotes of one dealer on one
