@@ -155,6 +155,34 @@ def requests_are_shown(venue: WatchedVenue, turns: Turns) -> Iterator[str]:
                     yield "a request shown %d times" % len(shown)
 
 
+def no_other_dealer_is_shown(venue: WatchedVenue, _turns: Turns) -> Iterator[str]:
+    """A request is shown to no dealer that it does not name."""
+    for dealer in dealers(venue.configuration):
+        for request in venue.dealer_desk(dealer).requests:
+            asked = venue.asked.get(request.room)
+            if asked is None or dealer not in asked.dealers:
+                yield "a request shown to dealer %d" % dealer
+
+
+def the_named_are_asked(venue: WatchedVenue, _turns: Turns) -> Iterator[str]:
+    """The dealers that a request asks are those whose names its investor wrote, in their order."""
+    for asked in venue.asked.values():
+        names = [venue.configuration.firms[dealer].name for dealer in asked.dealers]
+        if names != named_by(asked.fields):
+            yield "%r asked, and %r named" % (names, named_by(asked.fields))
+
+
+def named_by(fields: list[tuple[int, bytes]]) -> list[bytes]:
+    """The PartyID (448) of each party whose source (447) is D and whose role (452) is 35."""
+    parties: list[Fields] = []
+    for tag, value in fields:
+        if tag == 448:
+            parties.append({})
+        if tag in (448, 447, 452) and parties:
+            parties[-1][tag] = value
+    return [party[448] for party in parties if (party.get(447), party.get(452)) == (b"D", b"35")]
+
+
 def quotes_are_shown(venue: WatchedVenue, turns: Turns) -> Iterator[str]:
     """What an investor was told of a dealer on a request begins what happened at that dealer's desk."""
     for investor in investors(venue.configuration):
@@ -236,6 +264,8 @@ LAWS: dict[str, Law] = {
     "withdrawn": withdrawn_is_not_traded,
     "responses": responses_are_answered,
     "requests": requests_are_shown,
+    "only": no_other_dealer_is_shown,
+    "named": the_named_are_asked,
     "quotes": quotes_are_shown,
     "messages": messages_are_answered,
     "times": trades_have_a_time,

@@ -24,6 +24,8 @@ FOUND = [
     ("cancels_of_all_take_one_quote", "messages", 6),
     ("expiries_are_told_twice", "quotes", 0),
     ("declines_are_not_told", "quotes", 2),
+    ("requests_reach_dealers_asked_before", "only", 0),
+    ("the_first_dealers_are_asked", "named", 0),
 ]
 
 

@@ -15,7 +15,7 @@ from .configuration import Configuration
 from .days import Day
 from .dealer import DealerDesk
 from .desk import Duty
-from .frames import moment_text
+from .frames import moment_text, read_frame
 from .lines import LineFault, StepReader
 from .replay import CLOCK, Venue
 from .room import Posted
@@ -42,6 +42,14 @@ class Taken:
 
 
 @dataclass
+class Asked:
+    """A request that was accepted: whom it asks, and the fields of the message that it came in."""
+
+    dealers: list[int]
+    fields: list[tuple[int, bytes]]
+
+
+@dataclass
 class CancelOfAll:
     """A cancel of all quotes: of how many, and where the dealer's next message stood."""
 
@@ -64,6 +72,7 @@ class WatchedVenue(Venue):
     def __init__(self, configuration: Configuration) -> None:
         super().__init__(configuration)
         self.taken: list[Taken] = []
+        self.asked: dict[RoomName, Asked] = {}
         self.responses: dict[int, list[tuple[bytes, bytes, bytes | None]]] = defaultdict(list)
         self.at_desk: dict[tuple[int, RoomName], list[tuple[str, int | None, bytes]]] = defaultdict(
             list
@@ -87,6 +96,8 @@ class WatchedVenue(Venue):
         names = [str(duty[0]) for duty in duties]
         self.taken.append(Taken(desk.inbox.expected != expected, len(desk.sent) - sent, names))
         for duty in duties:
+            if duty[0] == "Open":
+                self.asked[duty[1]] = Asked(duty[3], read_frame(data) or [])
             self.note_duty(firm, duty, moment)
         if "Drop" in names:
             self.cancels.append(CancelOfAll(firm, droppable, moment, len(desk.sent)))

@@ -10,11 +10,12 @@ from contextlib import contextmanager
 from typing import Any
 
 from .dealer import DealerDesk
-from .desk import Desk, Duty, Trade
+from .desk import Ask, Desk, Duty, Trade
 from .investor import InvestorDesk
-from .replay import Venue
+from .replay import Actor, Venue
 from .room import Room
-from .watched import WatchedVenue
+from .session import Message
+from .watched import RoomName, WatchedVenue
 
 Planted = tuple[type, str, Callable[..., Any]]
 
@@ -142,6 +143,39 @@ def declines_are_not_told() -> Planted:
     return Venue, "do_decline", do_decline
 
 
+def requests_reach_dealers_asked_before() -> Planted:
+    """A request is also shown to the dealers whom its investor asked before."""
+    right = Venue.do_open
+
+    def do_open(
+        venue: Venue, actor: Actor, room: RoomName, ask: Ask, dealers: list[int], moment: int
+    ) -> list[Duty]:
+        asked = {
+            dealer
+            for name, at in venue.rooms.items()
+            if name[0] == room[0]
+            for dealer in at.dealers
+        }
+        others = sorted(asked - set(dealers))
+        shown: list[Duty] = [("Show", dealer, room, ask, moment) for dealer in others]
+        return shown + right(venue, actor, room, ask, dealers, moment)
+
+    return Venue, "do_open", do_open
+
+
+def the_first_dealers_are_asked() -> Planted:
+    """A desk takes as many dealers as a request names, and not those that it names."""
+    right = InvestorDesk.take_request
+
+    def take_request(desk: InvestorDesk, moment: int, message: Message) -> list[Duty]:
+        return [
+            (name, room, ask, list(range(len(dealers))), at)
+            for name, room, ask, dealers, at in right(desk, moment, message)
+        ]
+
+    return InvestorDesk, "take_request", take_request
+
+
 WRONG: dict[str, Callable[[], Planted]] = {
     make.__name__: make
     for make in (
@@ -156,6 +190,8 @@ WRONG: dict[str, Callable[[], Planted]] = {
         cancels_of_all_take_one_quote,
         expiries_are_told_twice,
         declines_are_not_told,
+        requests_reach_dealers_asked_before,
+        the_first_dealers_are_asked,
     )
 }
 
