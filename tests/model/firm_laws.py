@@ -11,9 +11,10 @@ from collections.abc import Callable, Iterator
 
 from .configuration import Configuration
 from .days import Day
+from .dealer import COVER
 from .desk import Trade
 from .frames import read_frame, write_frame
-from .watched import AWAITED, Turns, WatchedVenue, played
+from .watched import AWAITED, Award, Turns, WatchedVenue, played
 
 Fields = dict[int, bytes]
 Law = Callable[[WatchedVenue, Turns], Iterator[str]]
@@ -69,21 +70,54 @@ def withdrawn_is_not_traded(venue: WatchedVenue, _turns: Turns) -> Iterator[str]
 def trades_have_a_time(venue: WatchedVenue, turns: Turns) -> Iterator[str]:
     """A trade's moment is its hit's, before deadline and validity, and both messages bear it."""
     for award in venue.awards:
-        until = venue.posted(award).until
+        until = award.won.until
         if award.moment >= venue.rooms[award.room].asked().deadline:
             yield "a hit at or behind its deadline"
         if until is not None and until <= award.moment:
             yield "a hit at or behind the quote's validity"
         if turns is Turns.AS_DRAWN:
             continue
-        investor, n = award.room
-        request = venue.dealer_desk(award.word[0]).request_in(award.room)
-        assert request is not None
-        id = venue.investor_desk(investor).requests[n - 1].id
-        answers = [m for m in sent_to(venue, investor) if is_answer(m) and m[131] == id]
-        notices = [m for m in sent_to(venue, award.word[0]) if is_notice(m, b"R%d" % request.k)]
+        answers, notices = told_of_trade(venue, award)
         if [m[52] for m in answers + notices] != [venue.stamp(award.moment)] * 2:
             yield "two times of one trade"
+
+
+def told_of_trade(venue: WatchedVenue, award: Award) -> tuple[list[Fields], list[Fields]]:
+    """The answers 297=0 of a trade to its investor, and the notices 694=1 of it to its dealer."""
+    investor, n = award.room
+    request = venue.dealer_desk(award.won.dealer).request_in(award.room)
+    assert request is not None
+    id = venue.investor_desk(investor).requests[n - 1].id
+    answers = [m for m in sent_to(venue, investor) if is_answer(m) and m[131] == id]
+    sent = sent_to(venue, award.won.dealer)
+    return answers, [m for m in sent if is_notice(m, b"R%d" % request.k)]
+
+
+def trades_are_of_the_quote_hit(venue: WatchedVenue, turns: Turns) -> Iterator[str]:
+    """A message hit the quote of a trade at its moment, and both sides are told of that quote."""
+    for award in venue.awards:
+        investor, _ = award.room
+        if award.won.word != award.word or (investor, award.moment, award.word) not in venue.hits:
+            yield "an award of %r without its hit" % (award.won.word,)
+        if turns is Turns.AS_DRAWN:
+            continue
+        answers, notices = told_of_trade(venue, award)
+        shown = [b"Q%d" % s.k for s in venue.investor_desk(investor).shown if s.word == award.word]
+        dealer, q = award.word
+        own = venue.dealer_desk(dealer).quotes[q - 1].id
+        if [m.get(117) for m in answers] != shown or [m.get(117) for m in notices] != [own]:
+            yield "told of other quotes than %r" % (award.word,)
+
+
+def covers_are_the_best(venue: WatchedVenue, _turns: Turns) -> Iterator[str]:
+    """The cover of an award is the first posted of the best quotes of the other dealers."""
+    for award in venue.awards:
+        room = venue.rooms[award.room]  # an ended room keeps its book
+        covers = [dealer for dealer, close in room.notices if close == COVER]
+        others = [quote for quote in room.book if quote.dealer != award.won.dealer]
+        prices = [quote.ticks if room.asked().side == 1 else -quote.ticks for quote in others]
+        if covers != [others[prices.index(min(prices))].dealer for _ in others[:1]]:
+            yield "covers %r" % covers
 
 
 def is_answer(m: Fields) -> bool:
@@ -269,6 +303,8 @@ LAWS: dict[str, Law] = {
     "quotes": quotes_are_shown,
     "messages": messages_are_answered,
     "times": trades_have_a_time,
+    "hits": trades_are_of_the_quote_hit,
+    "covers": covers_are_the_best,
     "overdue": nothing_is_overdue,
     "carried": messages_can_be_carried,
     "names": trades_have_one_name,

@@ -13,9 +13,10 @@ from typing import Any
 
 from .configuration import Configuration
 from .days import Day
-from .dealer import DealerDesk
+from .dealer import HIT, DealerDesk
 from .desk import Duty
 from .frames import moment_text, read_frame
+from .investor import InvestorDesk
 from .lines import LineFault, StepReader
 from .replay import CLOCK, Venue
 from .room import Posted
@@ -61,11 +62,12 @@ class CancelOfAll:
 
 @dataclass
 class Award:
-    """A hit that was awarded."""
+    """A hit that was awarded: the word that was hit, and the quote that won."""
 
     room: RoomName
     word: tuple[int, int]
     moment: int
+    won: Posted
 
 
 class WatchedVenue(Venue):
@@ -79,6 +81,7 @@ class WatchedVenue(Venue):
         )
         self.swept: dict[int, list[int]] = defaultdict(list)
         self.cancels: list[CancelOfAll] = []
+        self.hits: set[tuple[int, int, object]] = set()
         self.awards: list[Award] = []
         self.overdue: list[str] = []
 
@@ -87,6 +90,7 @@ class WatchedVenue(Venue):
 
     def came(self, firm: int, moment: int, data: bytes) -> None:
         desk = self.desks[firm]
+        self.note_hit(firm, moment, data)
         sent, expected, waiting = len(desk.sent), desk.inbox.expected, len(self.queues[firm])
         droppable = 0
         if isinstance(desk, DealerDesk):
@@ -101,6 +105,14 @@ class WatchedVenue(Venue):
             self.note_duty(firm, duty, moment)
         if "Drop" in names:
             self.cancels.append(CancelOfAll(firm, droppable, moment, len(desk.sent)))
+
+    def note_hit(self, firm: int, moment: int, data: bytes) -> None:
+        """Notes the word that a message names, of a quote that was shown before the message came."""
+        desk, fields = self.desks[firm], dict(read_frame(data) or [])
+        if isinstance(desk, InvestorDesk):
+            for quote in desk.shown:
+                if fields.get(117) == b"Q%d" % quote.k:
+                    self.hits.add((firm, moment, quote.word))
 
     def note_duty(self, firm: int, duty: Duty, moment: int) -> None:
         name, *rest = duty
@@ -130,7 +142,9 @@ class WatchedVenue(Venue):
     ) -> list[Duty]:
         duties = super().do_hit(investor, room, response, word, moment)
         if self.rooms[room].phase == "ended" and any(duty[0] == "Tell" for duty in duties):
-            self.awards.append(Award(room, word, moment))
+            winner = next(dealer for dealer, close in self.rooms[room].notices if close == HIT)
+            won = next(quote for quote in self.rooms[room].book if quote.dealer == winner)
+            self.awards.append(Award(room, word, moment, won))
         return duties
 
     def expire(self, investor: int, n: int, moment: int) -> None:
@@ -143,12 +157,6 @@ class WatchedVenue(Venue):
             self.swept[investor].append(n)
         if room.phase == "open" and room.asked().deadline <= moment:
             self.overdue.append("room %d %d" % (investor, n))
-
-    def posted(self, award: Award) -> Posted:
-        """The quote that was awarded: an ended room keeps its book."""
-        quote = self.rooms[award.room].standing(award.word)
-        assert quote is not None
-        return quote
 
 
 def steps_of(day: Day) -> list[tuple[Any, ...]]:

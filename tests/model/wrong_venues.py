@@ -9,11 +9,11 @@ from collections.abc import Callable, Iterator
 from contextlib import contextmanager
 from typing import Any
 
-from .dealer import DealerDesk
+from .dealer import COVER, DONE_AWAY, HIT, DealerDesk
 from .desk import Ask, Desk, Duty, Trade
 from .investor import InvestorDesk
 from .replay import Actor, Venue
-from .room import Room
+from .room import Posted, Room
 from .session import Message
 from .watched import RoomName, WatchedVenue
 
@@ -114,6 +114,51 @@ def full_books_close_later() -> Planted:
     return Venue, "notices", notices
 
 
+def hits_of_a_replaced_quote_take_the_new_one() -> Planted:
+    """A hit of a quote that its dealer replaced at the same price takes the new quote."""
+    right = Venue.do_hit
+
+    def do_hit(
+        venue: Venue, actor: int, room: Any, response: Any, word: Any, moment: int
+    ) -> list[Duty]:
+        hit = venue.investor_desk(room[0]).shown[response[1] - 1]
+        for quote in venue.room(room).book:
+            if quote.dealer == word[0] and quote.ticks == hit.ticks:
+                word = quote.word
+        return right(venue, actor, room, response, word, moment)
+
+    return Venue, "do_hit", do_hit
+
+
+def hits_of_no_quote_take_the_last_one() -> Planted:
+    """A hit of a quote that was not shown is taken as one of the quote that was shown last."""
+    right = InvestorDesk.take_hit
+
+    def take_hit(desk: InvestorDesk, moment: int, message: Any) -> list[Duty]:
+        if desk.quote(message[117]) is not None or not desk.shown:
+            return right(desk, moment, message)
+        last = desk.shown[-1]
+        return [("Hit", (desk.firm, last.request.n), (message[693], last.k), last.word, moment)]
+
+    return InvestorDesk, "take_hit", take_hit
+
+
+def covers_are_the_worst() -> Planted:
+    """The cover is the dealer of the worst of the other quotes."""
+
+    def award(room: Room, winner: Posted) -> None:
+        others = [quote for quote in room.book if quote is not winner]
+        sign = 1 if room.asked().side == 1 else -1
+        cover = max(others, key=lambda quote: sign * quote.ticks, default=None)
+        kinds = {dealer: DONE_AWAY for dealer in room.dealers}
+        if cover:
+            kinds[cover.dealer] = COVER
+        kinds[winner.dealer] = HIT
+        room.end(kinds)
+
+    return Room, "award", award
+
+
 def cancels_of_all_take_one_quote() -> Planted:
     """A cancel of all stops behind its first quote."""
     right = DealerDesk.drop
@@ -187,6 +232,9 @@ WRONG: dict[str, Callable[[], Planted]] = {
         investors_count_all_trades,
         answers_are_late,
         full_books_close_later,
+        hits_of_a_replaced_quote_take_the_new_one,
+        hits_of_no_quote_take_the_last_one,
+        covers_are_the_worst,
         cancels_of_all_take_one_quote,
         expiries_are_told_twice,
         declines_are_not_told,
