@@ -1,13 +1,16 @@
--- A room is awarded by a hit that no check refuses.
+-- A room is awarded by a hit that no check refuses, to the quote that its word means.
 use Rattle.std.proofs.Common.{◌≡◌, ◌<◌, ℕ, Bool, true, false, not, nat_le, List, [], ◌∷◌, ◌++◌, map}
 use Rattle.std.proofs.Common.{find, fold}
-use Rattle.std.proofs.Common.{Option, Some, None, is_none, option_map, Result, Ok, Err, refl, sym}
+use Rattle.std.proofs.Common.{Option, Some, None, IfSome, is_none, is_some, option_map, Result, Ok}
+use Rattle.std.proofs.Common.{Err, refl, sym, ◌↔◌, ◌&&◌}
 use Rattle.std.proofs.Common.{ap, ◌∙◌, subst, arith}
 use Rattle.std.proofs.Common.{inl, inr, ◌==◌}
-use Rattle.std.proofs.lemmas.Bool.{cases_Bool, not-false}
+use Rattle.std.proofs.lemmas.Bool.{cases_Bool, false≢true, not-false}
 use Rattle.std.proofs.lemmas.Bool.Decides.{nat_tests}
+use Rattle.std.proofs.lemmas.List.{append_assoc}
 use Rattle.std.proofs.lemmas.Option.{same_Some}
 use Rattle.market_terms.specs.Checks.{first_refusal, is_not_after}
+use Rattle.market_terms.specs.declared.asks.Side.{Side}
 use Rattle.market_terms.specs.declared.closes.HitRefusal.{HitRefusal}
 use Rattle.market_terms.specs.declared.duties.Duty.{Duty}
 use Rattle.market_terms.specs.declared.rooms.RoomRef.{RoomRef}
@@ -15,13 +18,14 @@ use Rattle.quote_word.specs.declared.settled.Settled.{Settled}
 use Rattle.venue_rows.specs.Rows.{Configuration}
 use Rattle.venue_places.specs.declared.actors.Actor.{Actor}
 use Rattle.dealer_desk.specs.DealerOutput.{is_same_room}
-use Rattle.request_room.specs.Book.{award_of, book_of, end_by, event_facts, expired, hit_checks}
+use Rattle.request_room.specs.Book.{IsBest, award_of, book_of, cover_for, cover_of, end_by}
+use Rattle.request_room.specs.Book.{event_facts, expired, hit_checks, others}
 use Rattle.request_room.specs.Book.{hit_outcome, hit_refusal}
 use Rattle.request_room.specs.Book.{hit_settled, is_expired, is_lift, is_past_deadline, may_expire}
 use Rattle.request_room.specs.Book.{may_unpost, passed}
 use Rattle.request_room.specs.Book.{quote_meant, quote_posted, where_so}
 use Rattle.request_room.specs.RoomFacts.{Ended, Noted, Opened, Posted, Readied, RoomFact, Unposted}
-use Rattle.request_room.specs.RoomFacts.{is_awarded_kind}
+use Rattle.request_room.specs.RoomFacts.{is_awarded_kind, is_ended, is_ready, opened_for}
 use Rattle.request_room.specs.RoomFacts.{is_open, is_opening, is_vacant, request_of, takes_quotes}
 use Rattle.request_room.specs.declared.ends.End.{End}
 use Rattle.request_room.specs.declared.events.RoomEvent.{RoomEvent}
@@ -38,13 +42,13 @@ use Rattle.step_replay.specs.AuditTrail.{AuditTrail, after_step, after_turn, aud
 use Rattle.step_replay.specs.AuditTrail.{pending}
 use Rattle.step_replay.specs.DutyEffects.{duty_effect, message_effect, sweep_effect}
 use Rattle.step_replay.specs.EachLemmas.{Each, Every, each_append, each_of}
-use Rattle.step_replay.specs.GrowthLemmas.{In, same_room}
+use Rattle.step_replay.specs.GrowthLemmas.{In, said_grown, same_room}
 use Rattle.step_replay.specs.PlaceLemmas.{other_room, own_room, room_at_dealer, room_at_investor}
 use Rattle.step_replay.specs.PlaceLemmas.{room_grown}
 use Rattle.step_replay.specs.VenueFacts.{Fact, InRoom, of_room}
 use Rattle.step_replay.specs.declared.steps.Step.{Step}
 use Rattle.step_replay.specs.declared.steps.Step.TheVariants as step
-use Rattle.laws_answers.specs.Awards.{IsInTime}
+use Rattle.laws_answers.specs.Awards.{IsBestCover, IsInTime, NamesBestCover}
 
 -- A hit.
 
@@ -109,17 +113,40 @@ in_time facts w moment settlement award is =
     by_quote facts w moment award both.1 checks.0 checks.1.0 (quote_meant (book_of facts) w) refl
     checks.1.1.0 checks.1.1.1.0
 
+-- an award of the quote that a word means
+record IsAwardOf (stood : List RoomFact) (award : End) : Type 0 where
+  pub word : ℕ
+  pub quote : PostedQuote
+  pub meant : quote_meant (book_of stood) word ≡ Some quote
+  pub award_is : award ≡ award_of stood word
+
+is_meant : (found : Option PostedQuote) → is_none found ≡ false
+    → (quote : PostedQuote) × (found ≡ Some quote)
+is_meant None there = cc
+is_meant (Some quote) there = (quote, refl)
+
+award_is_of : (facts : List RoomFact) (w moment : ℕ) (settlement : Option Settled) (award : End)
+    → hit_outcome facts w moment settlement ≡ Ok award → IsAwardOf facts award
+award_is_of facts w moment settlement award is =
+    let both = settled (hit_refusal facts w moment) settlement (award_of facts w) award is in
+    let checks = hit_checked facts w moment both.0 in
+    let found = is_meant (quote_meant (book_of facts) w) checks.1.1.0 in
+    record { word = w; quote = found.0; meant = found.1; award_is = sym both.1 }
+
 -- In a room.
 
--- where a fact awards the room, that is in time
+-- where a fact awards the room, that is in time, and of a quote; and where it readies the room, a
+-- request stands there
 abbrev AwardsInTime : List RoomFact → RoomFact → List RoomFact → Type 0
 AwardsInTime before (Ended end moment) after =
-    is_awarded_kind end.kind ≡ true → IsInTime before end moment
+    is_awarded_kind end.kind ≡ true → IsInTime before end moment × IsAwardOf before end
+AwardsInTime before Readied after = is_some (request_of before) ≡ true
 AwardsInTime before fact after = Unit {0}
 
 stays : (before : List RoomFact) (fact : RoomFact) (after more : List RoomFact)
     → AwardsInTime before fact after → AwardsInTime before fact (after ++ more)
 stays before (Ended end moment) after more is = is
+stays before Readied after more is = is
 stays before fact after more is = tt
 
 so_each : (b : Bool) (facts : List RoomFact) (fact : RoomFact) → AwardsInTime facts fact []
@@ -127,11 +154,24 @@ so_each : (b : Bool) (facts : List RoomFact) (fact : RoomFact) → AwardsInTime 
 so_each true facts fact is = (is, tt)
 so_each false facts fact is = tt
 
+and_first : (one other : Bool) → (one && other) ≡ true → one ≡ true
+and_first true other is = refl
+and_first false other is = is
+
+ready_each : (facts : List RoomFact) (b : Bool) → is_opening facts ≡ b
+    → Each AwardsInTime facts (where_so b Readied)
+ready_each facts true opening = (
+  and_first (is_some (request_of facts)) (not (is_ready facts))
+      (and_first (is_some (request_of facts) && not (is_ready facts)) (not (is_ended facts)) opening),
+  tt,
+)
+ready_each facts false opening = tt
+
 event_each : (facts : List RoomFact) (event : RoomEvent)
     → Each AwardsInTime facts (event_facts facts event)
 unfolding event_facts
 event_each facts (at_room.Open request) = so_each (is_vacant facts) facts (Opened request) tt
-event_each facts at_room.Ready = so_each (is_opening facts) facts Readied tt
+event_each facts at_room.Ready = ready_each facts (is_opening facts) refl
 event_each facts (at_room.Post dealer w price until) =
     so_each (takes_quotes facts) facts (Posted (quote_posted dealer w price until)) tt
 event_each facts (at_room.Unpost dealer w) =
@@ -142,12 +182,69 @@ event_each facts (at_room.Hit w moment settlement) =
   where
     by_outcome : (outcome : Result End HitRefusal) → hit_outcome facts w moment settlement ≡ outcome
         → Each AwardsInTime facts (end_by outcome moment)
-    by_outcome (Ok award) is = (λ kind. in_time facts w moment settlement award is, tt)
+    by_outcome (Ok award) is = (
+      (λ kind. (
+        in_time facts w moment settlement award is,
+        award_is_of facts w moment settlement award is,
+      )),
+      tt,
+    )
     by_outcome (Err reason) is = tt
 event_each facts (at_room.Pass moment) =
     so_each (is_open facts) facts (Ended passed moment) (λ kind. cc)
 event_each facts (at_room.Expire moment) =
     so_each (may_expire facts moment) facts (Ended expired moment) (λ kind. cc)
+
+-- The cover.
+
+-- the request of a room that is ready
+ready_split : (facts : List RoomFact) → is_ready facts ≡ true
+    → (front : List RoomFact) × (rest : List RoomFact) × (facts ≡ front ++ Readied ∷ rest)
+ready_split [] ready = absurd (false≢true ready)
+ready_split (Readied ∷ facts) ready = ([], facts, refl)
+ready_split (fact ∷ facts) ready =
+    let later = ready_split facts ready in
+    (fact ∷ later.0, later.1, ap (λ (l : List RoomFact). fact ∷ l) later.2)
+
+some_request : (found : Option RoomRequest) → is_some found ≡ true
+    → (request : RoomRequest) × (found ≡ Some request)
+some_request None is = cc
+some_request (Some request) is = (request, refl)
+
+abbrev dealer_in : PostedQuote → ℕ
+dealer_in quote = quote.dealer
+
+best_cover : (side : Side) (quotes : List PostedQuote) (found : Option PostedQuote)
+    → IfSome found (λ cover. IsBest side quotes cover) → (found ≡ None → quotes ≡ [])
+    → IsBestCover side quotes (option_map dealer_in found)
+best_cover side quotes None best none = none refl
+best_cover side quotes (Some cover) best none = (cover, best, refl)
+
+names_cover : ((side : Side) (winner : ℕ) (book : List PostedQuote)
+    → IfSome (cover_of side winner book) (λ cover. IsBest side (others winner book) cover))
+    → ((side : Side) (winner : ℕ) (book : List PostedQuote)
+    → (cover_of side winner book ≡ None) ↔ (others winner book ≡ []))
+    → (stood : List RoomFact) (award : End) → IsAwardOf stood award → (request : RoomRequest)
+    → request_of stood ≡ Some request → NamesBestCover stood award
+names_cover best none stood award of request asked =
+    let book = book_of stood in
+    let side = request.ask.side in
+    let winner = of.quote.dealer in
+    let cover : award.cover ≡ option_map dealer_in (cover_of side winner book) =
+    ap (λ (e : End). e.cover) of.award_is
+    ∙ ap (λ (r : Option RoomRequest).
+    option_map dealer_in (cover_for r (quote_meant book of.word) book)) asked
+    ∙ ap (λ (q : Option PostedQuote). option_map dealer_in (cover_for (Some request) q book)) of.meant in
+    record {
+      request = request;
+      is_request = asked;
+      winner = of.quote;
+      stands = found_in (λ (q : PostedQuote). q.word == of.word) book of.quote of.meant;
+      is_winner = ap (λ (e : End). e.winner) of.award_is ∙ ap (option_map winner_of) of.meant;
+      cover = subst (IsBestCover side (others winner book)) (sym cover)
+          (best_cover side (others winner book) (cover_of side winner book) (best side winner book)
+          (none side winner book).0);
+    }
 
 -- In a venue.
 
@@ -249,5 +346,27 @@ module _ (config : Configuration) (room : RoomRef) where
       → of_room room (audit_trail config steps).facts ≡ before ++ Ended award moment ∷ after
       → is_awarded_kind award.kind ≡ true → IsInTime before award moment
   award_in_time steps before after award moment is kind =
-      each_of AwardsInTime (of_room room (audit_trail config steps).facts) before (Ended award moment)
-      after (awards_kept steps) is kind
+      (each_of AwardsInTime (of_room room (audit_trail config steps).facts) before
+      (Ended award moment) after (awards_kept steps) is kind).0
+
+  pub award_covered : ((side : Side) (winner : ℕ) (book : List PostedQuote)
+      → IfSome (cover_of side winner book) (λ cover. IsBest side (others winner book) cover))
+      → ((side : Side) (winner : ℕ) (book : List PostedQuote)
+      → (cover_of side winner book ≡ None) ↔ (others winner book ≡ []))
+      → (steps : List Step) (before after : List RoomFact) (award : End) (moment : ℕ)
+      → of_room room (audit_trail config steps).facts ≡ before ++ Ended award moment ∷ after
+      → is_awarded_kind award.kind ≡ true → NamesBestCover before award
+  award_covered best none steps before after award moment is kind =
+      let known = of_room room (audit_trail config steps).facts in
+      let both = each_of AwardsInTime known before (Ended award moment) after (awards_kept steps) is kind in
+      let split = ready_split before
+      (and_first (is_ready before) (not (is_ended before)) both.0.was_open) in
+      let rest = split.1 ++ Ended award moment ∷ after in
+      let whole : known ≡ split.0 ++ Readied ∷ rest =
+      is ∙ ap (λ (l : List RoomFact). l ++ Ended award moment ∷ after) split.2
+      ∙ append_assoc split.0 (Readied ∷ split.1) (Ended award moment ∷ after) in
+      let asked = some_request (request_of split.0)
+      (each_of AwardsInTime known split.0 Readied rest (awards_kept steps) whole) in
+      names_cover best none before award both.1 asked.0
+      (ap request_of split.2
+      ∙ said_grown opened_for split.0 (Readied ∷ split.1) asked.0 asked.1)

@@ -1,0 +1,30 @@
+//! An award names the best cover.
+ghost use Rattle.std.specs.Prelude.{◌≡◌, ℕ, List, ◌∷◌, ◌++◌, true};
+ghost use Rattle.market_terms.specs.declared.rooms.RoomRef.{RoomRef};
+ghost use Rattle.venue_rows.specs.Rows.{Configuration};
+ghost use Rattle.request_room.specs.RoomFacts.{Ended, RoomFact, is_awarded_kind};
+ghost use Rattle.request_room.specs.declared.ends.End.{End};
+ghost use Rattle.step_replay.specs.AuditTrail as venue;
+ghost use Rattle.step_replay.specs.VenueFacts.{of_room};
+ghost use Rattle.step_replay.specs.declared.steps.Step.{Step};
+ghost use Rattle.laws_answers.specs.Awards.{NamesBestCover};
+
+use request_room::the_cover_is_the_best_other_quote;
+
+/// A law: an award names the best cover. Where a room was awarded and quotes of other dealers than the
+/// winner stood in its book, the cover is the dealer of the best of them: none is better for the
+/// investor, and each that was posted earlier is worse. Where no such quote stood there, nobody is the
+/// cover. So it is in every venue, after every list of steps. It does nothing.
+///
+/// It ends at: the notices. (That each dealer is told once how the room ended for it, which for the
+/// cover is 694=4, `each_named_dealer_is_told_once` says.)
+pub fn an_award_names_the_best_cover()
+    ensures { (config : Configuration) (steps : List Step) (room : RoomRef)
+        (before after : List RoomFact) (award : End) (moment : ℕ)
+        → of_room room (venue.audit_trail config steps).facts
+        ≡ before ++ Ended award moment ∷ after
+        → is_awarded_kind award.kind ≡ true
+        → NamesBestCover before award }
+{
+    the_cover_is_the_best_other_quote();
+}
