@@ -477,12 +477,12 @@ pub never_traded : (config : Configuration) (row : DealerRow) (facts : List Fact
     → AreApart facts dealer → AreOfTheirOwn facts dealer → (bytes : List ℕ)
     → (is : IsSaid config.date row (of_dealer dealer facts) bytes) → (quote : AcceptedQuote)
     → Confirms is.stood is.message quote → In (Quoted quote) (facts_of (of_dealer dealer facts))
-    → (trade : Trade config facts) → trade.dealer ≡ dealer → trade.quote.id ≡ quote.id → ⊥
+    → (trade : Trade config facts) → trade.deal.dealer ≡ dealer → trade.deal.quote.id ≡ quote.id → ⊥
 never_traded config row facts dealer apart own bytes is quote confirms quoted trade at id =
-    let there : In (Quoted trade.quote) (facts_of (of_dealer dealer facts)) =
-    subst (λ (d : ℕ). In (Quoted trade.quote) (facts_of (of_dealer d facts))) at trade.was_quoted in
-    let lifted : was_lifted (of_dealer dealer facts) trade.quote.number ≡ true =
-    subst (λ (d : ℕ). was_lifted (of_dealer d facts) trade.quote.number ≡ true) at trade.lifted in
-    let same : trade.quote ≡ quote = one_quote facts dealer own trade.quote quote there quoted id in
+    let there : In (Quoted trade.deal.quote) (facts_of (of_dealer dealer facts)) =
+    subst (λ (d : ℕ). In (Quoted trade.deal.quote) (facts_of (of_dealer d facts))) at trade.deal.was_quoted in
+    let lifted : was_lifted (of_dealer dealer facts) trade.deal.quote.number ≡ true =
+    subst (λ (d : ℕ). was_lifted (of_dealer d facts) trade.deal.quote.number ≡ true) at trade.deal.lifted in
+    let same : trade.deal.quote ≡ quote = one_quote facts dealer own trade.deal.quote quote there quoted id in
     false≢true (sym (never_lifted config.date row facts dealer apart own bytes is quote confirms quoted)
     ∙ ap (λ (q : AcceptedQuote). was_lifted (of_dealer dealer facts) q.number) (sym same) ∙ lifted)

@@ -44,7 +44,7 @@ pub fn what_is_withdrawn_is_never_traded()
         → In (Quoted quote)
         (facts_of (of_dealer dealer (venue.audit_trail config steps).facts))
         → (trade : Trade config (venue.audit_trail config steps).facts)
-        → trade.dealer ≡ dealer → trade.quote.id ≡ quote.id → ⊥ }
+        → trade.deal.dealer ≡ dealer → trade.deal.quote.id ≡ quote.id → ⊥ }
 {
     no_quote_is_lifted_and_withdrawn();
     quotes_are_shown_once();

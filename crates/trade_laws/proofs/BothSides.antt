@@ -277,6 +277,12 @@ module _ {config : Configuration} {venue : AuditTrail} (stood : VenueOk config v
       price_is : closed.shown.offer.price ≡ offer.own.price
       price_is = ap (λ (o : Offer). o.price) offer.offer_is
 
+      word_is : quote_with_word config closed.shown.offer.word
+          ≡ Some (quote_at offer.dealer offer.own.number)
+      word_is =
+          ap (λ (o : Offer). quote_with_word config o.word) offer.offer_is
+          ∙ owner config offer.dealer offer.row offer.own.number offer.row_is offer.within
+
       trade : Trade config venue.facts
       trade =
           let asked = asks.2.asked in
@@ -289,38 +295,53 @@ module _ {config : Configuration} {venue : AuditTrail} (stood : VenueOk config v
           let shown = number_shown in
           let same : answered request quote name price
           ≡ answered asked.number closed.shown.number offer.row.name offer.own.price = cc in
+          let answered_it : In (answered asked.number closed.shown.number offer.row.name offer.own.price)
+          (at_investor investor venue.facts) =
+          subst (λ (f : InvestorFact). In f (at_investor investor venue.facts)) same answer in
+          let noticed : IsSentNotice config.date offer.row (trail offer.dealer) asked.ask offer.own =
+          subst (λ (a : Ask). IsSentNotice config.date offer.row (trail offer.dealer) a offer.own)
+          (sym asks.2.ask_is) notice in
+          let untold : NoOtherIsTold venue.facts (room_of investor asked.number) offer.dealer =
+          subst (λ (n : ℕ). NoOtherIsTold venue.facts (room_of investor n) offer.dealer) (sym number)
+          others_untold in
+          let unlifted : NoOtherIsLifted venue.facts (room_of investor asked.number) offer.dealer offer.own =
+          subst (λ (n : ℕ). NoOtherIsLifted venue.facts (room_of investor n) offer.dealer offer.own)
+          (sym number) others_unlifted in
           record {
-            investor = investor;
-            asked = asked;
-            shown = closed.shown;
-            dealer = offer.dealer;
-            row = offer.row;
-            quote = offer.own;
-            moment = told.moment;
-            was_asked = asks.2.was_asked;
-            was_shown = shown_it;
-            was_answered = subst (λ (f : InvestorFact). In f (at_investor investor venue.facts))
-                same answer;
-            is_dealer = offer.row_is;
-            is_named = name_is;
-            was_quoted = offer.quoted;
-            is_on = closed.request_is ∙ sym number;
-            is_there = rw number (offer.request_is);
-            bond = of.bond ∙ ap (λ (a : Ask). a.bond) ask;
-            side = of.side ∙ ap (λ (a : Ask). a.side) ask;
-            quantity = of.quantity ∙ ap (λ (a : Ask). a.quantity) ask;
-            price = sym price_is;
-            valid_until = sym (ap (λ (o : Offer). o.valid_until) offer.offer_is);
-            told_once = told_it;
-            notice = rw asks.2.ask_is notice;
-            told_alone = rw number others_untold;
-            lifted = lifted_it;
-            lifted_alone = rw number others_unlifted;
+            deal = record {
+              investor = investor;
+              asked = asked;
+              shown = closed.shown;
+              dealer = offer.dealer;
+              row = offer.row;
+              quote = offer.own;
+              was_asked = asks.2.was_asked;
+              was_shown = shown_it;
+              is_on = closed.request_is ∙ sym number;
+              is_dealer = offer.row_is;
+              is_named = name_is;
+              was_quoted = offer.quoted;
+              is_there = rw number (offer.request_is);
+              bond = of.bond ∙ ap (λ (a : Ask). a.bond) ask;
+              side = of.side ∙ ap (λ (a : Ask). a.side) ask;
+              quantity = of.quantity ∙ ap (λ (a : Ask). a.quantity) ask;
+              price = sym price_is;
+              valid_until = sym (ap (λ (o : Offer). o.valid_until) offer.offer_is);
+              word = word_is;
+              lifted = lifted_it;
+            };
+            told = record {
+              is_answered = answered_it;
+              moment = told.moment;
+              once = told_it;
+              notice = noticed;
+            };
+            untold = record { told = untold; lifted = unlifted };
           }
 
-      pub trade_of : (t : Trade config venue.facts) × (t.investor ≡ investor)
-          × (t.asked.number ≡ request) × (t.shown.number ≡ quote) × (t.row.name ≡ name)
-          × (t.quote.price ≡ price)
+      pub trade_of : (t : Trade config venue.facts) × (t.deal.investor ≡ investor)
+          × (t.deal.asked.number ≡ request) × (t.deal.shown.number ≡ quote)
+          × (t.deal.row.name ≡ name) × (t.deal.quote.price ≡ price)
       unfolding trade
       trade_of = (
         trade,
@@ -336,7 +357,8 @@ module _ {config : Configuration} {venue : AuditTrail} (stood : VenueOk config v
     pub trade_told : (dealer : ℕ) (row : DealerRow) (request moment : ℕ)
         → dealer_numbered config dealer ≡ Some row
         → In (Told request closes.Hit moment) (facts_of (trail dealer))
-        → (t : Trade config venue.facts) × (t.dealer ≡ dealer) × (t.quote.request ≡ request)
+        → (t : Trade config venue.facts) × (t.deal.dealer ≡ dealer)
+        × (t.deal.quote.request ≡ request)
     trade_told dealer row request moment is told =
         let closing : ClosedIn config dealer request closes.Hit venue =
         all_in (λ entry. Still (FactOk config (AtDealer dealer entry)) venue)
@@ -354,11 +376,11 @@ module _ {config : Configuration} {venue : AuditTrail} (stood : VenueOk config v
         (rw (all_done (actor.Firm at.investor)) (left.left)) venue (later_same venue) in
         let made = trade_of at.investor at.n done.quote done.dealer done.price done.closed in
         let t = made.0 in
-        let number : number_in (rooms_by (trail dealer)) (room_of t.investor t.asked.number)
+        let number : number_in (rooms_by (trail dealer)) (room_of t.deal.investor t.deal.asked.number)
         ≡ Some request = rw (made.1, made.2) (closing.request_is) in
-        let same : dealer ≡ t.dealer = t.told_alone dealer request moment number told in (
+        let same : dealer ≡ t.deal.dealer = t.untold.told dealer request moment number told in (
           t,
           sym same,
-          same_Some t.quote.request request
-              (sym t.is_there ∙ rw (← same) number),
+          same_Some t.deal.quote.request request
+              (sym t.deal.is_there ∙ rw (← same) number),
         )

@@ -105,10 +105,10 @@ price_said head number investor bond Sell quantity deadline ask quote = refl
 
 module _ {config : Configuration} (trail : AuditTrail) (trade : Trade config trail.facts)
     (head : Head) (number : ℕ)
-    (lawful : AreLawful (written_fields head (notice_of number trade.asked.ask trade.quote)))
-    (sent : In (written head (notice_of number trade.asked.ask trade.quote))
-    (sent_to config trade.dealer trail)) where
-  notes : NotesTrade trail trade (written_fields head (notice_of number trade.asked.ask trade.quote))
+    (lawful : AreLawful (written_fields head (notice_of number trade.deal.asked.ask trade.deal.quote)))
+    (sent : In (written head (notice_of number trade.deal.asked.ask trade.deal.quote))
+    (sent_to config trade.deal.dealer trail)) where
+  notes : NotesTrade trail trade (written_fields head (notice_of number trade.deal.asked.ask trade.deal.quote))
   unfolding written fmt.digits
   notes = record {
     body = (refl, lawful);
@@ -119,7 +119,7 @@ module _ {config : Configuration} (trail : AuditTrail) (trade : Trade config tra
     bond = refl;
     side = refl;
     quantity = refl;
-    price = price_said head number [] [] trade.asked.ask.side 0 0 trade.asked.ask trade.quote;
+    price = price_said head number [] [] trade.deal.asked.ask.side 0 0 trade.deal.asked.ask trade.deal.quote;
   }
 
 -- What firms wrote that is said of a trade may stand in a field: the ids and the bonds of requests,
@@ -164,64 +164,64 @@ module _ {config : Configuration} {venue : AuditTrail} (limits : KeepsLimits con
 
   module _ (trade : Trade config venue.facts) where
     -- the notice of a trade may stand in a frame
-    lawful_notice : (head : Head) → head.date ≡ config.date → head.firm ≡ trade.row.name
+    lawful_notice : (head : Head) → head.date ≡ config.date → head.firm ≡ trade.deal.row.name
         → (number : ℕ)
-        → AreLawful (written_fields head (notice_of number trade.asked.ask trade.quote))
+        → AreLawful (written_fields head (notice_of number trade.deal.asked.ask trade.deal.quote))
     lawful_notice head date_is firm_is number =
         notice_lawful head
         (subst IsValue (sym firm_is)
-        (dealer_value config limits trade.dealer trade.row trade.is_dealer))
-        (subst IsValue (sym date_is) dated) number trade.asked.ask trade.quote
-        (wrote.quotes trade.dealer trade.quote trade.was_quoted)
-        (wrote.bonds trade.investor trade.asked trade.was_asked)
+        (dealer_value config limits trade.deal.dealer trade.deal.row trade.deal.is_dealer))
+        (subst IsValue (sym date_is) dated) number trade.deal.asked.ask trade.deal.quote
+        (wrote.quotes trade.deal.dealer trade.deal.quote trade.deal.was_quoted)
+        (wrote.bonds trade.deal.investor trade.deal.asked trade.deal.was_asked)
 
     -- the notice of a trade was sent
     notice_sent : (others : List Field) × NotesTrade venue trade others
     unfolding written
     notice_sent =
-        let trail = of_dealer trade.dealer venue.facts in
-        let told : In (AtDesk (Told trade.quote.request closes.Hit trade.moment)) trail =
-        in_facts (Told trade.quote.request closes.Hit trade.moment) trail
-        (filter_in (tells trade.quote.request) (Told trade.quote.request closes.Hit trade.moment)
-        (facts_of trail) (rw (trade.told_once) (inl refl))) in
-        let split = in_split (AtDesk (Told trade.quote.request closes.Hit trade.moment)) trail told in
-        let bears = trade.notice trade.moment split.0 split.1 split.2 in
+        let trail = of_dealer trade.deal.dealer venue.facts in
+        let told : In (AtDesk (Told trade.deal.quote.request closes.Hit trade.told.moment)) trail =
+        in_facts (Told trade.deal.quote.request closes.Hit trade.told.moment) trail
+        (filter_in (tells trade.deal.quote.request) (Told trade.deal.quote.request closes.Hit trade.told.moment)
+        (facts_of trail) (rw (trade.told.once) (inl refl))) in
+        let split = in_split (AtDesk (Told trade.deal.quote.request closes.Hit trade.told.moment)) trail told in
+        let bears = trade.told.notice trade.told.moment split.0 split.1 split.2 in
         let head : Head = record {
           date = config.date;
-          firm = trade.row.name;
+          firm = trade.deal.row.name;
           number = length (dealer_trail.sent_by split.0) + 1;
-          moment = trade.moment;
+          moment = trade.told.moment;
         } in
-        let message = written head (notice_of bears.0 trade.asked.ask trade.quote) in
-        let told_entry = AtDesk (Told trade.quote.request closes.Hit trade.moment) in
-        let there : In message (dealer_sent trade.dealer) =
+        let message = written head (notice_of bears.0 trade.deal.asked.ask trade.deal.quote) in
+        let told_entry = AtDesk (Told trade.deal.quote.request closes.Hit trade.told.moment) in
+        let there : In message (dealer_sent trade.deal.dealer) =
         subst (λ (l : List DealerEntry). In message (dealer_trail.sent_by l)) (sym split.2)
         (subst (In message) (sym (filter_map-append dealer_trail.message_in split.0
         (told_entry ∷ split.1)))
         (in_right message (dealer_trail.sent_by split.0) (dealer_trail.sent_by split.1)
         (next_in message split.1 bears.1))) in (
-          written_fields head (notice_of bears.0 trade.asked.ask trade.quote),
+          written_fields head (notice_of bears.0 trade.deal.asked.ask trade.deal.quote),
           notes venue trade head bears.0 (lawful_notice head refl refl bears.0)
-              (subst (In message) (sym (to_dealer trade.dealer trade.row trade.is_dealer)) there),
+              (subst (In message) (sym (to_dealer trade.deal.dealer trade.deal.row trade.deal.is_dealer)) there),
         )
 
     -- its answer was sent
     answer_sent : (others : List Field) × AnswersTrade venue trade others
     answer_sent =
-        let closed : ClosedBy config venue.facts trade.investor trade.asked.number
-        trade.shown.number trade.row.name trade.quote.price =
-        at_market stood trades trade.investor
-        (Closed trade.asked.number (Awarded trade.shown.number trade.row.name trade.quote.price))
-        trade.was_answered in
-        let asked : AskedBy config trade.investor trade.asked =
-        at_market stood trades trade.investor (Asked trade.asked) trade.was_asked in (
+        let closed : ClosedBy config venue.facts trade.deal.investor trade.deal.asked.number
+        trade.deal.shown.number trade.deal.row.name trade.deal.quote.price =
+        at_market stood trades trade.deal.investor
+        (Closed trade.deal.asked.number (Awarded trade.deal.shown.number trade.deal.row.name trade.deal.quote.price))
+        trade.told.is_answered in
+        let asked : AskedBy config trade.deal.investor trade.deal.asked =
+        at_market stood trades trade.deal.investor (Asked trade.deal.asked) trade.deal.was_asked in (
           closed.fields,
           record {
             body = closed.body asked.row asked.row_is
-                (may_read trade.investor asked.row asked.row_is);
+                (may_read trade.deal.investor asked.row asked.row_is);
             sent = subst (In (frame_text closed.fields))
-                (sym (to_investor trade.investor asked.row asked.row_is))
-                (entry_sent (frame_text closed.fields) (of_investor trade.investor venue.facts)
+                (sym (to_investor trade.deal.investor asked.row asked.row_is))
+                (entry_sent (frame_text closed.fields) (of_investor trade.deal.investor venue.facts)
                 closed.sent);
             is = closed.is.is;
             quote = closed.is.names;
@@ -286,16 +286,16 @@ module _ {config : Configuration} {venue : AuditTrail} (limits : KeepsLimits con
       (facts_of (AtDesk (Told told.1 closes.Hit told.2) ∷ rest)) (inl refl))) in
       let made = trade_told stood trades fits idle dealer seller told.1 told.2 is fact in
       let trade = made.0 in
-      let bears = trade.notice told.2 told.0 rest
+      let bears = trade.told.notice told.2 told.0 rest
       (ap (λ (d : ℕ). of_dealer d venue.facts) made.1 ∙ whole
       ∙ ap (λ (n : ℕ). told.0 ++ AtDesk (Told n closes.Hit told.2) ∷ rest) (sym made.2)) in
       let head : Head = record {
         date = config.date;
-        firm = trade.row.name;
+        firm = trade.deal.row.name;
         number = length (dealer_trail.sent_by told.0) + 1;
         moment = told.2;
       } in
-      let notice = notice_of bears.0 trade.asked.ask trade.quote in
+      let notice = notice_of bears.0 trade.deal.asked.ask trade.deal.quote in
       let text : message ≡ written head notice = same_Some message (written head notice) bears.1 in
       let lawful = lawful_notice trade head refl refl bears.0 in
       let same : fields ≡ written_fields head notice =

@@ -39,30 +39,30 @@ module _ {config : Configuration} (trail : AuditTrail) (trade : Trade config tra
   -- one reads these.
   pub record AnswersTrade : Type 0 where
     pub body : AreBody fields
-    pub sent : In (frame_text fields) (sent_to config trade.investor trail)
+    pub sent : In (frame_text fields) (sent_to config trade.deal.investor trail)
     pub is : is_answer fields ≡ true
-    pub quote : value_of 117 fields ≡ Some (quote_name trade.shown.number)
+    pub quote : value_of 117 fields ≡ Some (quote_name trade.deal.shown.number)
 
   -- The fields are the notice of a trade: it was sent to the trade's dealer, and names the dealer's
   -- quote (117) and its request (131), with the bond, the side, the quantity and the price.
   pub record NotesTrade : Type 0 where
     pub body : AreBody fields
-    pub sent : In (frame_text fields) (sent_to config trade.dealer trail)
+    pub sent : In (frame_text fields) (sent_to config trade.deal.dealer trail)
     pub is : is_notice fields ≡ true
-    pub request : value_of 131 fields ≡ Some (request_name trade.quote.request)
-    pub quote : value_of 117 fields ≡ Some trade.quote.id
-    pub bond : value_of 48 fields ≡ Some trade.asked.ask.bond
-    pub side : value_of 54 fields ≡ Some (decimal (side_code trade.asked.ask.side))
-    pub quantity : value_of 38 fields ≡ Some (decimal trade.asked.ask.quantity)
-    pub price : value_of (price_tag trade.asked.ask.side) fields
-        ≡ Some (price_digits trade.quote.price)
+    pub request : value_of 131 fields ≡ Some (request_name trade.deal.quote.request)
+    pub quote : value_of 117 fields ≡ Some trade.deal.quote.id
+    pub bond : value_of 48 fields ≡ Some trade.deal.asked.ask.bond
+    pub side : value_of 54 fields ≡ Some (decimal (side_code trade.deal.asked.ask.side))
+    pub quantity : value_of 38 fields ≡ Some (decimal trade.deal.asked.ask.quantity)
+    pub price : value_of (price_tag trade.deal.asked.ask.side) fields
+        ≡ Some (price_digits trade.deal.quote.price)
 
 -- What an investor reads in fields that answer a hit with 297=0 is of a trade, whose dealer was
 -- sent its notice.
 pub record AnswerIsOfTrade (config : Configuration) (trail : AuditTrail) (investor : ℕ)
     (fields : List Field) : Type 0 where
   pub trade : Trade config trail.facts
-  pub investor_is : trade.investor ≡ investor
+  pub investor_is : trade.deal.investor ≡ investor
   pub answer : AnswersTrade trail trade fields
   pub others : List Field
   pub notice : NotesTrade trail trade others
@@ -72,7 +72,7 @@ pub record AnswerIsOfTrade (config : Configuration) (trail : AuditTrail) (invest
 pub record NoticeIsOfTrade (config : Configuration) (trail : AuditTrail) (dealer : ℕ)
     (fields : List Field) : Type 0 where
   pub trade : Trade config trail.facts
-  pub dealer_is : trade.dealer ≡ dealer
+  pub dealer_is : trade.deal.dealer ≡ dealer
   pub notice : NotesTrade trail trade fields
   pub others : List Field
   pub answer : AnswersTrade trail trade others

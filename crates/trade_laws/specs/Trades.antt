@@ -8,6 +8,7 @@ use Rattle.quote_messages.specs.declared.out_messages.OutMessage.{OutMessage}
 use Rattle.quote_messages.specs.declared.out_messages.OutMessage.TheVariants as out
 use Rattle.venue_rows.specs.Rows.{Configuration, dealer_numbered}
 use Rattle.venue_rows.specs.declared.dealer_rows.DealerRow.{DealerRow}
+use Rattle.venue_places.specs.Dealers.{quote_with_word}
 use Rattle.dealer_desk.specs.DealerFacts.{Quoted, Told}
 use Rattle.dealer_desk.specs.DealerOutput.{next_message, number_in}
 use Rattle.dealer_desk.specs.declared.accepted.AcceptedQuote.{AcceptedQuote}
@@ -64,25 +65,23 @@ NoOtherIsTold facts room dealer = (other request moment : ℕ)
     → number_in (rooms_by (of_dealer other facts)) room ≡ Some request
     → In (Told request Hit moment) (facts_of (of_dealer other facts)) → other ≡ dealer
 
--- One trade, and that its two sides agree.
-pub record Trade (config : Configuration) (facts : List Fact) : Type 0 where
+-- What was traded: the quote that an investor hit on its request, as its dealer gave it and as the
+-- investor was shown it.
+pub record Deal (config : Configuration) (facts : List Fact) : Type 0 where
   pub investor : ℕ  -- its number among the firms
   pub asked : AcceptedRequest  -- its request
   pub shown : ShownOffer  -- the quote that it hit, as it was shown: Qk
   pub dealer : ℕ  -- the number of the dealer among the firms
   pub row : DealerRow
   pub quote : AcceptedQuote  -- the quote of its that Qk showed
-  pub moment : ℕ  -- when the quote was hit
-  -- the investor asked, was shown the quote and was answered that it is awarded
+  -- the investor asked, and was shown Qk on that request
   pub was_asked : In (Asked asked) (at_investor investor facts)
   pub was_shown : In (Offered shown) (at_investor investor facts)
-  pub was_answered : In (answered asked.number shown.number row.name quote.price)
-      (at_investor investor facts)
+  pub is_on : shown.request ≡ asked.number
   -- the dealer is the one that Qk names, and has given this quote on that request
   pub is_dealer : dealer_numbered config dealer ≡ Some row
   pub is_named : shown.offer.dealer ≡ row.name
   pub was_quoted : In (Quoted quote) (facts_of (of_dealer dealer facts))
-  pub is_on : shown.request ≡ asked.number
   pub is_there : number_in (rooms_by (of_dealer dealer facts)) (room_of investor asked.number)
       ≡ Some quote.request
   -- both have one bond, side, quantity, price and valid-until
@@ -91,11 +90,32 @@ pub record Trade (config : Configuration) (facts : List Fact) : Type 0 where
   pub quantity : quote.quantity ≡ asked.ask.quantity
   pub price : quote.price ≡ shown.offer.price
   pub valid_until : quote.valid_until ≡ shown.offer.valid_until
-  -- the dealer was told 694=1 once of that request, by the notice of this quote, and nobody else was
-  pub told_once : notices_of quote.request (of_dealer dealer facts)
-      ≡ Told quote.request Hit moment ∷ []
-  pub notice : IsSentNotice config.date row (of_dealer dealer facts) asked.ask quote
-  pub told_alone : NoOtherIsTold facts (room_of investor asked.number) dealer
-  -- the word of this quote is lifted, and no other word of that request's quotes is
+  -- the quote that has the word of Qk is this one, and its word is lifted
+  pub word : quote_with_word config shown.offer.word
+      ≡ Some (record { dealer = dealer; quote = quote.number })
   pub lifted : was_lifted (of_dealer dealer facts) quote.number ≡ true
-  pub lifted_alone : NoOtherIsLifted facts (room_of investor asked.number) dealer quote
+
+-- Who was told of it: the investor, that Qk is awarded, and the dealer, by a notice of this quote.
+pub record AreTold (config : Configuration) (facts : List Fact) (deal : Deal config facts)
+    : Type 0 where
+  pub is_answered : In (answered deal.asked.number deal.shown.number deal.row.name deal.quote.price)
+      (at_investor deal.investor facts)
+  -- the dealer was told 694=1 once of that request
+  pub moment : ℕ
+  pub once : notices_of deal.quote.request (of_dealer deal.dealer facts)
+      ≡ Told deal.quote.request Hit moment ∷ []
+  pub notice : IsSentNotice config.date deal.row (of_dealer deal.dealer facts) deal.asked.ask
+      deal.quote
+
+-- Who was not: no other dealer was told 694=1 of that request, and no other quote on it is lifted.
+pub record NoOtherIs (config : Configuration) (facts : List Fact) (deal : Deal config facts)
+    : Type 0 where
+  pub told : NoOtherIsTold facts (room_of deal.investor deal.asked.number) deal.dealer
+  pub lifted : NoOtherIsLifted facts (room_of deal.investor deal.asked.number) deal.dealer
+      deal.quote
+
+-- One trade, and that its two sides agree.
+pub record Trade (config : Configuration) (facts : List Fact) : Type 0 where
+  pub deal : Deal config facts
+  pub told : AreTold config facts deal
+  pub untold : NoOtherIs config facts deal

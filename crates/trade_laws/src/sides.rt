@@ -18,15 +18,12 @@ use dealer_desk::{limits_are_kept, what_is_asked_is_of_the_day};
 /// Both sides of a trade agree: each hit of Qk that was awarded (`answers`), and each 694=1 that a
 /// dealer was told (`notices`), is of a `Trade`.
 ///
-/// Only the dealer that Qk names was told 694=1 of that request, once, with the 117 of a quote of
-/// its on that request, which has the price and the valid-until that Qk showed, and with the bond,
-/// side and quantity that were asked for. Of the words of that request's quotes only this quote's
-/// is lifted.
+/// Only the dealer that Qk names was told 694=1 of that request, once, with the 117 of its quote that
+/// has the word of Qk, and with the price that Qk showed and the bond, side and quantity that were
+/// asked for. Of the words of that request's quotes only this quote's is lifted.
 ///
-/// It ends at: days on which a duty is left: there the notice may be to come; by which of two
-/// quotes with one price and one valid-until the dealer knows the trade: that this quote has the
-/// word of Qk. (`Trade.moment` is the notice's; that it is the award's,
-/// `laws_trades::a_trade_has_a_time` says.)
+/// It ends at: days on which a duty is left: there the notice may be to come. (That the moment of
+/// the notice is the award's, `laws_trades::a_trade_has_a_time` says.)
 pub fn both_sides_of_a_trade_agree()
     ensures answers { (config : Configuration) (steps : List Step)
         (investor request quote price : ℕ) (dealer : List ℕ)
@@ -34,16 +31,16 @@ pub fn both_sides_of_a_trade_agree()
         → In (answered request quote dealer price)
         (at_investor investor (audit_trail config steps).facts)
         → (trade : Trade config (audit_trail config steps).facts)
-        × (trade.investor ≡ investor) × (trade.asked.number ≡ request)
-        × (trade.shown.number ≡ quote) × (trade.row.name ≡ dealer)
-        × (trade.quote.price ≡ price) }
+        × (trade.deal.investor ≡ investor) × (trade.deal.asked.number ≡ request)
+        × (trade.deal.shown.number ≡ quote) × (trade.deal.row.name ≡ dealer)
+        × (trade.deal.quote.price ≡ price) }
     ensures notices { (config : Configuration) (steps : List Step) (dealer : ℕ)
         (row : DealerRow) (request moment : ℕ)
         → NoDutyIsLeft (audit_trail config steps) → dealer_numbered config dealer ≡ Some row
         → In (Told request Hit moment)
         (facts_of (of_dealer dealer (audit_trail config steps).facts))
         → (trade : Trade config (audit_trail config steps).facts)
-        × (trade.dealer ≡ dealer) × (trade.quote.request ≡ request) }
+        × (trade.deal.dealer ≡ dealer) × (trade.deal.quote.request ≡ request) }
 {
     limits_are_kept();
     what_is_asked_is_of_the_day();
