@@ -1,5 +1,6 @@
 mod CancelDays
 mod CancelLemmas
+mod TimeAnswers
 mod TimeDays
 mod TimeLemmas
 mod WithdrawalLemmas

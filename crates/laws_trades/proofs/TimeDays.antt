@@ -2,29 +2,21 @@
 use Rattle.std.proofs.Common.{◌≡◌, ◌==◌, ◌&&◌, ℕ, Bool, true, false, not, List, [], ◌∷◌, ◌++◌, map, fold, drop}
 use Rattle.std.proofs.Common.{count_by, filter_map, zero, suc, Option, Some, None, is_some, option_map, refl, sym, ap, ◌∙◌}
 use Rattle.std.proofs.Common.{subst, inl, inr, find, if◌then◌else◌}
-use Rattle.std.specs.Option.{option_to_list}
 use Rattle.std.proofs.lemmas.Bool.{cases_Bool, eqb-true, false≢true}
 use Rattle.std.proofs.lemmas.List.Elements.{filter_map-append}
 use Rattle.std.proofs.lemmas.Option.{same_Some}
 use Rattle.market_terms.specs.declared.closes.Close.{Close}
 use Rattle.market_terms.specs.declared.closes.Close.TheVariants as closes
-use Rattle.market_terms.specs.declared.closes.HitRefusal.{HitRefusal}
-use Rattle.market_terms.specs.declared.closes.Reply.{Reply}
-use Rattle.market_terms.specs.declared.closes.Reply.TheVariants as reply
 use Rattle.market_terms.specs.declared.duties.Duty.{Duty}
-use Rattle.market_terms.specs.declared.rooms.Offer.{Offer}
-use Rattle.market_terms.specs.declared.rooms.ResponseRef.{ResponseRef}
 use Rattle.market_terms.specs.declared.rooms.RoomRef.{RoomRef}
 use Rattle.quote_messages.specs.declared.out_messages.ClosingNotice.{ClosingNotice}
 use Rattle.quote_messages.specs.declared.out_messages.OutMessage.{OutMessage}
 use Rattle.quote_messages.specs.declared.out_messages.OutMessage.TheVariants as out
-use Rattle.quote_messages.specs.declared.out_messages.PassStatus.TheVariants as status
 use Rattle.quote_word.specs.declared.settled.Settled.{Settled}
 use Rattle.venue_rows.specs.Rows.{Configuration, dealer_numbered}
 use Rattle.venue_rows.specs.declared.dealer_rows.DealerRow.{DealerRow}
 use Rattle.venue_places.specs.declared.actors.Actor.{Actor}
 use Rattle.venue_places.specs.declared.actors.Actor.TheVariants as actor
-use Rattle.venue_steps.specs.InvestorSteps.{replies_to}
 use Rattle.dealer_desk.specs.DealerFacts.{DealerBook, DealerFact, Told, quote_to_drop, request_numbered}
 use Rattle.dealer_desk.specs.DealerOutput.{closable, drop_message, event_facts, event_message, moment_of}
 use Rattle.dealer_desk.specs.DealerOutput.{notice_of, untold, verdict_message}
@@ -35,16 +27,6 @@ use Rattle.dealer_desk.specs.declared.standing.StandingQuote.{StandingQuote}
 use Rattle.dealer_desk.specs.declared.standing.StandingRequest.{StandingRequest}
 use Rattle.dealer_desk.specs.declared.verdicts.DealerVerdict.{DealerVerdict}
 use Rattle.dealer_desk.specs.declared.verdicts.DealerVerdict.TheVariants as verdict
-use Rattle.investor_desk.specs.InvestorDesk.{market_of}
-use Rattle.investor_desk.specs.InvestorFacts as investor_facts
-use Rattle.investor_desk.specs.InvestorOutput as investor_output
-use Rattle.investor_desk.specs.InvestorRules.{InvestorMarket, investor_verdict}
-use Rattle.investor_desk.specs.Refusals.{request_reason}
-use Rattle.investor_desk.specs.declared.events.InvestorEvent.{InvestorEvent}
-use Rattle.investor_desk.specs.declared.events.InvestorEvent.TheVariants as at_investor
-use Rattle.investor_desk.specs.declared.standing.ShownOffer.{ShownOffer}
-use Rattle.investor_desk.specs.declared.verdicts.InvestorVerdict.{InvestorVerdict}
-use Rattle.investor_desk.specs.declared.verdicts.InvestorVerdict.TheVariants as asks
 use Rattle.request_room.specs.RoomFacts.{Ended, RoomFact, ended_as, first_said, is_awarded_kind}
 use Rattle.request_room.specs.RoomFacts.{is_ended, is_ready}
 use Rattle.request_room.specs.declared.ends.End.{End}
@@ -57,14 +39,12 @@ use Rattle.step_replay.specs.DealerTrail.{DealerEntry}
 use Rattle.step_replay.specs.DutyEffects.{duty_effect, message_effect, sweep_effect}
 use Rattle.step_replay.specs.EachLemmas.{Every, every_both, every_weaker}
 use Rattle.step_replay.specs.GrowthLemmas.{In, all_in, in_left, in_right}
-use Rattle.step_replay.specs.InvestorTrail as investor_trail
-use Rattle.step_replay.specs.InvestorTrail.{InvestorEntry}
-use Rattle.step_replay.specs.VenueFacts.{AtDealer, AtInvestor, Fact, InRoom, of_dealer, of_investor}
+use Rattle.step_replay.specs.VenueFacts.{AtDealer, Fact, InRoom, of_dealer}
 use Rattle.step_replay.specs.VenueFacts.{of_room}
 use Rattle.step_replay.specs.declared.steps.Step.{Step}
 use Rattle.step_replay.specs.declared.steps.Step.TheVariants as step
 use Rattle.laws_answers.specs.Awards.{IsInTime}
-use Rattle.laws_trades.specs.TradeTimes.{IsAwarded, IsHitAt, IsSaidTo, IsToldAt, room_at}
+use Rattle.laws_trades.specs.TradeTimes.{IsAwarded, IsHitAt, IsToldAt}
 use Rattle.laws_trades.specs.Withdrawals.{IsSaid}
 use Rattle.laws_trades.proofs.TimeLemmas.{Brings, DutyTimed, FactTimed, duty_brings, duty_grown}
 use Rattle.laws_trades.proofs.TimeLemmas.{fact_grown, message_brings, sweep_brings}
@@ -95,7 +75,7 @@ every_caused config facts by (d ∷ duties) every = (every.0, every_caused confi
 
 -- A day.
 module _ (config : Configuration) where
-  record Timed (day : AuditTrail) : Type 0 where
+  pub record Timed (day : AuditTrail) : Type 0 where
     pub facts : Every (FactTimed config day.facts) day.facts
     pub left : Every (λ (c : Caused). DutyTimed config day.facts c.duty) day.caused
 
@@ -140,7 +120,7 @@ module _ (config : Configuration) where
   steps_timed [] day timed = timed
   steps_timed (s ∷ steps) day timed = steps_timed steps (after_step config day s) (step_timed day s timed)
 
-  day_timed : (steps : List Step) → Timed (audit_trail config steps)
+  pub day_timed : (steps : List Step) → Timed (audit_trail config steps)
   unfolding audit_trail
   day_timed steps = steps_timed steps no_steps (record { facts = tt; left = tt })
 
@@ -203,7 +183,7 @@ record Tells (date : List ℕ) (row : DealerRow) (stood : List DealerEntry) (eve
   pub told : In (Told notice.request.number notice.close (moment_of event))
       (event_facts date row (dealer_trail.book_by stood) event)
 
-found_passes : {A : Type 0} (test : A → Bool) (xs : List A) (x : A) → find test xs ≡ Some x → test x ≡ true
+pub found_passes : {A : Type 0} (test : A → Bool) (xs : List A) (x : A) → find test xs ≡ Some x → test x ≡ true
 found_passes test [] x is = cc
 found_passes test (y ∷ xs) x is = elim (cases_Bool (test y)) [
   | inl passes ↦ ap test (sym (same_Some y x (rw passes at is))) ∙ passes
@@ -305,188 +285,3 @@ notice_told config steps dealer row bytes notice found is says hit =
     (dealer_trail.AtDesk (Told notice.request.number closes.Hit (moment_of is.event))) trail
     (at_dealer_all (FactTimed config facts) dealer facts (day_timed config steps).facts)
     (in_dealer (Told notice.request.number closes.Hit (moment_of is.event)) trail told)
-
--- An investor's answer.
-
-at_investor_all : (P : Fact → Type 0) (investor : ℕ) (some : List Fact) → Every P some
-    → Every (λ (entry : InvestorEntry). P (AtInvestor investor entry)) (of_investor investor some)
-unfolding of_investor
-at_investor_all P investor [] every = tt
-at_investor_all P investor (AtInvestor other entry ∷ some) every =
-    elim (cases_Bool (other == investor)) [
-      | inl test ↦ rw test (
-        rw (eqb-true other investor test) at every.0,
-        at_investor_all P investor some every.1,
-      )
-      | inr differs ↦ rw differs (at_investor_all P investor some every.1)
-    ]
-at_investor_all P investor (fact ∷ some) every = at_investor_all P investor some every.1
-
-sent_in : (bytes : List ℕ) (trail : List InvestorEntry) → In bytes (investor_trail.sent_by trail)
-    → In (investor_trail.Sent bytes) trail
-sent_in bytes [] is = absurd is
-sent_in bytes (investor_trail.Sent other ∷ trail) (inl is) = inl (ap (λ (b : List ℕ). investor_trail.Sent b) is)
-sent_in bytes (investor_trail.Sent other ∷ trail) (inr is) = inr (sent_in bytes trail is)
-sent_in bytes (investor_trail.AtDesk fact ∷ trail) is = inr (sent_in bytes trail is)
-
-said_to : (config : Configuration) (steps : List Step) (investor : ℕ) (bytes : List ℕ)
-    → In bytes (investor_trail.sent_by (of_investor investor (audit_trail config steps).facts))
-    → IsSaidTo config (audit_trail config steps).facts investor bytes
-said_to config steps investor bytes sent =
-    let facts = (audit_trail config steps).facts in
-    all_in (λ (e : InvestorEntry). FactTimed config facts (AtInvestor investor e)) (investor_trail.Sent bytes)
-    (of_investor investor facts)
-    (at_investor_all (FactTimed config facts) investor facts (day_timed config steps).facts)
-    (sent_in bytes (of_investor investor facts) sent)
-
--- the event that says an award is a reply of that
-module _ (market : InvestorMarket) (book : investor_facts.InvestorBook) (id name : List ℕ) (quote : ℕ) where
-  abbrev answer : OutMessage
-  answer = out.HitReport id name quote None
-
-  record Replies (event : InvestorEvent) : Type 0 where
-    pub request : ℕ
-    pub response : ResponseRef
-    pub reply_is : Reply
-    pub moment : ℕ
-    pub event_is : event ≡ at_investor.Answered request response reply_is moment
-    pub is_hit : response.k ≡ Some quote
-    pub unrefused : investor_output.refusal_of reply_is ≡ None
-
-  one_of : (m : OutMessage) → (m ≡ answer → ⊥) → In answer (m ∷ []) → ⊥
-  one_of m differs (inl is) = differs is
-  one_of m differs (inr is) = is
-
-  no_own : (v : InvestorVerdict) → In answer (option_to_list (investor_output.verdict_message v)) → ⊥
-  no_own asks.Dropped is = is
-  no_own (asks.OutOfSequence reject) is = one_of (out.Reject reject) (λ at. cc) is
-  no_own (asks.Rejected reject) is = one_of (out.Reject reject) (λ at. cc) is
-  no_own (asks.RequestRefused request bond refusal) is =
-      one_of (out.RequestRefused request bond (request_reason refusal)) (λ at. cc) is
-  no_own (asks.HitUnknown own asked) is = one_of (out.HitUnknown own asked) (λ at. cc) is
-  no_own (asks.PassUnknown own request) is =
-      one_of (out.PassReport own request status.Unknown) (λ at. cc) is
-  no_own (asks.RequestAccepted own request) is = one_of (out.RequestAccepted own) (λ at. cc) is
-  no_own (asks.Hits request response word) is = is
-  no_own (asks.Passes request response) is = is
-
-  no_gone : (own : investor_facts.StandingRequest) (found : Option ShownOffer) (more : List OutMessage)
-      → In answer (option_to_list (option_map (investor_output.gone_message own) found) ++ more) → In answer more
-  no_gone own None more is = is
-  no_gone own (Some shown) more (inl is) = cc
-  no_gone own (Some shown) more (inr is) = is
-
-  no_offer : (number : ℕ) (offer : Offer) (own : Option investor_facts.StandingRequest)
-      → In answer (investor_output.offer_messages book number offer own) → ⊥
-  no_offer number offer None is = is
-  no_offer number offer (Some own) is =
-      one_of (investor_output.offer_message own (investor_output.next_offer book number offer)) (λ at. cc)
-      (no_gone own (investor_facts.offer_of_dealer own offer.dealer)
-      (investor_output.offer_message own (investor_output.next_offer book number offer) ∷ []) is)
-
-  no_withdrawal : (word : ℕ) (own : Option investor_facts.StandingRequest)
-      → In answer (investor_output.withdrawal_messages word own) → ⊥
-  no_withdrawal word None is = is
-  no_withdrawal word (Some own) is = by_shown (investor_facts.offer_with_word own word) is
-    where
-      by_shown : (found : Option ShownOffer)
-          → In answer (option_to_list (option_map (investor_output.gone_message own) found)) → ⊥
-      by_shown None so = so
-      by_shown (Some shown) so = one_of (investor_output.gone_message own shown) (λ at. cc) so
-
-  no_decline : (dealer : List ℕ) (own : Option investor_facts.StandingRequest)
-      → In answer (investor_output.decline_messages dealer own) → ⊥
-  no_decline dealer None is = is
-  no_decline dealer (Some own) is = one_of (out.DealerDeclined own.request.id dealer) (λ at. cc) is
-
-  no_expiry : (own : Option investor_facts.StandingRequest)
-      → In answer (investor_output.expiry_messages own) → ⊥
-  no_expiry None is = is
-  no_expiry (Some own) is = one_of (out.RequestExpired own.request.id) (λ at. cc) is
-
-  -- a reply to a hit
-  record IsOfHit (response : ResponseRef) (given : Reply) : Type 0 where
-    pub is_hit : response.k ≡ Some quote
-    pub unrefused : investor_output.refusal_of given ≡ None
-
-  reply_of : (response : ResponseRef) (given : Reply) (own : Option investor_facts.StandingRequest)
-      → In answer (investor_output.answer_messages response given own) → IsOfHit response given
-  reply_of response given None is = absurd is
-  reply_of response given (Some own) (inr is) = absurd is
-  reply_of response given (Some own) (inl is) = by_quote response.k refl is
-    where
-      by_quote : (k : Option ℕ) → response.k ≡ k
-          → investor_output.response_message own response.id k (investor_output.refusal_of given) ≡ answer
-          → IsOfHit response given
-      by_quote None k_is at = cc
-      by_quote (Some own_quote) k_is at = record {
-        is_hit = k_is ∙ ap quote_said at;
-        unrefused = ap refusal_said at;
-      }
-        where
-          quote_said : OutMessage → Option ℕ
-          quote_said (out.HitReport one other number why) = Some number
-          quote_said other = None
-
-          refusal_said : OutMessage → Option HitRefusal
-          refusal_said (out.HitReport one other number why) = why
-          refusal_said other = None
-
-  award_replies : (event : InvestorEvent) → In answer (investor_output.event_messages market book event)
-      → Replies event
-  unfolding investor_output.event_messages
-  award_replies (at_investor.Received moment bytes) is =
-      absurd (no_own (investor_verdict market book moment bytes) is)
-  award_replies (at_investor.QuoteCame request offer moment) is =
-      absurd (no_offer request offer (investor_facts.open_request book request) is)
-  award_replies (at_investor.QuoteGone request word moment) is =
-      absurd (no_withdrawal word (investor_facts.open_request book request) is)
-  award_replies (at_investor.DealerDeclined request dealer moment) is =
-      absurd (no_decline dealer (investor_facts.open_request book request) is)
-  award_replies (at_investor.Closed request moment) is =
-      absurd (no_expiry (investor_facts.request_numbered book request) is)
-  award_replies (at_investor.Answered request response given moment) is =
-      let so = reply_of response given (investor_facts.request_numbered book request) is in
-      record {
-        request = request;
-        response = response;
-        reply_is = given;
-        moment = moment;
-        event_is = refl;
-        is_hit = so.is_hit;
-        unrefused = so.unrefused;
-      }
-
-awarded : (quote : ℕ) (given : Reply) → investor_output.refusal_of given ≡ None
-    → replies_to (Some quote) given ≡ true → given ≡ reply.Awarded
-awarded quote reply.Awarded unrefused may = refl
-awarded quote reply.Passed unrefused may = absurd (false≢true may)
-awarded quote (reply.Refused why) unrefused may = cc
-
-pub answer_said : (config : Configuration) (steps : List Step) (investor : ℕ) (bytes : List ℕ)
-    → In bytes (investor_trail.sent_by (of_investor investor (audit_trail config steps).facts))
-    → (is : IsSaidTo config (audit_trail config steps).facts investor bytes)
-    × ((id request : List ℕ) (quote : ℕ) → is.message ≡ out.HitReport id request quote None
-    → (own : ℕ) × IsAwarded (audit_trail config steps).facts (room_at investor own)
-    (investor_output.moment_of is.event))
-answer_said config steps investor bytes sent = (
-  said_to config steps investor bytes sent,
-  λ id request quote message_is.
-      let is = said_to config steps investor bytes sent in
-      let facts = (audit_trail config steps).facts in
-      let market = market_of config investor is.row in
-      let book = investor_trail.book_by is.stood in
-      let r = award_replies market book id request quote is.event
-      (subst (λ (m : OutMessage). In m (investor_output.event_messages market book is.event)) message_is is.says) in
-      let may : replies_to (Some quote) r.reply_is ≡ true =
-      ap (λ (k : Option ℕ). replies_to k r.reply_is) (sym r.is_hit)
-      ∙ is.replies r.request r.response r.reply_is r.moment r.event_is in
-      let same : r.reply_is ≡ reply.Awarded = awarded quote r.reply_is r.unrefused may in
-      let event_is = r.event_is
-      ∙ ap (λ (a : Reply). at_investor.Answered r.request r.response a r.moment) same in (
-        r.request,
-        subst (λ (m : ℕ). IsAwarded facts (room_at investor r.request) m)
-            (sym (ap investor_output.moment_of r.event_is))
-            (is.award r.request r.response r.moment event_is),
-      ),
-)

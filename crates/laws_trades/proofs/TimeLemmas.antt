@@ -114,16 +114,32 @@ module _ (config : Configuration) where
         (in_left (Ended is.end moment) (of_room room facts) (of_room room more) is.stands);
   }
 
+  trail_grown : (facts more : List Fact) (investor : ℕ) (row : InvestorRow)
+      (stood : List InvestorEntry) (event : InvestorEvent) (after : List InvestorEntry)
+      → of_investor investor facts
+      ≡ stood ++ investor_trail.entries_of (market_of config investor row) stood event ++ after
+      → of_investor investor (facts ++ more)
+      ≡ stood ++ investor_trail.entries_of (market_of config investor row) stood event
+      ++ (after ++ of_investor investor more)
+  trail_grown facts more investor row stood event after is =
+      investor_grown investor facts more
+      ∙ ap (λ (l : List InvestorEntry). l ++ of_investor investor more) is
+      ∙ append_assoc (stood ++ investor_trail.entries_of (market_of config investor row) stood event)
+      after (of_investor investor more)
+
   hit_grown : (facts more : List Fact) (room : RoomRef) (moment : ℕ) → IsHitAt config facts room moment
       → IsHitAt config (facts ++ more) room moment
   hit_grown facts more room moment is = record {
-    bytes = is.bytes;
-    came = rw (investor_grown room.investor facts more, filter_map-append)
-        (in_left (investor_facts.Came moment is.bytes true)
-        (investor_trail.facts_of (of_investor room.investor facts)) _ is.came);
     row = is.row;
     is_investor = is.is_investor;
     stood = is.stood;
+    bytes = is.bytes;
+    after = is.after ++ of_investor room.investor more;
+    trail_is = trail_grown facts more room.investor is.row is.stood
+        (at_investor.Received moment is.bytes) is.after is.trail_is;
+    came = rw (investor_grown room.investor facts more, filter_map-append)
+        (in_left (investor_facts.Came moment is.bytes true)
+        (investor_trail.facts_of (of_investor room.investor facts)) _ is.came);
     response = is.response;
     word = is.word;
     hits = is.hits;
@@ -145,10 +161,7 @@ module _ (config : Configuration) where
     stood = is.stood;
     event = is.event;
     after = is.after ++ of_investor investor more;
-    trail_is = investor_grown investor facts more
-        ∙ ap (λ (l : List InvestorEntry). l ++ of_investor investor more) is.trail_is
-        ∙ append_assoc (is.stood ++ investor_trail.entries_of (market_of config investor is.row) is.stood is.event)
-        is.after (of_investor investor more);
+    trail_is = trail_grown facts more investor is.row is.stood is.event is.after is.trail_is;
     number = is.number;
     message = is.message;
     says = is.says;
@@ -760,11 +773,14 @@ module _ (config : Configuration) where
           → Every (DutyTimed come_facts) (option_to_list (investor_output.verdict_duty own moment v))
       by_verdict (asks.Hits request response word) at = (
         record {
-          bytes = bytes;
-          came = came (ap investor_output.uses_number at);
           row = row;
           is_investor = is;
           stood = stood;
+          bytes = bytes;
+          after = [];
+          trail_is = grown investor row is coming waiting
+              ∙ sym (append-nil (stood ++ investor_trail.entries_of own stood coming));
+          came = came (ap investor_output.uses_number at);
           response = response;
           word = word;
           hits = at;

@@ -10,11 +10,12 @@ use Rattle.venue_rows.specs.Rows.{Configuration, investor_numbered}
 use Rattle.venue_rows.specs.declared.investor_rows.InvestorRow.{InvestorRow}
 use Rattle.dealer_desk.specs.DealerOutput.{number_in}
 use Rattle.investor_desk.specs.InvestorDesk.{market_of}
-use Rattle.investor_desk.specs.InvestorFacts.{Came}
+use Rattle.investor_desk.specs.InvestorFacts.{Asked, Came}
 use Rattle.investor_desk.specs.InvestorOutput.{event_messages, head_of, moment_of}
 use Rattle.investor_desk.specs.InvestorRules.{investor_verdict}
 use Rattle.investor_desk.specs.declared.events.InvestorEvent.{InvestorEvent}
 use Rattle.investor_desk.specs.declared.events.InvestorEvent.TheVariants as at_investor
+use Rattle.investor_desk.specs.declared.standing.AcceptedRequest.{AcceptedRequest}
 use Rattle.investor_desk.specs.declared.verdicts.InvestorVerdict.TheVariants as verdict
 use Rattle.request_room.specs.RoomFacts.{Ended, is_awarded_kind}
 use Rattle.request_room.specs.declared.ends.End.{End}
@@ -35,14 +36,19 @@ pub record IsAwarded (facts : List Fact) (room : RoomRef) (moment : ℕ) : Type 
   pub stands : In (Ended end moment) (of_room room facts)
 
 -- At this moment a message of the room's investor came in its turn by which it hit a quote on the
--- request of the room.
+-- request of the room: by what stood in the investor's trail before the message came.
 pub record IsHitAt (config : Configuration) (facts : List Fact) (room : RoomRef) (moment : ℕ)
     : Type 0 where
-  pub bytes : List ℕ
-  pub came : In (Came moment bytes true) (facts_of (of_investor room.investor facts))
   pub row : InvestorRow
   pub is_investor : investor_numbered config room.investor ≡ Some row
   pub stood : List InvestorEntry
+  pub bytes : List ℕ
+  pub after : List InvestorEntry
+  pub trail_is : of_investor room.investor facts
+      ≡ stood
+      ++ entries_of (market_of config room.investor row) stood (at_investor.Received moment bytes)
+      ++ after
+  pub came : In (Came moment bytes true) (facts_of (of_investor room.investor facts))
   pub response : ResponseRef
   pub word : ℕ
   pub hits : investor_verdict (market_of config room.investor row) (book_by stood) moment bytes
@@ -54,6 +60,15 @@ pub record IsToldAt (facts : List Fact) (dealer request moment : ℕ) : Type 0 w
   pub room : RoomRef
   pub shown : number_in (rooms_by (of_dealer dealer facts)) room ≡ Some request
   pub award : IsAwarded facts room moment
+
+-- An investor asked under this QuoteReqID (131), and the room of that request was awarded at this
+-- moment.
+pub record IsAnsweredAt (facts : List Fact) (investor : ℕ) (id : List ℕ) (moment : ℕ)
+    : Type 0 where
+  pub asked : AcceptedRequest
+  pub was_asked : In (Asked asked) (facts_of (of_investor investor facts))
+  pub id_is : asked.id ≡ id
+  pub award : IsAwarded facts (room_at investor asked.number) moment
 
 -- An investor was sent these bytes by an event at its desk: this stood in its trail as the event
 -- came, the bytes are a message that the event says, and they bear the event's moment (52). A reply

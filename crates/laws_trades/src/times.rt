@@ -2,7 +2,8 @@
 ghost use Rattle.std.specs.Prelude.{◌≡◌, ℕ, List, Some, None};
 ghost use Rattle.dealer_desk.specs.DealerOutput.{moment_of};
 ghost use Rattle.investor_desk.specs.InvestorOutput as investor_output;
-ghost use Rattle.laws_trades.specs.TradeTimes.{IsAwarded, IsHitAt, IsSaidTo, IsToldAt, room_at};
+ghost use Rattle.laws_trades.specs.TradeTimes.{IsAnsweredAt, IsAwarded, IsHitAt, IsSaidTo};
+ghost use Rattle.laws_trades.specs.TradeTimes.{IsToldAt};
 ghost use Rattle.laws_trades.specs.Withdrawals.{IsSaid};
 ghost use Rattle.market_terms.specs.declared.closes.Close.TheVariants.{Hit};
 ghost use Rattle.market_terms.specs.declared.rooms.RoomRef.{RoomRef};
@@ -18,17 +19,17 @@ ghost use Rattle.venue_rows.specs.declared.dealer_rows.DealerRow.{DealerRow};
 
 use laws_answers::an_award_is_in_time;
 
-/// Both messages of a trade bear the moment of the award, at which a message of the investor came.
+/// Both messages of a trade bear the moment of the award, which is that of the hit.
 ///
 /// A room is awarded at one moment (`once`). At that moment a message of its investor came in its
-/// turn which, for some list of what may stand at the investor's desk, hits a quote on that request
-/// (`hit`). A dealer's notice 694=1 bears in 52 (60 on the wire) the moment at which the room of
-/// its request was awarded (`dealers`), and an investor's answer 297=0 to a hit one at which a room
-/// of the investor was (`investors`; `specs/TradeTimes`).
+/// turn which hits a quote on that request, by what stood at the investor's desk before the message
+/// (`hit`). A dealer's notice 694=1 bears in 52 (60 on the wire) the moment at which the room of its
+/// request was awarded (`dealers`), and an investor's answer 297=0 to a hit that of the room of the
+/// request which the investor asked under the answer's 131 (`investors`; `specs/TradeTimes`).
 ///
-/// It ends at: which fields the messages have; what stood at the investor's desk as that message
-/// came (that the answer bears the 52 of the hit that it answers:
-/// `laws_rooms::each_response_is_answered`); that the room is that of the answer's 131.
+/// It ends at: which fields the messages have; that the quote which that message hit is the one that
+/// won. (Which hit an answer answers, by 693, 52 and 117, `laws_rooms::each_response_is_answered`
+/// says.)
 pub fn a_trade_has_a_time()
     ensures hit { (config : Configuration) (steps : List Step) (room : RoomRef) (moment : ℕ)
         → IsAwarded (venue.audit_trail config steps).facts room moment
@@ -48,7 +49,7 @@ pub fn a_trade_has_a_time()
         → (is : IsSaidTo config (venue.audit_trail config steps).facts investor bytes)
         × ((id request : List ℕ) (quote : ℕ)
         → is.message ≡ out.HitReport id request quote None
-        → (own : ℕ) × IsAwarded (venue.audit_trail config steps).facts (room_at investor own)
+        → IsAnsweredAt (venue.audit_trail config steps).facts investor request
         (investor_output.moment_of is.event)) }
 {
     an_award_is_in_time();

@@ -1,4 +1,5 @@
-use Rattle.laws_trades.proofs.TimeDays.{answer_said, hit_of_award, notice_told, one_moment}
+use Rattle.laws_trades.proofs.TimeAnswers.{answer_said}
+use Rattle.laws_trades.proofs.TimeDays.{hit_of_award, notice_told, one_moment}
 use Rattle.laws_trades.proofs.times.a_trade_has_a_time.Goals as goal
 
 pub returns-clause-hit : goal.returns-clause-hit
