@@ -11,13 +11,14 @@ ghost use Rattle.laws_answers.specs.Awards.{NamesBestCover};
 
 use request_room::the_cover_is_the_best_other_quote;
 
-/// A law: an award names the best cover. Where a room was awarded and quotes of other dealers than the
-/// winner stood in its book, the cover is the dealer of the best of them: none is better for the
-/// investor, and each that was posted earlier is worse. Where no such quote stood there, nobody is the
-/// cover. So it is in every venue, after every list of steps. It does nothing.
+/// An award names the best cover: the dealer of the best of the other dealers' quotes in the room's
+/// book.
+///
+/// None of these quotes is better for the investor, and each that was posted earlier is worse. If no
+/// other dealer's quote stood there, nobody is the cover.
 ///
 /// It ends at: the notices. (That each dealer is told once how the room ended for it, which for the
-/// cover is 694=4, `each_named_dealer_is_told_once` says.)
+/// cover is 694=4, `venue_laws::each_named_dealer_is_told_once` says.)
 pub fn an_award_names_the_best_cover()
     ensures { (config : Configuration) (steps : List Step) (room : RoomRef)
         (before after : List RoomFact) (award : End) (moment : ℕ)

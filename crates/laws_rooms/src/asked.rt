@@ -13,15 +13,13 @@ ghost use Rattle.venue_rows.specs.Rows.{Configuration};
 
 use dealer_desk::{limits_are_kept, what_is_asked_is_of_the_day};
 
-/// Each accepted request is shown once to each of the dealers that the venue read in it.
+/// Each accepted request is shown once to each dealer that it names.
 ///
 /// Its room stands at one place in the list of rooms that this dealer was shown (`specs/Shown`).
 ///
-/// It ends at: days on which a duty is left; three things that definitions say, and no law: that
-/// these are the dealers whose names (448) the investor wrote (`InvestorRules`), that no other
-/// dealer is shown the request (`RoomSteps`; on threads [a record says
-/// so](docs/PROOFS.md#days-on-threads)), and that a QuoteRequest (35=R) is sent with each
-/// (`DealerOutput`).
+/// It ends at: days on which a duty is left; that a QuoteRequest (35=R) is sent with each, which a
+/// definition says, and no law (`DealerOutput`). (That it names the dealers whose names (448) the
+/// investor wrote, `shown_laws::requests_are_shown_as_written` says.)
 pub fn each_accepted_request_is_shown()
     ensures { (config : Configuration) (steps : List Step) (investor : ℕ)
         (request : AcceptedRequest) (dealer : ℕ)

@@ -13,14 +13,15 @@ ghost use Rattle.venue_rows.specs.Rows.{Configuration};
 
 use dealer_desk::{limits_are_kept, what_is_asked_is_of_the_day};
 
-/// A law: a request is shown to no dealer that it does not name. A dealer that was shown an accepted
-/// request is one of those that the request names (`only`), and no dealer was shown a request that was
-/// not accepted (`accepted`). So it is at each moment of a day, also while duties are left, in every
-/// venue, after every list of steps. It does nothing.
+/// A request is shown to no dealer that it does not name.
 ///
-/// It ends at: the facts of the dealer's desk. Of the messages 35=R that a dealer was sent
-/// `what_is_shown_was_quoted` says it, and of the names that the investor wrote
-/// `requests_are_shown_as_written`, both of `shown_laws`.
+/// A dealer that was shown an accepted request is one of those that the request names (`only`), and no
+/// dealer was shown a request that was not accepted (`accepted`). This holds also while duties are
+/// left.
+///
+/// It ends at: the facts of the dealer's desk. (Of the messages 35=R that a dealer was sent
+/// `shown_laws::what_is_shown_was_quoted` says it, and of the names that the investor wrote
+/// `shown_laws::requests_are_shown_as_written`.)
 pub fn a_request_is_shown_to_no_other_dealer()
     ensures only { (config : Configuration) (steps : List Step) (investor : ℕ)
         (request : AcceptedRequest) (dealer : ℕ)
