@@ -14,8 +14,8 @@ use request_room::the_cover_is_the_best_other_quote;
 /// An award names the best cover: the dealer of the best of the other dealers' quotes in the room's
 /// book.
 ///
-/// None of these quotes is better for the investor, and each that was posted earlier is worse. If no
-/// other dealer's quote stood there, nobody is the cover.
+/// None of these quotes is better for the investor, and each that was posted earlier is worse. If
+/// no other dealer's quote stood there, nobody is the cover.
 ///
 /// It ends at: the notices. (That each dealer is told once how the room ended for it, which for the
 /// cover is 694=4, `venue_laws::each_named_dealer_is_told_once` says.)

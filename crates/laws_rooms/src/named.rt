@@ -15,9 +15,9 @@ use dealer_desk::{limits_are_kept, what_is_asked_is_of_the_day};
 
 /// A request is shown to no dealer that it does not name.
 ///
-/// A dealer that was shown an accepted request is one of those that the request names (`only`), and no
-/// dealer was shown a request that was not accepted (`accepted`). This holds also while duties are
-/// left.
+/// A dealer that was shown an accepted request is one of those that the request names (`only`), and
+/// no dealer was shown a request that was not accepted (`accepted`). This holds also while duties
+/// are left.
 ///
 /// It ends at: the facts of the dealer's desk. (Of the messages 35=R that a dealer was sent
 /// `shown_laws::what_is_shown_was_quoted` says it, and of the names that the investor wrote
