@@ -92,7 +92,7 @@ module _ (config : Configuration) (facts : List Fact) where
             (entries_of config.date dealer.row (of_dealer dealer.number facts) event);
       }
 
-  received_quiet : (dealer : Dealer) (moment : ℕ) (bytes : List ℕ)
+  pub received_quiet : (dealer : Dealer) (moment : ℕ) (bytes : List ℕ)
       → Quiet (received_by_dealer config facts moment bytes dealer)
   received_quiet dealer moment bytes =
       let found = verdict_on config facts moment bytes dealer in
@@ -239,12 +239,12 @@ module _ (config : Configuration) (facts : List Fact) where
             (event_quiet room known (at_room.Hit word moment settlement) tt));
       }
 
-  abbrev IsNoPosting : Duty → Type 0
+  abbrev pub IsNoPosting : Duty → Type 0
   IsNoPosting (duty.Post room quote price valid_until moment) = ⊥
   IsNoPosting (duty.Decline room moment) = ⊥
   IsNoPosting d = Unit {0}
 
-  duty_quiet : (by : Actor) (d : Duty) → IsNoPosting d → Quiet (duty_effect config facts by d)
+  pub duty_quiet : (by : Actor) (d : Duty) → IsNoPosting d → Quiet (duty_effect config facts by d)
   unfolding duty_effect investor_output.event_facts
   duty_quiet by (duty.Open room ask dealers moment) isnt =
       room_quiet room true (at_room.Open (record { ask = ask; dealers = dealers })) _ tt

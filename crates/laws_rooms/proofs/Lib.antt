@@ -1,3 +1,5 @@
+mod AnswerDays
+mod AnswerLemmas
 mod AskLemmas
 mod CloseDays
 mod CloseLemmas

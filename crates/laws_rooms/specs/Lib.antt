@@ -1,3 +1,4 @@
+pub mod Answered
 pub mod Declines
 pub mod Expiries
 pub mod Responses

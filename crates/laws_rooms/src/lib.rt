@@ -7,6 +7,8 @@
 //!   dealer that it names.
 //! - [`a_request_is_shown_to_no_other_dealer`]: at each moment of a day, a request is shown to no dealer
 //!   that it does not name, and none is shown that was not accepted.
+//! - [`each_answer_takes_effect_in_its_order`]: then the quotes and declines of a dealer took effect in
+//!   the room in their order, and all of them unless the room has ended.
 //! - [`each_quote_comes_to_its_investor`]: then each quote in a room was shown to its investor, or the
 //!   request was closed there.
 //! - [`each_decline_comes_to_its_investor`]: then of each decline in a room, too.
@@ -18,6 +20,7 @@
 //! No code stands on this crate.
 #![tactic(auto)]
 
+mod answers;
 mod asked;
 mod declines;
 mod expiries;
@@ -26,6 +29,7 @@ mod quotes;
 mod responses;
 mod rooms;
 
+pub use answers::each_answer_takes_effect_in_its_order;
 pub use asked::each_accepted_request_is_shown;
 pub use declines::each_decline_comes_to_its_investor;
 pub use expiries::each_expiry_is_told_once;
