@@ -1,5 +1,7 @@
 mod CancelDays
 mod CancelLemmas
+mod PrintedDays
+mod PrintedLemmas
 mod TimeAnswers
 mod TimeDays
 mod TimeLemmas

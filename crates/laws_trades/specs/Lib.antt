@@ -1,3 +1,4 @@
 pub mod Cancels
+pub mod PrintedTrades
 pub mod TradeTimes
 pub mod Withdrawals
