@@ -11,13 +11,15 @@ ghost use Rattle.venue_rows.specs.declared.dealer_rows.DealerRow.{DealerRow};
 
 use dealer_desk::{limits_are_kept, what_is_asked_is_of_the_day};
 
-/// A law: what a dealer answers on a request takes effect in the room in its order. Where no duty is
-/// left, as behind each line of a live day, the quotes and the declines of a dealer that took effect in
-/// a room are the first of those that its messages left for the room, in their order, and all of them
-/// unless the room has ended. So it is in every venue, after every list of steps. It does nothing.
+/// What a dealer answers on a request takes effect in the room in its order.
 ///
-/// It ends at: the room, and its investor is told behind it (`each_quote_comes_to_its_investor`,
-/// `each_decline_comes_to_its_investor`); and at withdrawals, of which it does not speak.
+/// Once no duty is left, the quotes and the declines of a dealer that took effect in a room are the
+/// first of those that its messages left for the room, in their order. They are all of them unless
+/// the room has ended.
+///
+/// It ends at: days on which a duty is left; what the investor is told (of that
+/// `laws_rooms::each_quote_comes_to_its_investor` and
+/// `laws_rooms::each_decline_comes_to_its_investor`); withdrawals.
 pub fn each_answer_takes_effect_in_its_order()
     ensures { (config : Configuration) (steps : List Step) (dealer : ℕ) (row : DealerRow)
         (room : RoomRef) → dealer_numbered config dealer ≡ Some row

@@ -11,13 +11,14 @@ ghost use Rattle.trade_laws.specs.TradeNames.{hits_of};
 ghost use Rattle.venue_rows.specs.Rows.{Configuration, investor_numbered};
 ghost use Rattle.venue_rows.specs.declared.investor_rows.InvestorRow.{InvestorRow};
 
-/// A law: a trade is printed to its investor under its place in the list of the two firms' trades. The
-/// list has the rooms of the investor's hits on quotes of this dealer that were answered 297=0, in order
-/// (`hits_of`). Behind the message of the k-th of them the line `trade` has the name of the day, the two
-/// firms and k. So it is in every venue, after every list of steps. It does nothing.
+/// A trade is printed to its investor under its place in the list of the two firms' trades.
 ///
-/// It ends at: the lines that are printed to the dealer. (That where no duty is left the dealer's own list
-/// of these trades is the same one `a_trade_is_named_on_both_sides` says.)
+/// The list has the rooms of the investor's hits on this dealer's quotes that were answered 297=0, in
+/// order (`hits_of`). After the message of the k-th of them the line `trade` names the day, the two
+/// firms and k.
+///
+/// It ends at: the lines that are printed to the dealer. (That the dealer's own list of these trades
+/// is the same one once no duty is left, `trade_laws::a_trade_is_named_on_both_sides` says.)
 pub fn a_trade_is_printed_to_its_investor()
     ensures { (config : Configuration) (steps : List Step) (investor : ℕ) (buyer : InvestorRow)
         (dealer : List ℕ) (before later : List RoomRef) (room : RoomRef)
