@@ -6,6 +6,8 @@ mod CloseLemmas
 mod DeclineLemmas
 mod LeftLemmas
 mod NamedLemmas
+mod OfferDays
+mod OfferLemmas
 mod ReplyDays
 mod ReplyDuties
 mod ReplyLemmas

@@ -9,6 +9,9 @@
 //!   that it does not name, and none is shown that was not accepted.
 //! - [`each_answer_takes_effect_in_its_order`]: then the quotes and declines of a dealer took effect in
 //!   the room in their order, and all of them unless the room has ended.
+//! - [`quotes_are_shown_as_they_took_effect`]: then the quotes of a dealer that an investor was shown on
+//!   a request are the first of those that took effect, in their order, and all of them while the
+//!   request is open at its desk.
 //! - [`each_quote_comes_to_its_investor`]: then each quote in a room was shown to its investor, or the
 //!   request was closed there.
 //! - [`each_decline_comes_to_its_investor`]: then of each decline in a room, too.
@@ -28,6 +31,7 @@ mod named;
 mod quotes;
 mod responses;
 mod rooms;
+mod shown;
 
 pub use answers::each_answer_takes_effect_in_its_order;
 pub use asked::each_accepted_request_is_shown;
@@ -37,3 +41,4 @@ pub use named::a_request_is_shown_to_no_other_dealer;
 pub use quotes::each_quote_comes_to_its_investor;
 pub use responses::each_response_is_answered;
 pub use rooms::no_room_is_left_opening;
+pub use shown::quotes_are_shown_as_they_took_effect;
