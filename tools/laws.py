@@ -122,6 +122,7 @@ ROWS = {
         "laws_rooms::a_request_is_shown_to_no_other_dealer",
         "laws_rooms::each_answer_takes_effect_in_its_order",
         "laws_rooms::each_quote_comes_to_its_investor",
+        "laws_rooms::quotes_are_shown_as_they_took_effect",
         "laws_rooms::each_decline_comes_to_its_investor",
         "laws_rooms::each_expiry_is_told_once",
         "laws_trades::what_is_withdrawn_is_never_traded",

@@ -12,13 +12,13 @@ ghost use Rattle.venue_rows.specs.declared.dealer_rows.DealerRow.{DealerRow};
 
 use dealer_desk::{limits_are_kept, what_is_asked_is_of_the_day};
 
-/// A law: the quotes of a dealer are shown in their order, and none is left out between two. Where no
-/// duty is left, as behind each line of a live day, the quotes of a dealer that the investor of a room
-/// was shown on the room's request are the first of those that took effect in the room, in their order,
-/// and all of them while the request is open at the investor's desk. So it is in every venue, after
-/// every list of steps. It does nothing.
+/// The quotes of a dealer are shown in their order, and none is left out between two.
 ///
-/// It ends at: withdrawals, and the place of a decline among the quotes.
+/// Once no duty is left, the quotes of a dealer that the investor of a room was shown on the room's
+/// request are the first of those that took effect in the room, in their order. They are all of them
+/// while the request is open at the investor's desk.
+///
+/// It ends at: days on which a duty is left; withdrawals; the place of a decline among the quotes.
 pub fn quotes_are_shown_as_they_took_effect()
     ensures { (config : Configuration) (steps : List Step) (dealer : ℕ) (row : DealerRow)
         (room : RoomRef) → dealer_numbered config dealer ≡ Some row
