@@ -18,7 +18,8 @@ use dealer_desk::{limits_are_kept, what_is_asked_is_of_the_day};
 /// dealer, word, price and valid-until; or the request was closed at the investor's desk
 /// (`specs/Told`).
 ///
-/// It ends at: days on which a duty is left; the order of what an investor is told; withdrawals.
+/// It ends at: days on which a duty is left; withdrawals. (The order of quotes:
+/// `laws_rooms::quotes_are_shown_as_they_took_effect`.)
 pub fn each_quote_comes_to_its_investor()
     ensures { (config : Configuration) (steps : List Step) (room : RoomRef) (quote : PostedQuote)
         → NoDutyIsLeft (venue.audit_trail config steps)
