@@ -1,3 +1,4 @@
+mod AwardedWords
 mod CancelDays
 mod CancelLemmas
 mod PrintedDays

@@ -1,7 +1,7 @@
 -- The moment of a trade, after every list of steps.
 use Rattle.std.proofs.Common.{◌≡◌, ◌==◌, ◌&&◌, ℕ, Bool, true, false, not, List, [], ◌∷◌, ◌++◌, map, fold, drop}
 use Rattle.std.proofs.Common.{count_by, filter_map, zero, suc, Option, Some, None, is_some, option_map, refl, sym, ap, ◌∙◌}
-use Rattle.std.proofs.Common.{subst, inl, inr, find, if◌then◌else◌}
+use Rattle.std.proofs.Common.{subst, inl, inr, if◌then◌else◌}
 use Rattle.std.proofs.lemmas.Bool.{cases_Bool, eqb-true, false≢true}
 use Rattle.std.proofs.lemmas.List.Elements.{filter_map-append}
 use Rattle.std.proofs.lemmas.Option.{same_Some}
@@ -44,8 +44,9 @@ use Rattle.step_replay.specs.VenueFacts.{of_room}
 use Rattle.step_replay.specs.declared.steps.Step.{Step}
 use Rattle.step_replay.specs.declared.steps.Step.TheVariants as step
 use Rattle.laws_answers.specs.Awards.{IsInTime}
-use Rattle.laws_trades.specs.TradeTimes.{IsAwarded, IsHitAt, IsToldAt}
+use Rattle.laws_trades.specs.TradeTimes.{IsAwarded, IsHitOf, IsToldAt}
 use Rattle.laws_trades.specs.Withdrawals.{IsSaid}
+use Rattle.laws_trades.proofs.AwardedWords.{found_passes}
 use Rattle.laws_trades.proofs.TimeLemmas.{Brings, DutyTimed, FactTimed, duty_brings, duty_grown}
 use Rattle.laws_trades.proofs.TimeLemmas.{fact_grown, message_brings, sweep_brings}
 use Rattle.laws_trades.proofs.WithdrawalLemmas.{AtOne, Before, Behind, places}
@@ -127,8 +128,8 @@ module _ (config : Configuration) where
 -- A room.
 
 pub hit_of_award : (config : Configuration) (steps : List Step) (room : RoomRef) (moment : ℕ)
-    → IsAwarded (audit_trail config steps).facts room moment
-    → IsHitAt config (audit_trail config steps).facts room moment
+    → (is : IsAwarded (audit_trail config steps).facts room moment)
+    → IsHitOf config (audit_trail config steps).facts room is.end moment
 hit_of_award config steps room moment is =
     let facts = (audit_trail config steps).facts in
     all_in (λ (f : RoomFact). FactTimed config facts (InRoom room f)) (Ended is.end moment) (of_room room facts)
@@ -182,13 +183,6 @@ record Tells (date : List ℕ) (row : DealerRow) (stood : List DealerEntry) (eve
     (notice : ClosingNotice) : Type 0 where
   pub told : In (Told notice.request.number notice.close (moment_of event))
       (event_facts date row (dealer_trail.book_by stood) event)
-
-pub found_passes : {A : Type 0} (test : A → Bool) (xs : List A) (x : A) → find test xs ≡ Some x → test x ≡ true
-found_passes test [] x is = cc
-found_passes test (y ∷ xs) x is = elim (cases_Bool (test y)) [
-  | inl passes ↦ ap test (sym (same_Some y x (rw passes at is))) ∙ passes
-  | inr fails ↦ found_passes test xs x (rw fails at is)
-]
 
 module _ (date : List ℕ) (row : DealerRow) (stood : List DealerEntry) (notice : ClosingNotice) where
   abbrev book : DealerBook

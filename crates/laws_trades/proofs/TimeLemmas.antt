@@ -47,8 +47,9 @@ use Rattle.investor_desk.specs.declared.events.InvestorEvent.{InvestorEvent}
 use Rattle.investor_desk.specs.declared.events.InvestorEvent.TheVariants as at_investor
 use Rattle.investor_desk.specs.declared.verdicts.InvestorVerdict.{InvestorVerdict}
 use Rattle.investor_desk.specs.declared.verdicts.InvestorVerdict.TheVariants as asks
-use Rattle.request_room.specs.Book.{award_of, end_by, expired, hit_outcome, hit_refusal, hit_settled}
-use Rattle.request_room.specs.Book.{may_expire, may_unpost, passed, quote_posted, where_so}
+use Rattle.request_room.specs.Book.{award_of, end_by, expired, hit_outcome, hit_refusal}
+use Rattle.request_room.specs.Book.{may_expire, may_unpost}
+use Rattle.request_room.specs.Book.{passed, quote_posted, where_so}
 use Rattle.request_room.specs.Book as book
 use Rattle.request_room.specs.RoomFacts.{Ended, Noted, Opened, Posted, Readied, RoomFact, Unposted}
 use Rattle.request_room.specs.RoomFacts.{hears, is_awarded_kind, is_open, is_opening, is_vacant}
@@ -75,7 +76,8 @@ use Rattle.step_replay.specs.VenueFacts.{of_room}
 use Rattle.day_parts.specs.ActionCases.{by_does, if_does, numbered_does, unless_does}
 use Rattle.day_parts.specs.KeptItems.{every_all, every_map}
 use Rattle.day_parts.specs.MayLeave.{MaySay, drop_each, verdict_each}
-use Rattle.laws_trades.specs.TradeTimes.{IsAwarded, IsHitAt, IsSaidTo, IsToldAt, room_at}
+use Rattle.laws_trades.proofs.AwardedWords.{IsWon, is_won, settled_end}
+use Rattle.laws_trades.specs.TradeTimes.{IsAwarded, IsHitAt, IsHitOf, IsSaidTo, IsToldAt, room_at}
 
 -- Lists.
 
@@ -91,14 +93,14 @@ module _ (config : Configuration) where
       IsToldAt facts dealer request moment
   FactTimed facts (AtDealer dealer entry) = Unit {0}
   FactTimed facts (InRoom room (Ended end moment)) =
-      is_awarded_kind end.kind ≡ true → IsHitAt config facts room moment
+      is_awarded_kind end.kind ≡ true → IsHitOf config facts room end moment
   FactTimed facts (InRoom room fact) = Unit {0}
   FactTimed facts (AtInvestor investor (investor_trail.Sent bytes)) =
       IsSaidTo config facts investor bytes
   FactTimed facts (AtInvestor investor entry) = Unit {0}
 
   abbrev pub DutyTimed : List Fact → Duty → Type 0
-  DutyTimed facts (duty.Hit room response word moment) = IsHitAt config facts room moment
+  DutyTimed facts (duty.Hit room response word moment) = IsHitAt config facts room word moment
   DutyTimed facts (duty.Answer room response reply.Awarded moment) = IsAwarded facts room moment
   DutyTimed facts (duty.Tell dealer room closes.Hit moment) = IsAwarded facts room moment
   DutyTimed facts other = Unit {0}
@@ -127,9 +129,9 @@ module _ (config : Configuration) where
       ∙ append_assoc (stood ++ investor_trail.entries_of (market_of config investor row) stood event)
       after (of_investor investor more)
 
-  hit_grown : (facts more : List Fact) (room : RoomRef) (moment : ℕ) → IsHitAt config facts room moment
-      → IsHitAt config (facts ++ more) room moment
-  hit_grown facts more room moment is = record {
+  hit_grown : (facts more : List Fact) (room : RoomRef) (word moment : ℕ)
+      → IsHitAt config facts room word moment → IsHitAt config (facts ++ more) room word moment
+  hit_grown facts more room word moment is = record {
     row = is.row;
     is_investor = is.is_investor;
     stood = is.stood;
@@ -141,8 +143,16 @@ module _ (config : Configuration) where
         (in_left (investor_facts.Came moment is.bytes true)
         (investor_trail.facts_of (of_investor room.investor facts)) _ is.came);
     response = is.response;
-    word = is.word;
     hits = is.hits;
+  }
+
+  award_hit_grown : (facts more : List Fact) (room : RoomRef) (award : End) (moment : ℕ)
+      → IsHitOf config facts room award moment → IsHitOf config (facts ++ more) room award moment
+  award_hit_grown facts more room award moment is = record {
+    dealer = is.dealer;
+    word = is.word;
+    winner = is.winner;
+    hit = hit_grown facts more room is.word moment is.hit;
   }
 
   pub fact_grown : (facts more : List Fact) (fact : Fact) → FactTimed facts fact
@@ -154,7 +164,7 @@ module _ (config : Configuration) where
     award = award_grown facts more is.room moment is.award;
   }
   fact_grown facts more (InRoom room (Ended end moment)) is =
-      λ kind. hit_grown facts more room moment (is kind)
+      λ kind. award_hit_grown facts more room end moment (is kind)
   fact_grown facts more (AtInvestor investor (investor_trail.Sent bytes)) is = record {
     row = is.row;
     is_investor = is.is_investor;
@@ -174,7 +184,8 @@ module _ (config : Configuration) where
 
   pub duty_grown : (facts more : List Fact) (d : Duty) → DutyTimed facts d
       → DutyTimed (facts ++ more) d
-  duty_grown facts more (duty.Hit room response word moment) is = hit_grown facts more room moment is
+  duty_grown facts more (duty.Hit room response word moment) is =
+      hit_grown facts more room word moment is
   duty_grown facts more (duty.Answer room response reply.Awarded moment) is =
       award_grown facts more room moment is
   duty_grown facts more (duty.Tell dealer room closes.Hit moment) is =
@@ -532,17 +543,17 @@ module _ (config : Configuration) where
     -- A hit.
 
     module _ (room : RoomRef) (response : ResponseRef) (word moment : ℕ)
-        (hit : IsHitAt config facts room moment) where
+        (hit : IsHitAt config facts room word moment) where
       abbrev known : List RoomFact
       known = of_room room facts
 
       awarded : (lifted : List Fact) → of_room room lifted ≡ [] → ((now : List Fact) → Every (FactTimed now) lifted)
-          → (award : End) → is_awarded_kind award.kind ≡ true
+          → (award : End) → IsWon word award
           → Brings (record {
             facts = lifted ++ InRoom room (Ended award moment) ∷ [];
             duties = duty.Answer room response reply.Awarded moment ∷ told_in known room award moment;
           })
-      awarded lifted empty quiet award kind =
+      awarded lifted empty quiet award won =
           let ending : List Fact = InRoom room (Ended award moment) ∷ [] in
           let added : List Fact = lifted ++ ending in
           let path : of_room room (facts ++ added) ≡ known ++ Ended award moment ∷ [] =
@@ -551,13 +562,20 @@ module _ (config : Configuration) where
           ∙ own_room room (Ended award moment ∷ [])) in
           let now : IsAwarded (facts ++ added) room moment = record {
             end = award;
-            is_award = kind;
+            is_award = won.kind;
             stands = subst (In (Ended award moment)) (sym path)
                 (in_right (Ended award moment) known (Ended award moment ∷ []) (inl refl));
           } in
           record {
-            facts_are = every_both (FactTimed (facts ++ added)) lifted ending (quiet (facts ++ added))
-                ((λ k. hit_grown facts added room moment hit), tt);
+            facts_are = every_both (FactTimed (facts ++ added)) lifted ending (quiet (facts ++ added)) (
+              (λ k. record {
+                dealer = won.dealer;
+                word = word;
+                winner = won.winner;
+                hit = hit_grown facts added room word moment hit;
+              }),
+              tt,
+            );
             duties_are = (
               now,
               every_map (DutyTimed (facts ++ added)) (λ dealer. duty.Tell dealer room (close_for award dealer) moment)
@@ -575,36 +593,26 @@ module _ (config : Configuration) where
       lifted_room dealer quote = refl
 
       outcome_brings : (found : Option QuoteRef) (outcome : Result End HitRefusal)
-          → ((award : End) → outcome ≡ Ok award → is_awarded_kind award.kind ≡ true)
+          → ((award : End) → outcome ≡ Ok award → IsWon word award)
           → Brings (record {
             facts = lifting found outcome ++ map (InRoom room) (end_by outcome moment);
             duties = hit_duties known room response moment outcome;
           })
-      outcome_brings None (Ok award) kind = awarded [] empty_room (λ now. tt) award (kind award refl)
-      outcome_brings (Some lift) (Ok award) kind =
+      outcome_brings None (Ok award) won = awarded [] empty_room (λ now. tt) award (won award refl)
+      outcome_brings (Some lift) (Ok award) won =
           awarded (AtDealer lift.dealer (dealer_trail.Lifted lift.quote) ∷ []) (lifted_room lift.dealer lift.quote)
-          (λ now. (tt, tt)) award (kind award refl)
-      outcome_brings None (Err why) kind = record { facts_are = tt; duties_are = (tt, tt) }
-      outcome_brings (Some lift) (Err why) kind = record { facts_are = tt; duties_are = (tt, tt) }
+          (λ now. (tt, tt)) award (won award refl)
+      outcome_brings None (Err why) won = record { facts_are = tt; duties_are = (tt, tt) }
+      outcome_brings (Some lift) (Err why) won = record { facts_are = tt; duties_are = (tt, tt) }
 
       hit_brings : (settlement : Option Settled)
           → Brings (hit_with config facts room response word moment settlement)
       unfolding book.event_facts
       hit_brings settlement =
           outcome_brings (quote_with_word config word) (hit_outcome known word moment settlement)
-          (λ award is. settled_kind (hit_refusal known word moment) settlement (award_of known word) award refl is)
-        where
-          same_end : (one other : End) → ◌≡◌ {A = Result End HitRefusal} (Ok one) (Ok other) → one ≡ other
-          same_end one other is = cc
-
-          settled_kind : (refused : Option HitRefusal) (by : Option Settled) (end award : End)
-              → is_awarded_kind end.kind ≡ true → hit_settled refused by end ≡ Ok award
-              → is_awarded_kind award.kind ≡ true
-          settled_kind (Some why) by end award kind is = cc
-          settled_kind None None end award kind is = cc
-          settled_kind None (Some settled.Withdrawn) end award kind is = cc
-          settled_kind None (Some settled.Lifted) end award kind is =
-              subst (λ (e : End). is_awarded_kind e.kind ≡ true) (same_end end award is) kind
+          (λ award is.
+          let both = settled_end (hit_refusal known word moment) settlement (award_of known word) award is in
+          subst (IsWon word) both.1 (is_won known word moment both.0))
 
     -- A reply.
 
@@ -782,7 +790,6 @@ module _ (config : Configuration) where
               ∙ sym (append-nil (stood ++ investor_trail.entries_of own stood coming));
           came = came (ap investor_output.uses_number at);
           response = response;
-          word = word;
           hits = at;
         },
         tt,

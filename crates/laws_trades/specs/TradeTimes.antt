@@ -35,10 +35,10 @@ pub record IsAwarded (facts : List Fact) (room : RoomRef) (moment : ℕ) : Type 
   pub is_award : is_awarded_kind end.kind ≡ true
   pub stands : In (Ended end moment) (of_room room facts)
 
--- At this moment a message of the room's investor came in its turn by which it hit a quote on the
--- request of the room: by what stood in the investor's trail before the message came.
-pub record IsHitAt (config : Configuration) (facts : List Fact) (room : RoomRef) (moment : ℕ)
-    : Type 0 where
+-- At this moment a message of the room's investor came in its turn by which it hit the quote with this
+-- word on the request of the room: by what stood in the investor's trail before the message came.
+pub record IsHitAt (config : Configuration) (facts : List Fact) (room : RoomRef)
+    (word moment : ℕ) : Type 0 where
   pub row : InvestorRow
   pub is_investor : investor_numbered config room.investor ≡ Some row
   pub stood : List InvestorEntry
@@ -50,9 +50,16 @@ pub record IsHitAt (config : Configuration) (facts : List Fact) (room : RoomRef)
       ++ after
   pub came : In (Came moment bytes true) (facts_of (of_investor room.investor facts))
   pub response : ResponseRef
-  pub word : ℕ
   pub hits : investor_verdict (market_of config room.investor row) (book_by stood) moment bytes
       ≡ verdict.Hits room.n response word
+
+-- This end awards the room to the quote that was hit at this moment.
+pub record IsHitOf (config : Configuration) (facts : List Fact) (room : RoomRef) (award : End)
+    (moment : ℕ) : Type 0 where
+  pub dealer : ℕ
+  pub word : ℕ
+  pub winner : award.winner ≡ Some (dealer, word)
+  pub hit : IsHitAt config facts room word moment
 
 -- A dealer was shown the request of a room under this number, and the room was awarded at this
 -- moment.

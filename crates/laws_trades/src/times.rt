@@ -2,7 +2,7 @@
 ghost use Rattle.std.specs.Prelude.{◌≡◌, ℕ, List, Some, None};
 ghost use Rattle.dealer_desk.specs.DealerOutput.{moment_of};
 ghost use Rattle.investor_desk.specs.InvestorOutput as investor_output;
-ghost use Rattle.laws_trades.specs.TradeTimes.{IsAnsweredAt, IsAwarded, IsHitAt, IsSaidTo};
+ghost use Rattle.laws_trades.specs.TradeTimes.{IsAnsweredAt, IsAwarded, IsHitOf, IsSaidTo};
 ghost use Rattle.laws_trades.specs.TradeTimes.{IsToldAt};
 ghost use Rattle.laws_trades.specs.Withdrawals.{IsSaid};
 ghost use Rattle.market_terms.specs.declared.closes.Close.TheVariants.{Hit};
@@ -22,18 +22,17 @@ use laws_answers::an_award_is_in_time;
 /// Both messages of a trade bear the moment of the award, which is that of the hit.
 ///
 /// A room is awarded at one moment (`once`). At that moment a message of its investor came in its
-/// turn which hits a quote on that request, by what stood at the investor's desk before the message
+/// turn which hits the quote that won, by what stood at the investor's desk before the message
 /// (`hit`). A dealer's notice 694=1 bears in 52 (60 on the wire) the moment at which the room of its
 /// request was awarded (`dealers`), and an investor's answer 297=0 to a hit that of the room of the
 /// request which the investor asked under the answer's 131 (`investors`; `specs/TradeTimes`).
 ///
-/// It ends at: which fields the messages have; that the quote which that message hit is the one that
-/// won. (Which hit an answer answers, by 693, 52 and 117, `laws_rooms::each_response_is_answered`
-/// says.)
+/// It ends at: which fields the messages have. (Which hit an answer answers, by 693, 52 and 117,
+/// `laws_rooms::each_response_is_answered` says.)
 pub fn a_trade_has_a_time()
     ensures hit { (config : Configuration) (steps : List Step) (room : RoomRef) (moment : ℕ)
-        → IsAwarded (venue.audit_trail config steps).facts room moment
-        → IsHitAt config (venue.audit_trail config steps).facts room moment }
+        → (is : IsAwarded (venue.audit_trail config steps).facts room moment)
+        → IsHitOf config (venue.audit_trail config steps).facts room is.end moment }
     ensures once { (config : Configuration) (steps : List Step) (room : RoomRef)
         (moment other : ℕ) → IsAwarded (venue.audit_trail config steps).facts room moment
         → IsAwarded (venue.audit_trail config steps).facts room other → moment ≡ other }
