@@ -13,8 +13,8 @@ SIGNATURES, CUT, SUPERVISOR = "signatures", "cut-off end", "supervisor's seal"
 CHECKS = (
     (
         ENTRIES,
-        "numbers without a gap; moments that never fall; in each entry a line of its own firm and "
-        "moment; its SHA-256, and the hash of the entry before it: the chain",
+        "numbers without a gap; moments that never fall; each entry's line names that entry's firm "
+        "and moment. Each entry has its SHA-256 and that of the entry before: the chain",
     ),
     (
         TABLES,
@@ -23,15 +23,16 @@ CHECKS = (
     ),
     (
         SEALS,
-        "since form 4: numbered without a gap; the last entry and the last row of the door have "
-        "one. Only a gateway, which has the secret, can tell whether a seal is right",
+        "the gateways' own, since form 4, not a supervisor's: numbered without a gap; the last "
+        "entry and the last row of the door have one. Only a gateway, which has the secret, can "
+        "tell whether such a seal is right",
     ),
     (
         DOOR,
-        "since form 3: the rows of connections and their own chain. Each message has to come on a "
+        "the list of connections, since form 3, and its own chain. Each message has to come on a "
         "connection of its firm, between the Logon and the end: the order of rows and entries "
-        "decides, no clock. The gateway read it no later than in the millisecond in which the "
-        "venue took it, and read those of one connection in their order",
+        "decides, no clock. The gateway read a message no later than in the millisecond in which "
+        "the venue took it, and read the messages of one connection in their order",
     ),
     (
         MESSAGES,
