@@ -23,13 +23,13 @@ pub fn investors_are_sent_their_view()
     actions_do_what_comes_by_the_table();
 }
 
-/// What an investor is sent is a function of its [market](docs/PROOFS.md#investors) and its due
-/// list: where both are the same in two venues, so is every byte.
+/// What an investor is sent follows from its [market](docs/PROOFS.md#investors) and its due list:
+/// if both are the same in two venues, so is every byte.
 ///
 /// All else may differ: the limits of the dealers, all other investors, the investor's number among
 /// the firms, the steps of every other firm and the words of all quotes.
 ///
-/// It ends at: what the list itself tells; times and numbers on the wire.
+/// It ends at: what a due list says by itself; times and session numbers on the wire.
 pub fn investors_are_isolated()
     ensures { (one other : Configuration) (steps others : List Step) (investor number : ℕ)
         (row again : InvestorRow)

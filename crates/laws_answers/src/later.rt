@@ -5,8 +5,8 @@ ghost use Rattle.step_replay.specs.AuditTrail as venue;
 ghost use Rattle.step_replay.specs.declared.steps.Step.{Step};
 ghost use Rattle.laws_answers.specs.Later.{BeginsWith};
 
-/// A longer log takes nothing back: what a firm was sent after a list of steps begins what it is
-/// sent after each longer list (`sent`), and so do the facts of the day (`facts`).
+/// A longer log takes nothing back: if more steps follow, what a firm was sent before is the
+/// beginning of what it is sent (`sent`), and so it is with the facts of the day (`facts`).
 ///
 /// So a trade stands, whatever comes later (`specs/Later`).
 pub fn a_longer_log_takes_nothing_back()

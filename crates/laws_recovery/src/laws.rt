@@ -28,13 +28,13 @@ pub fn a_start_is_a_fold()
         ≡ reads_all (Some (with_more q more)) later }
 {}
 
-/// What a start recovers is the session: the notes that were put and are not lost, with what the
-/// session was told, give what the gateway has in memory (`always`; of one gateway without a
-/// database, `in_one_life`).
+/// What a start recovers is the session: the notes that were made and are not lost, with what the
+/// session was told, give what the gateway has in memory (`always`).
 ///
-/// That is how often, behind which place and by which act the session was reset, how many messages
-/// of the venue it was given, with their hash, its day, and whatever is kept, by number, body and
-/// moment. A start refuses no note of what it finds (`readable`).
+/// Of one gateway without a database, `in_one_life` says it. What is recovered is how often, behind
+/// which place and by which act the session was reset, how many messages of the venue it was given,
+/// with their hash, its day, and whatever is kept, by number, body and moment. A start refuses no
+/// note of what it finds (`readable`).
 ///
 /// It ends at: whether the venue is open, the firm suspended, and a message taken; an answer to a
 /// TestRequest that waits; `expected` and `had`, which may be lower (but numbers are used up in
@@ -159,8 +159,8 @@ pub fn rejects_stand()
         → IsKept (kept_reject s) later.memory.kept }
 {}
 
-/// What left stands, at whichever gateway, until a reset is carried out: a message of the venue
-/// that may leave may leave ever after, under its number and as it was (`stays`).
+/// What left stands: until a reset is carried out, a message of the venue that was free to leave
+/// stays free to leave, whichever gateway is there, under its number and unchanged (`stays`).
 ///
 /// It may leave once its entry is committed, and each note that is not is no reset, and uses no
 /// number or was put behind it. The n-th that may leave is the n-th that the committed entries give

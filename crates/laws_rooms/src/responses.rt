@@ -10,14 +10,14 @@ ghost use Rattle.venue_rows.specs.declared.investor_rows.InvestorRow.{InvestorRo
 
 use dealer_desk::{limits_are_kept, what_is_asked_is_of_the_day};
 
-/// Each hit and each pass that a message left as a duty is answered once, in order, and nothing
-/// else is.
+/// Each hit and each pass that a message left as work is answered once, in order, and nothing else
+/// is.
 ///
 /// The answers are the investor's messages 35=AI that have 693 and are not 297=9. They bear the
 /// 693, the 52 and the k of 117=Qk that stand in the duty, as the desk read them
 /// (`specs/Responses`).
 ///
-/// It ends at: days on which a duty is left; which fields the answers have; whether an answer is an
+/// It ends at: days on which work is left; which fields the answers have; whether an answer is an
 /// award or a refusal.
 pub fn each_response_is_answered()
     ensures { (config : Configuration) (steps : List Step) (investor : ℕ) (row : InvestorRow)

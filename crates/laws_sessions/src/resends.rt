@@ -24,7 +24,7 @@ ghost use Rattle.laws_sessions.specs.Fed.{IsDue, IsFed, MayResend, times_left, w
 /// then left once (`leaves`). The premises: the session's numbers are not used up, and its resend
 /// has not gone past what has left.
 ///
-/// It ends at: a line that has not settled; whatever else comes meanwhile.
+/// It ends at: a connection that has not settled; whatever else comes meanwhile.
 pub fn a_resend_comes_to_its_end()
     ensures asked { (a : Live) (now : ℕ) (m : Origin) (first last : Reading) (low high : ℕ)
         → asked_of (highest_left a.line) first last ≡ asked.Numbers low high

@@ -27,10 +27,11 @@ pub fn an_ended_room_changes_no_more()
         → room_after (events ++ more) ≡ room_after events }
 {}
 
-/// A request is awarded at most once: its room ends at most once (`ends`), and is awarded at most
-/// once (`awards`).
+/// A request is awarded at most once: its room, which holds the quotes on it, ends at most once
+/// (`ends`), and is awarded at most once (`awards`).
 ///
-/// It ends at: that a venue has one room for a request, which `RoomRef` says.
+/// It ends at: that a venue has one room for a request, which a definition (`RoomRef`) says, and no
+/// law.
 pub fn a_room_ends_once()
     ensures ends { (events : List RoomEvent) → length (filter is_ending (room_after events)) ≤ 1 }
     ensures awards { (events : List RoomEvent) → length (filter is_award (room_after events)) ≤ 1 }

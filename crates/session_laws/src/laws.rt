@@ -78,7 +78,7 @@ pub fn each_message_is_taken_once()
 /// says that the venue has been given nothing, that is so since the last reset by an operator
 /// (`marked`).
 ///
-/// It ends at: what the session does with its own; when an answer leaves that is kept.
+/// It ends at: what the session does with its own messages; when a kept answer leaves.
 pub fn no_message_is_counted_and_dropped()
     ensures bytes { (names : Names) (s : Session) (connection : ℕ) (clock : Clock) (bytes : List ℕ)
         (is_known : Bool) (denial : Option Denial)

@@ -7,14 +7,15 @@ ghost use Rattle.step_replay.specs.AuditTrail as venue;
 ghost use Rattle.step_replay.specs.declared.steps.Step.{Step};
 ghost use Rattle.silence_laws.specs.Silence.{AreOneBesides, brings_hit, has_hit};
 
-/// If two days of one venue differ only in messages and turns of other dealers, and nobody hits a
-/// quote on either, a dealer's due lists are the same (`due`), and it is sent the same bytes
-/// (`sent`).
+/// If two days of one venue differ only in what other dealers send, and in when the venue does its
+/// work for them, and nobody hits a quote on either, a dealer's due lists are the same (`due`), and
+/// it is sent the same bytes (`sent`).
 ///
 /// The messages of the other dealers may be any, and any number.
 ///
-/// It ends at: all that comes after the first hit of a day, of whichever investor, on whichever
-/// request. (Tests: there only the cover tells whether another dealer quoted.)
+/// It ends at: the first hit of a day, by any investor on any request. Beyond it `price_law` covers
+/// prices; that after a hit only a closing notice tells whether others quoted is tested, not
+/// proved.
 pub fn dealers_are_silent_to_each_other()
     ensures due { (config : Configuration) (steps others : List Step) (dealer : ℕ)
         (row : DealerRow) → dealer_numbered config dealer ≡ Some row

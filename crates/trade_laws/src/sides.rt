@@ -15,15 +15,16 @@ ghost use Rattle.trade_laws.specs.Trades.{Trade, answered, at_investor};
 
 use dealer_desk::{limits_are_kept, what_is_asked_is_of_the_day};
 
-/// Both sides of a trade agree: each hit of Qk that was awarded (`answers`), and each 694=1 that a
-/// dealer was told (`notices`), is of a `Trade`.
+/// Both sides of a trade agree: each awarded hit of a quote (`answers`), and each notice to a
+/// dealer that it won (`notices`), belongs to a `Trade`, in which the quote's dealer was told the
+/// price that the investor was shown, and the bond, side and quantity that were asked for.
 ///
-/// Only the dealer that Qk names was told 694=1 of that request, once, with the 117 of its quote that
-/// has the word of Qk, and with the price that Qk showed and the bond, side and quantity that were
-/// asked for. Of the words of that request's quotes only this quote's is lifted.
+/// The investor knows the quote as Qk. Only the dealer that Qk names was told 694=1 of that
+/// request, once, with the 117 of its quote that has the word of Qk. Of the words of that request's
+/// quotes only this quote's is lifted.
 ///
-/// It ends at: days on which a duty is left: there the notice may be to come. (That the moment of
-/// the notice is the award's, `laws_trades::a_trade_has_a_time` says.)
+/// It ends at: days on which work is left: there the notice may be to come. (That the moment of the
+/// notice is the award's, `laws_trades::a_trade_has_a_time` says.)
 pub fn both_sides_of_a_trade_agree()
     ensures answers { (config : Configuration) (steps : List Step)
         (investor request quote price : ℕ) (dealer : List ℕ)

@@ -9,8 +9,7 @@ use dealer_desk::{limits_are_kept, what_is_asked_is_of_the_day};
 use fix_fields::frame_of_is_the_reading;
 
 /// If two days of one venue differ only in lawful prices in other dealers' messages, a dealer's due
-/// lists are the same, except that a notice as the cover in one may be one as done away in the
-/// other.
+/// lists are the same, except that a notice may say cover on one day and done away on the other.
 ///
 /// It ends at: prices that are not lawful; days that differ in more, such as in what an investor
 /// does about a price.
