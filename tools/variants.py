@@ -1,11 +1,12 @@
 #!/usr/bin/python3
-"""Makes tables of faults, from the comments of the enums in Rattle that have them.
+"""Makes tables of faults and of kinds, from the comments of the enums in Rattle that have them.
 
     tools/variants.py            writes each table that a page marks as made by it
     tools/variants.py --check    says which pages are not as it would write them, and ends with 1 then
 
-A mark says `CRATE::ENUM`, or `CRATE::ENUM, each TEXT NAME` for names behind a text. No table has `Memory`:
-the page says when memory may be refused.
+A mark says `CRATE::ENUM`, or `CRATE::ENUM, each TEXT NAME` for names behind a text; `CRATE::ENUM as HEAD | HEAD`
+gives the columns other heads than `fault` and `when`. No table has `Memory`: the page says when memory may be
+refused.
 """
 
 from __future__ import annotations
@@ -21,9 +22,9 @@ from made import filled, write
 
 ROOT = Path(__file__).resolve().parent.parent
 SCRIPT = "tools/variants.py"
-PAGES = ("docs/FORMATS.md", "docs/PROGRAM.md")
-ASKED = re.compile(r"(\w+)::(\w+)(?:, each (.+) NAME)?")
-VARIANT = re.compile(r"    (\w+)(?:\(.*\))?,")
+PAGES = ("docs/FORMATS.md", "docs/PROGRAM.md", "docs/RECOVERY.md")
+ASKED = re.compile(r"(\w+)::(\w+)(?:, each (.+) NAME)?(?: as (.+) \| (.+))?")
+VARIANT = re.compile(r"    (\w+)(?:(?:\(.*\))?,| \{)")
 
 
 def body_of(root: Path, crate: str, enum: str) -> str:
@@ -37,12 +38,11 @@ def body_of(root: Path, crate: str, enum: str) -> str:
 
 
 def variants(body: str) -> Iterator[tuple[str, str]]:
-    """The variants without fields of their own, each with its comment."""
+    """The variants, each with its comment. Those of a variant's fields stand further in."""
     said: list[str] = []
     for line in body.splitlines():
-        comment = line.strip()
-        if comment.startswith("///"):
-            said.append(comment.removeprefix("///").strip())
+        if line.startswith("    ///"):
+            said.append(line.removeprefix("    ///").strip())
         elif (found := VARIANT.fullmatch(line)) is not None:
             yield found[1], " ".join(said)
             said = []
@@ -60,13 +60,13 @@ def table(what: str, root: Path = ROOT) -> str:
     found = ASKED.fullmatch(what)
     if found is None:
         raise SystemExit("no enum is named so: %s" % what)
-    crate, enum, before = found.groups()
+    crate, enum, before, *heads = found.groups()
     lines = [
         ["`%s`" % (f"{before} {name}" if before else name), sentence(said)]
         for name, said in variants(body_of(root, crate, enum))
         if name != "Memory"
     ]
-    return rows(["fault", "when"], lines)
+    return rows(heads if heads[0] else ["fault", "when"], lines)
 
 
 def made(root: Path = ROOT) -> dict[str, str]:

@@ -72,6 +72,11 @@ ENUM = """pub enum Fault {
     Sum(u16),
     /// Memory was refused.
     Memory,
+    /// Of a line.
+    Line {
+        /// Its number.
+        number: usize,
+    },
 }
 """
 
@@ -82,7 +87,12 @@ def test_each_variant_stands_in_a_row_with_its_comment(tmp_path: Path) -> None:
     place.mkdir(parents=True)
     (place / "fault.rt").write_text(ENUM, encoding="utf-8")
     rows = variants.table("low::Fault, each day: NAME", tmp_path).splitlines()[2:]
-    assert rows == ["| `day: Length` | BodyLength is wrong |", "| `day: Sum` | a sum. It is wrong. |"]
+    assert rows == [
+        "| `day: Length` | BodyLength is wrong |",
+        "| `day: Sum` | a sum. It is wrong. |",
+        "| `day: Line` | of a line |",
+    ]
+    assert variants.table("low::Fault as what | says", tmp_path).splitlines()[0] == "| what | says |"
 
 
 @pytest.mark.parametrize("what", ["low::None", "low", "low::Fault, each"])

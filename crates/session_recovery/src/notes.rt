@@ -19,34 +19,42 @@ pub struct Digest {
 /// What a note is of.
 #[derive(Clone, Copy, Debug, PartialEq, Eq)]
 pub enum NoteKind {
-    /// The answer to a Logon (35=A).
+    /// The answer to a Logon (A): number 1 is free no more, and the session not freshly reset. Its
+    /// last Logon is LOGON. With `Y` the Rejects and BusinessMessageRejects are kept no longer, and
+    /// the last message that is kept is the last that is given.
     Logon {
         /// SendingTime (52) of the Logon, counted as [`Note::moment`].
         last_logon: u64,
         /// ResetSeqNumFlag (141) is Y.
         resets: bool,
     },
-    /// A Heartbeat, a TestRequest or a ResendRequest (35=0, 1, 2).
+    /// A Heartbeat, TestRequest or ResendRequest (0, 1, 2): nothing else.
     Own,
-    /// A Reject or a BusinessMessageReject (35=3, j): it is kept.
+    /// A Reject or BusinessMessageReject (3, j): it is kept under its number, first sent at MOMENT,
+    /// and is the last that is kept.
     Reject,
-    /// A Logout (35=5).
+    /// A Logout (5): number 1 is free no more.
     Logout,
-    /// An operator's reset is carried out.
+    /// An operator's reset (R): epoch is one more. The venue's messages that are kept under numbers
+    /// above HAD get the numbers from 2 on, in their order, as copies, and nothing else is kept.
+    /// The first and the last that are given, and the last that is kept, are the first and the last
+    /// of the copies; with none they are 0. The next number is behind them. Expected is 1, had 0,
+    /// number 1 is free, the session is freshly reset at MOMENT and not locked, and there was no
+    /// Logon. Entries up to LAST count no longer.
     Reset {
         /// The last place among the entries before it.
         since: u64,
         /// The place of the act that it carries out.
         act: u64,
     },
-    /// The session is locked: the firm's engine has lost its store.
+    /// The firm's engine has lost its store (L): the session is locked.
     Locked,
-    /// An operator's release is carried out.
+    /// An operator's release (L): the session is not locked.
     Released {
         /// The place of the act.
         act: u64,
     },
-    /// Nothing but the numbers that each note has.
+    /// A mark (M): nothing else.
     Mark,
 }
 

@@ -10,21 +10,23 @@ pub const MOST_NEXT: u64 = 1_000_000_000;
 /// Why a message of the venue, a note or an entry does not follow on what stands before it.
 #[derive(Clone, Copy, Debug, PartialEq, Eq)]
 pub enum Refusal {
-    /// The note is of another epoch.
+    /// EPOCH of the note is not that of the session.
     Epoch,
-    /// It speaks of more messages of the venue than were given, or of fewer.
+    /// GIVEN is below that of the note before, or above what the venue gives.
     Given,
-    /// It has another hash of them.
+    /// HASH is not that of the venue's messages up to GIVEN.
     Hash,
-    /// Its number is not the one that is due.
+    /// NUMBER is not the one that is due: the next number. But in A and 5 it is 1 as long as number
+    /// 1 is free, in A with `Y` always, and in R, L and M it is 0.
     Number,
-    /// The firm had more before.
+    /// HAD is below that of the session.
     Had,
-    /// Another number was expected before.
+    /// EXPECTED is below that of the session, or in A with `Y` is not 2.
     Expected,
-    /// What it carries out was carried out before; or a reset is not behind its act, or the reset before.
+    /// ACT is not behind the last that a note of the session has named. In R also: LAST is below
+    /// ACT, or below LAST of the reset before.
     Act,
-    /// The number of an entry is not behind that of the entry before.
+    /// The number of an entry is not above that of the entry before.
     NotBehind,
     /// A number is beyond all that a session uses.
     TooFar,
