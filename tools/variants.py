@@ -22,7 +22,7 @@ from made import filled, write
 
 ROOT = Path(__file__).resolve().parent.parent
 SCRIPT = "tools/variants.py"
-PAGES = ("docs/FORMATS.md", "docs/PROGRAM.md", "docs/RECOVERY.md")
+PAGES = ("docs/FORMATS.md", "docs/PROGRAM.md", "docs/RECOVERY.md", "docs/SESSIONS.md")
 ASKED = re.compile(r"(\w+)::(\w+)(?:, each (.+) NAME)?(?: as (.+) \| (.+))?")
 VARIANT = re.compile(r"    (\w+)(?:(?:\(.*\))?,| \{)")
 

@@ -14,16 +14,18 @@ use crate::turns::{Turn, Why, Word};
 pub enum Order {
     /// The venue is open.
     Open,
-    /// It is closed: a firm that is logged on is logged out.
+    /// It is closed: a firm that is logged on is logged out, and refused from then on.
     Close,
-    /// The firm is suspended, and logged out.
+    /// The firm is suspended: logged out if it is logged on, and refused from then on.
     Suspend,
-    /// The firm is suspended no more.
+    /// The firm's suspension ends, and nothing else.
     Resume,
-    /// A session whose engine has lost its store goes on.
+    /// The lock of a session whose engine has lost its store ends, and nothing else.
     Release,
-    /// Numbers begin at 1 again. The caller gives those messages of the venue that it keeps above
-    /// [`crate::Day::had`] the numbers from 2 on, in their order, as copies.
+    /// Numbers begin at 1 again. The messages of the venue that are kept under numbers above that of
+    /// the last TestRequest that the firm has answered get the numbers from 2 on, in their order, as
+    /// copies (97=Y in the header; ApplSeqNum (1181) identifies one). The connection ends, and row 7
+    /// of the first message says which Logon may follow.
     Reset {
         /// How many they are.
         copies: u64,
