@@ -4,9 +4,9 @@
     tools/variants.py            writes each table that a page marks as made by it
     tools/variants.py --check    says which pages are not as it would write them, and ends with 1 then
 
-A mark says `CRATE::ENUM`, or `CRATE::ENUM, each TEXT NAME` for names behind a text; `CRATE::ENUM as HEAD | HEAD`
-gives the columns other heads than `fault` and `when`. No table has `Memory`: the page says when memory may be
-refused.
+A mark says `CRATE::ENUM`, or `CRATE::ENUM, each TEXT NAME` for names behind a text, or `CRATE::ENUM in small` for
+names without capitals. With `as HEAD | HEAD` at its end the columns have these heads in place of `fault` and `when`.
+No table has `Memory`: the page says when memory may be refused.
 """
 
 from __future__ import annotations
@@ -23,7 +23,7 @@ from made import filled, write
 ROOT = Path(__file__).resolve().parent.parent
 SCRIPT = "tools/variants.py"
 PAGES = ("docs/FORMATS.md", "docs/PROGRAM.md", "docs/RECOVERY.md", "docs/SESSIONS.md")
-ASKED = re.compile(r"(\w+)::(\w+)(?:, each (.+) NAME)?(?: as (.+) \| (.+))?")
+ASKED = re.compile(r"(\w+)::(\w+)(?:, each (.+) NAME)?( in small)?(?: as (.+) \| (.+))?")
 VARIANT = re.compile(r"    (\w+)(?:(?:\(.*\))?,| \{)")
 
 
@@ -31,7 +31,7 @@ def body_of(root: Path, crate: str, enum: str) -> str:
     """The lines of an enum, between its braces."""
     for path in sorted((root / "crates" / crate / "src").glob("**/*.rt")):
         text = path.read_text(encoding="utf-8")
-        found = re.search(r"^pub enum %s \{\n(.*?)^\}" % enum, text, re.DOTALL | re.MULTILINE)
+        found = re.search(r"^pub enum %s(?:<.*>)? \{\n(.*?)^\}" % enum, text, re.DOTALL | re.MULTILINE)
         if found is not None:
             return found[1]
     raise SystemExit("crates/%s has no enum %s" % (crate, enum))
@@ -55,14 +55,20 @@ def sentence(text: str) -> str:
     return first + (text[1:] if ". " in text else text[1:].removesuffix("."))
 
 
+def called(name: str, before: str | None, is_small: bool) -> str:
+    """A variant as the program prints it."""
+    shown = name.lower() if is_small else name
+    return f"{before} {shown}" if before else shown
+
+
 def table(what: str, root: Path = ROOT) -> str:
     """The table that a mark asks for."""
     found = ASKED.fullmatch(what)
     if found is None:
         raise SystemExit("no enum is named so: %s" % what)
-    crate, enum, before, *heads = found.groups()
+    crate, enum, before, is_small, *heads = found.groups()
     lines = [
-        ["`%s`" % (f"{before} {name}" if before else name), sentence(said)]
+        ["`%s`" % called(name, before, bool(is_small)), sentence(said)]
         for name, said in variants(body_of(root, crate, enum))
         if name != "Memory"
     ]

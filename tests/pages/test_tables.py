@@ -92,7 +92,8 @@ def test_each_variant_stands_in_a_row_with_its_comment(tmp_path: Path) -> None:
         "| `day: Sum` | a sum. It is wrong. |",
         "| `day: Line` | of a line |",
     ]
-    assert variants.table("low::Fault as what | says", tmp_path).splitlines()[0] == "| what | says |"
+    lines = variants.table("low::Fault in small as what | says", tmp_path).splitlines()
+    assert lines[0] == "| what | says |" and lines[-1] == "| `line` | of a line |"
 
 
 @pytest.mark.parametrize("what", ["low::None", "low", "low::Fault, each"])

@@ -70,7 +70,7 @@ pub struct Denial<'a> {
 /// A message to the firm, but for its header.
 #[derive(Debug, Drop)]
 pub enum Word<'a> {
-    /// Logon (35=A).
+    /// 35=A: 98=0, 108, 141=Y if the firm's has it, 789 if the firm's has one, 1137=9.
     Logon {
         /// HeartBtInt (108).
         seconds: u64,
@@ -79,24 +79,24 @@ pub enum Word<'a> {
         /// NextExpectedMsgSeqNum (789), where the firm sent one.
         expects: Option<u64>,
     },
-    /// Heartbeat (35=0).
+    /// 35=0: nothing.
     Heartbeat,
-    /// Heartbeat (35=0) that answers a TestRequest.
+    /// 35=0, the answer to a TestRequest: 112.
     Answer {
         /// TestReqID (112).
         id: Text<'a>,
     },
-    /// TestRequest (35=1).
+    /// 35=1: 112, its own number.
     TestRequest {
         /// TestReqID (112): its own number.
         id: u64,
     },
-    /// ResendRequest (35=2) of all from a number on.
+    /// 35=2, of all from a number on: 7, 16=0.
     ResendRequest {
         /// BeginSeqNo (7).
         first: u64,
     },
-    /// Reject (35=3).
+    /// 35=3: 45, 371, 372, 373; no 58.
     Reject {
         /// RefSeqNum (45).
         number: u64,
@@ -105,27 +105,27 @@ pub enum Word<'a> {
         /// RefTagID (371) and SessionRejectReason (373).
         fault: Fault,
     },
-    /// SequenceReset (35=4) that fills a gap (123=Y).
+    /// 35=4, a gap fill: 123=Y, 36.
     Fill {
         /// NewSeqNo (36).
         next: u64,
     },
-    /// Logout (35=5).
+    /// 35=5: 58, and nothing in the answer to the firm's own.
     Logout {
         /// Text (58).
         why: Why,
     },
-    /// Logout (35=5) that names another BeginString (8).
+    /// 35=5: 58, which names another BeginString (8).
     Foreign {
         /// That BeginString.
         version: Text<'a>,
     },
-    /// Logout (35=5) for a reason that the gateway gives.
+    /// 35=5: 58, a reason that the gateway gives.
     LogoutFor {
         /// Text (58).
         text: Text<'a>,
     },
-    /// BusinessMessageReject (35=j): the gateway does not take a message.
+    /// 35=j, the gateway does not take a message: 45, 372, 379, 380, 58.
     Denied {
         /// RefSeqNum (45).
         number: u64,
@@ -134,15 +134,15 @@ pub enum Word<'a> {
         /// BusinessRejectReason (380), BusinessRejectRefID (379) and Text (58).
         denial: Denial<'a>,
     },
-    /// What is kept: a message of the venue, a Reject, a BusinessMessageReject, or an answer to a
-    /// TestRequest.
+    /// What is kept: the fields that the venue gave, behind its 35; or those of a Reject, a
+    /// BusinessMessageReject, or an answer to a TestRequest.
     Kept {
         /// Its fields behind the header.
         body: Body<'a>,
         /// It was kept under another number before a reset (97=Y).
         is_copy: bool,
     },
-    /// What is kept, once more (43=Y).
+    /// What is kept, once more (43=Y): the same.
     Again {
         /// Its fields behind the header.
         body: Body<'a>,
@@ -242,21 +242,21 @@ pub struct Turn<'a> {
 /// What a session asks of its caller.
 #[derive(Clone, Copy, Debug, PartialEq, Eq)]
 pub enum Want {
-    /// Nothing.
+    /// Nothing, if none of the others is asked for.
     Nothing,
-    /// What is kept under a number, which leaves again ([`crate::hands`]).
+    /// What is kept under the first number to be sent again: before all else.
     Again {
         /// The number.
         number: u64,
     },
-    /// What is kept under a number, which leaves for the first time ([`crate::hands`]).
+    /// What is kept under the first number that has not left, unless a 35=3 is held.
     Fresh {
         /// The number.
         number: u64,
     },
-    /// A message of its own is due ([`crate::tick`]).
+    /// A tick, if a TestRequest is due; or a ResendRequest, unless a 35=3 is held.
     Tick,
-    /// The Logon of a connection, which came before, once more ([`crate::came`]).
+    /// The Logon of the connection that waits, once more, if the session has no connection.
     Logon {
         /// The connection.
         connection: u64,
