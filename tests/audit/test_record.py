@@ -331,7 +331,7 @@ class OwnMessages(unittest.TestCase):
         ):
             self.assertRegex(self.fault(one) or "", text)
         for one in ("AI", "S", "R", "AJ", "AG", "8", "U", "", "00", "j", "AI|35=0"):
-            self.assertRegex(self.fault(one) or "", "none that a session sends of itself")
+            self.assertRegex(self.fault(one) or "", "a session sends no such message of itself")
             self.assertIsNone(self.fault(one, carries=True))
 
 
