@@ -29,7 +29,7 @@ pub fn investors_are_sent_their_view()
 /// All else may differ: the limits of the dealers, all other investors, the investor's number among
 /// the firms, the steps of every other firm and the words of all quotes.
 ///
-/// It ends at: what a due list says by itself; times and session numbers on the wire.
+/// It ends at: what the due list itself gives away; times and session numbers on the wire.
 pub fn investors_are_isolated()
     ensures { (one other : Configuration) (steps others : List Step) (investor number : ℕ)
         (row again : InvestorRow)

@@ -6,8 +6,8 @@ ghost use Rattle.step_replay.specs.declared.steps.Step.{Step};
 ghost use Rattle.step_replay.specs.declared.steps.Step.TheVariants as step;
 ghost use Rattle.laws_answers.specs.Answered.{Awaits, IsAnsweredOnce, numbers_used};
 
-/// For a message that uses up a number of its firm, the firm is sent exactly one message at once,
-/// or work is left.
+/// For a message that uses up a number of its firm, the firm is immediately sent exactly one
+/// message, or work is left.
 ///
 /// The work is one duty (a hit, a pass, or the drops of a cancel of all), and the firm is sent
 /// nothing yet (`specs/Answered`).

@@ -28,8 +28,8 @@ pub fn a_start_is_a_fold()
         ≡ reads_all (Some (with_more q more)) later }
 {}
 
-/// What a start recovers is the session: the notes that were made and are not lost, with what the
-/// session was told, give what the gateway has in memory (`always`).
+/// A start recovers the session: what the gateway has in memory follows from the notes that were
+/// made and are not lost, and from what the session was told (`always`).
 ///
 /// Of one gateway without a database, `in_one_life` says it. What is recovered is how often, behind
 /// which place and by which act the session was reset, how many messages of the venue it was given,
@@ -37,8 +37,8 @@ pub fn a_start_is_a_fold()
 /// note of what it finds (`readable`).
 ///
 /// It ends at: whether the venue is open, the firm suspended, and a message taken; an answer to a
-/// TestRequest that waits; `expected` and `had`, which may be lower (but numbers are used up in
-/// both, or in neither).
+/// TestRequest that waits; `expected` and `had`, which may be lower in what is recovered than in
+/// memory (but numbers are used up in both, or in neither).
 pub fn recovered_is_the_session()
     ensures in_one_life { (names : Names) (steps : List Step)
         → AreSound names fresh steps
@@ -166,7 +166,7 @@ pub fn rejects_stand()
 /// number or was put behind it. The n-th that may leave is the n-th that the committed entries give
 /// (`given`). A gateway that has lost its term says no other than the next one keeps (`next`).
 ///
-/// It ends at: that a gateway waits so, which is tested.
+/// It ends at: that a gateway holds a message back until it is free to leave, which is tested.
 pub fn what_left_stands()
     ensures given { (names : Names) (acts : List Act) (w : World) (x : Kept)
         → AreSoundActs names (Some first_world) acts

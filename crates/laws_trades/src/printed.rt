@@ -17,8 +17,9 @@ ghost use Rattle.venue_rows.specs.declared.investor_rows.InvestorRow.{InvestorRo
 /// order (`hits_of`). After the message of the k-th of them the line `trade` names the day, the two
 /// firms and k.
 ///
-/// It ends at: the lines that are printed to the dealer. (That the dealer's own list of these trades
-/// is the same one once no duty is left, `trade_laws::a_trade_is_named_on_both_sides` says.)
+/// It ends at: the lines that are printed to the dealer.
+/// (`trade_laws::a_trade_is_named_on_both_sides` says that the dealer's own list of these trades
+/// is the same one once no duty is left.)
 pub fn a_trade_is_printed_to_its_investor()
     ensures { (config : Configuration) (steps : List Step) (investor : ℕ) (buyer : InvestorRow)
         (dealer : List ℕ) (before later : List RoomRef) (room : RoomRef)

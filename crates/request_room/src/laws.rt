@@ -30,7 +30,7 @@ pub fn an_ended_room_changes_no_more()
 /// A request is awarded at most once: its room, which holds the quotes on it, ends at most once
 /// (`ends`), and is awarded at most once (`awards`).
 ///
-/// It ends at: that a venue has one room for a request, which a definition (`RoomRef`) says, and no
+/// It ends at: that a venue has one room for a request: a definition says so (`RoomRef`), and no
 /// law.
 pub fn a_room_ends_once()
     ensures ends { (events : List RoomEvent) → length (filter is_ending (room_after events)) ≤ 1 }

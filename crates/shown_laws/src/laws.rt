@@ -72,9 +72,10 @@ pub fn quotes_are_shown_once()
         → AreOfTheirOwn (venue.audit_trail config steps).facts dealer }
 {}
 
-/// What is shown was quoted: a Quote shows an investor what its dealer wrote (`investors`), and a
-/// QuoteRequest shows a dealer what its investor wrote to it by name (`dealers`). Only messages
-/// that are frames are compared, by their prices, bonds and moments, not by their bytes.
+/// What is shown was quoted: a Quote shows an investor what the quote's dealer wrote
+/// (`investors`), and a QuoteRequest shows a dealer what an investor wrote in a request that
+/// names this dealer (`dealers`). Only messages that are frames are compared, by their prices,
+/// bonds and moments, not by their bytes.
 ///
 /// There is one Quote for each quote that the investor was shown, in their order (`in_turn`). What
 /// a dealer is shown needs a configuration that keeps its limits, since a dealer whose name has an

@@ -23,7 +23,7 @@ ghost use Rattle.step_replay.specs.declared.steps.Step.{Step};
 ///
 /// After every list of steps the messages are the dealer view of these three.
 ///
-/// It ends at: what a due list says by itself; times and session numbers on the wire.
+/// It ends at: what the due list itself gives away; times and session numbers on the wire.
 pub fn dealers_are_sent_their_view()
     ensures { (config : Configuration) (steps : List Step) (dealer : ℕ) (row : DealerRow)
         → dealer_numbered config dealer ≡ Some row
@@ -36,7 +36,7 @@ pub fn dealers_are_sent_their_view()
 /// The two venues may differ in the steps of every firm and their order, the numbers of the firms,
 /// the bonds and all other rows.
 ///
-/// It ends at: what a due list says by itself; times and session numbers on the wire.
+/// It ends at: what the due list itself gives away; times and session numbers on the wire.
 pub fn dealers_are_isolated()
     ensures { (one other : Configuration) (steps others : List Step) (dealer number : ℕ)
         (row : DealerRow) → one.date ≡ other.date
