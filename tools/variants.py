@@ -5,7 +5,8 @@
     tools/variants.py --check    says which pages are not as it would write them, and ends with 1 then
 
 A mark says `CRATE::ENUM`, or `CRATE::ENUM, each TEXT NAME` for names behind a text, or `CRATE::ENUM in small` for
-names without capitals. With `as HEAD | HEAD` at its end the columns have these heads in place of `fault` and `when`.
+names without capitals; `CRATE::ENUM with FIELD` takes the variants with that field alone. With `as HEAD | HEAD` at its
+end the columns have these heads in place of `fault` and `when`.
 No table has `Memory`: the page says when memory may be refused.
 """
 
@@ -23,7 +24,7 @@ from made import filled, write
 ROOT = Path(__file__).resolve().parent.parent
 SCRIPT = "tools/variants.py"
 PAGES = ("docs/FORMATS.md", "docs/PROGRAM.md", "docs/RECOVERY.md", "docs/SESSIONS.md")
-ASKED = re.compile(r"(\w+)::(\w+)(?:, each (.+) NAME)?( in small)?(?: as (.+) \| (.+))?")
+ASKED = re.compile(r"(\w+)::(\w+)(?: with (\w+))?(?:, each (.+) NAME)?( in small)?(?: as (.+) \| (.+))?")
 VARIANT = re.compile(r"    (\w+)(?:(?:\(.*\))?,| \{)")
 
 
@@ -57,7 +58,7 @@ def sentence(text: str) -> str:
 
 def called(name: str, before: str | None, is_small: bool) -> str:
     """A variant as the program prints it."""
-    shown = name.lower() if is_small else name
+    shown = re.sub(r"\B([A-Z])", r" \1", name).lower() if is_small else name
     return f"{before} {shown}" if before else shown
 
 
@@ -66,11 +67,13 @@ def table(what: str, root: Path = ROOT) -> str:
     found = ASKED.fullmatch(what)
     if found is None:
         raise SystemExit("no enum is named so: %s" % what)
-    crate, enum, before, is_small, *heads = found.groups()
+    crate, enum, field, before, is_small, *heads = found.groups()
+    body = body_of(root, crate, enum)
+    having = re.findall(r"^    (\w+) \{\n(?:     .*\n)*?        %s: " % field, body, re.MULTILINE)
     lines = [
         ["`%s`" % called(name, before, bool(is_small)), sentence(said)]
-        for name, said in variants(body_of(root, crate, enum))
-        if name != "Memory"
+        for name, said in variants(body)
+        if name != "Memory" and (field is None or name in having)
     ]
     return rows(heads if heads[0] else ["fault", "when"], lines)
 

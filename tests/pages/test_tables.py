@@ -94,6 +94,12 @@ def test_each_variant_stands_in_a_row_with_its_comment(tmp_path: Path) -> None:
     ]
     lines = variants.table("low::Fault in small as what | says", tmp_path).splitlines()
     assert lines[0] == "| what | says |" and lines[-1] == "| `line` | of a line |"
+    alone = variants.table("low::Fault with number", tmp_path).splitlines()[2:]
+    assert alone == ["| `Line` | of a line |"]
+
+
+def test_a_small_name_has_a_space_for_each_capital() -> None:
+    assert variants.called("UnknownFirm", "line K:", True) == "line K: unknown firm"
 
 
 @pytest.mark.parametrize("what", ["low::None", "low", "low::Fault, each"])

@@ -94,22 +94,25 @@ pub enum ProgramFault {
     /// An argument is the name of no firm, or of no dealer where a dealer is asked for. The
     /// argument belongs to the line that tells the fault.
     Firm,
-    /// A line is not of its form.
+    /// Line K is not of its form, or lacks the keyword of its place (a `turn` in `day`, `live` and
+    /// with `--live`). K counts all lines from 1, and a missing line of the date or the firm is one
+    /// past the last: the empty input is `line 1: form`.
     Form {
         /// Its number, from 1 over all lines of the input.
         line: usize,
     },
-    /// A line names a firm that the configuration does not have.
+    /// Line K names a firm that the configuration does not have, or `CLOCK` where a firm is asked.
     UnknownFirm {
         /// Its number.
         line: usize,
     },
-    /// A line names a room that the configuration does not have.
+    /// Line K sweeps a room that no investor has: that of a dealer, the 0th, or one past the
+    /// investor's requests.
     UnknownRoom {
         /// Its number.
         line: usize,
     },
-    /// A line brings bytes at which no message can begin, go on or end any more.
+    /// Line K brings the byte that shows a fault of its firm's stream.
     Stream {
         /// Its number.
         line: usize,
