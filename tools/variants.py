@@ -24,7 +24,9 @@ from made import filled, write
 ROOT = Path(__file__).resolve().parent.parent
 SCRIPT = "tools/variants.py"
 PAGES = ("docs/FORMATS.md", "docs/PROGRAM.md", "docs/RECOVERY.md", "docs/SESSIONS.md")
-ASKED = re.compile(r"(\w+)::(\w+)(?: with (\w+))?(?:, each (.+) NAME)?( in small)?(?: as (.+) \| (.+))?")
+ASKED = re.compile(
+    r"(\w+)::(\w+)(?: with (\w+))?(?:, each (.+) NAME)?( in small)?(?: as (.+) \| (.+))?"
+)
 VARIANT = re.compile(r"    (\w+)(?:(?:\(.*\))?,| \{)")
 
 
@@ -32,7 +34,9 @@ def body_of(root: Path, crate: str, enum: str) -> str:
     """The lines of an enum, between its braces."""
     for path in sorted((root / "crates" / crate / "src").glob("**/*.rt")):
         text = path.read_text(encoding="utf-8")
-        found = re.search(r"^pub enum %s(?:<.*>)? \{\n(.*?)^\}" % enum, text, re.DOTALL | re.MULTILINE)
+        found = re.search(
+            r"^pub enum %s(?:<.*>)? \{\n(.*?)^\}" % enum, text, re.DOTALL | re.MULTILINE
+        )
         if found is not None:
             return found[1]
     raise SystemExit("crates/%s has no enum %s" % (crate, enum))

@@ -193,7 +193,7 @@ def no_other_dealer_is_shown(venue: WatchedVenue, _turns: Turns) -> Iterator[str
     """A request is shown to no dealer that it does not name."""
     for dealer in dealers(venue.configuration):
         for request in venue.dealer_desk(dealer).requests:
-            asked = venue.asked.get(request.room)
+            asked = venue.asked.get(request.room) if request.room is not None else None
             if asked is None or dealer not in asked.dealers:
                 yield "a request shown to dealer %d" % dealer
 
