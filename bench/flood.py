@@ -11,6 +11,8 @@ alone; the aim is 1.5 and 3. Beside them: the flood's messages in the log, and h
 memory grew by. Status 1 where the aim is missed, or the flood has more in the log than its rate.
 """
 
+# @figure how long other firms wait while one floods for a minute; what log and memory grow by | the median at most 1.5 times that alone, the 99th percentile 3 times; no message in the log above the rate | met: [below](#one-firm-floods)
+
 import argparse
 import multiprocessing
 import statistics

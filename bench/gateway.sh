@@ -7,6 +7,7 @@
 #     bench/gateway.sh [GATEWAY [VENUE WORDS ..]]
 #
 # The venue `-` is gateway_venue.cpp, which does nothing but answer: the gateway's own part.
+# @figure a quote from a stock initiator to its 297=0 through gateway, log and venue (or a stand-in that answers at once), beside a bare QuickFIX echo with an fdatasync; and a burst | 1.5 times the echo's median; 3,000 messages a second | met: [below](#the-gateways-latency)
 set -eu
 here=$(cd "$(dirname "$0")" && pwd)
 root=$(cd "$here/.." && pwd)

@@ -9,6 +9,8 @@ what one of its first half takes, of `replay`, of `replay --live` on the same me
 Takes a few seconds.
 """
 
+# @figure bytes a frame that comes or is sent, on a day of as many requests as a venue may have: of `replay`; of `replay --live` and `live` on the same messages | 350 of `replay` | 347; 399; 337
+
 import os
 import subprocess
 import sys

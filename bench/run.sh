@@ -1,6 +1,8 @@
 #!/bin/sh
 # Times of one run, their ratios, and where valgrind is there the instructions of one call.
 # Needs g++, libquickfix-dev and rt; valgrind is optional.
+# @figure to read and check a frame and find one field | a Quote in a fifth of QuickFIX's time, and at most 2.5 times C++ | met: [below](#reading-a-frame)
+# @figure to cut a stream into messages | ahead of QuickFIX from pieces of 512 bytes on | met: [below](#reading-a-frame)
 set -e
 here=$(cd "$(dirname "$0")" && pwd)
 crate=$here/../crates/fix_fields_c

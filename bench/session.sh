@@ -1,6 +1,7 @@
 #!/bin/sh
 # Instructions of one read_frame, of read_frame and read_dealer together, and of QuickFIX's parse, of a Quote of 133
 # bytes and of one with every field. Needs g++, libquickfix-dev, valgrind and rt.
+# @figure instructions of `read_frame` and `read_dealer` together | at most 2.5 times `read_frame`, and 40 of 100 of QuickFIX's parse | a Quote 2,963, 2.31 times (QuickFIX 12,092); one with every field 4,622, 2.49 times (QuickFIX 16,704)
 set -e
 here=$(cd "$(dirname "$0")" && pwd)
 crate=$here/../crates/quote_messages_c

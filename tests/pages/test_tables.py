@@ -5,6 +5,7 @@ from pathlib import Path
 
 import commands
 import conformance
+import figures
 import pytest
 import reasons
 import variants
@@ -107,3 +108,20 @@ def test_an_enum_that_is_not_there(tmp_path: Path, what: str) -> None:
     (tmp_path / "crates" / "low" / "src").mkdir(parents=True)
     with pytest.raises(SystemExit):
         variants.table(what, tmp_path)
+
+
+def bench(folder: Path, text: str) -> Path:
+    (folder / "bench").mkdir()
+    (folder / "bench" / "one.sh").write_text(text, encoding="utf-8")
+    return folder
+
+
+def test_each_figure_stands_in_a_row(tmp_path: Path) -> None:
+    """The first one of a script names it."""
+    place = bench(tmp_path, "# @figure a | b | c\nset -e\n# @figure d | e | f\n")
+    assert list(figures.figures(place)) == [["`bench/one.sh`", "a", "b", "c"], ["", "d", "e", "f"]]
+
+
+def test_a_figure_without_its_parts(tmp_path: Path) -> None:
+    with pytest.raises(SystemExit):
+        list(figures.figures(bench(tmp_path, "# @figure a | b\n")))

@@ -20,6 +20,7 @@ READING = "tools/reading_list.py"
 
 # Scripts that make tables, or files: each says by `--check` what is not as it would write it.
 MAKERS = [
+    "tools/figures.py",
     "tools/formats.py",
     "tools/laws.py",
     "tools/reasons.py",
