@@ -8,8 +8,9 @@ usage: prove_venue.py [--jobs N]
 It copies the crates below these out of the repository, without tests and without wrong bodies. An `rt ci`
 over the whole copy proves them side by side, as far as memory allows, and proves, builds and runs the
 program; an `rt lib` makes each library. If the kit's `rt ci` takes names and keeps what it proves, an
-`rt ci CRATE` proves each crate before that, as soon as those below it are proved. It takes what an
-earlier run or a gate has proved, and what is newer than all its sources. In the end it says whether all
+`rt ci CRATE` proves each crate before that, as soon as those below it are proved. (Over libraries of
+`rt lib` it would load the proofs of the crates below, too, and take a third more processor time.) It
+takes what an earlier run or a gate has proved, and what is newer than all its sources. In the end it says whether all
 are the bytes that crates/proved.sha256 has for these sources.
 """
 
