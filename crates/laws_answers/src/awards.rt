@@ -14,8 +14,8 @@ ghost use Rattle.laws_answers.specs.Awards.{IsInTime};
 ///
 /// A room that was awarded was open, and the winner's quote stood in its book (`specs/Awards`).
 ///
-/// It ends at: at which moment the quote came (the moments of a day's steps need not rise); that
-/// a hit in time is awarded.
+/// It ends at: at which moment the quote came (the times of a day's steps need not be in
+/// ascending order); that a hit in time is awarded.
 pub fn an_award_is_in_time()
     ensures { (config : Configuration) (steps : List Step) (room : RoomRef)
         (before after : List RoomFact) (award : End) (moment : ℕ)

@@ -36,9 +36,9 @@ pub fn a_start_is_a_fold()
 /// with their hash, its day, and whatever is kept, by number, body and moment. A start refuses no
 /// note of what it finds (`readable`).
 ///
-/// It ends at: whether the venue is open, the firm suspended, and a message taken; an answer to a
-/// TestRequest that waits; `expected` and `had`, which may be lower in what is recovered than in
-/// memory (but numbers are used up in both, or in neither).
+/// It ends at: whether the venue is open, whether the firm is suspended, whether a message is
+/// taken; a waiting answer to a TestRequest; `expected` and `had`, which may be lower than those
+/// in memory (but either both have run out of numbers, or neither has).
 pub fn recovered_is_the_session()
     ensures in_one_life { (names : Names) (steps : List Step)
         → AreSound names fresh steps
@@ -159,8 +159,8 @@ pub fn rejects_stand()
         → IsKept (kept_reject s) later.memory.kept }
 {}
 
-/// What left stands: until a reset is carried out, a message of the venue that was free to leave
-/// stays free to leave, whichever gateway is there, under its number and unchanged (`stays`).
+/// What left stands: until a reset is carried out, a message of the venue that was once free to
+/// leave stays so, unchanged and under its number, whichever gateway is running (`stays`).
 ///
 /// It may leave once its entry is committed, and each note that is not is no reset, and uses no
 /// number or was put behind it. The n-th that may leave is the n-th that the committed entries give

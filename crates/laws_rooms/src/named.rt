@@ -19,9 +19,9 @@ use dealer_desk::{limits_are_kept, what_is_asked_is_of_the_day};
 /// no dealer was shown a request that was not accepted (`accepted`). This holds also while duties
 /// are left.
 ///
-/// It ends at: what the dealer's desk has as facts. (`shown_laws::what_is_shown_was_quoted` says
-/// the same of the messages 35=R that a dealer was sent,
-/// `shown_laws::requests_are_shown_as_written` of the names that the investor wrote.)
+/// It ends at: the messages: the law speaks of the facts at the dealer's desk.
+/// (`shown_laws::what_is_shown_was_quoted` says the same of the messages 35=R that a dealer was
+/// sent, `shown_laws::requests_are_shown_as_written` of the names that the investor wrote.)
 pub fn a_request_is_shown_to_no_other_dealer()
     ensures only { (config : Configuration) (steps : List Step) (investor : ℕ)
         (request : AcceptedRequest) (dealer : ℕ)

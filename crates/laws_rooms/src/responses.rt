@@ -10,8 +10,8 @@ ghost use Rattle.venue_rows.specs.declared.investor_rows.InvestorRow.{InvestorRo
 
 use dealer_desk::{limits_are_kept, what_is_asked_is_of_the_day};
 
-/// Each hit and each pass that a message left as work is answered once, in order, and nothing else
-/// is.
+/// Each hit and each pass that a message left as work is answered once, in order, and no such
+/// answer goes to anything else.
 ///
 /// The answers are the investor's messages 35=AI that have 693 and are not 297=9. They bear the
 /// 693, the 52 and the k of 117=Qk that stand in the duty, as the desk read them

@@ -38,17 +38,17 @@ pub fn dealers_are_read_back()
 }
 
 /// Until an operator resets a dealer's session, its n-th message [on the
-/// wire](docs/PROOFS.md#on-the-wire) follows from the date, its row, its due list, and the words
-/// that stand for a reason or a trade.
+/// wire](docs/PROOFS.md#on-the-wire) follows from the date, its row, its due list, the words of
+/// refusals, and the names of trades.
 ///
 /// What is kept of the message with 1181=n is the same in two venues, byte for byte, except 45 of a
 /// Reject, where both have one. Whatever leaves of it is that, with the session's header
 /// (`what_leaves_is_the_venues`). Nothing is asked of the messages but that each is a frame
 /// (`AreMade`). The sessions may differ in all that comes to them, as the steps of all firms may.
 ///
-/// It ends at: an operator's reset; 45 of a Reject; the session's header; the words of a refusal
-/// and the name of a trade, which the law supposes to be the same; whether there is an n-th message
-/// on both days; the gateway, which hands over each message (tested).
+/// It ends at: an operator's reset; 45 of a Reject; the session's header; the words of refusals
+/// and the names of trades, which the law supposes to be the same in both venues; whether both
+/// have an n-th message; that the gateway hands over each message (tested).
 pub fn dealers_are_isolated_on_the_wire()
     ensures { (one other : Configuration) (steps others : List Step) (dealer number : ℕ)
         (row : DealerRow) (words : List (Option DealerNote) → List (Option Field))
