@@ -254,7 +254,6 @@ beside() {
 # tries it.
 soon() {
     [ -z "${GATEWAY:-}" ] || return 0
-    gateway=$root/$built/gateway/mireseason-gateway
     told=$work/ccache
     can_have "$(what_is_left)" ccache || :
     told=$work/build
@@ -279,6 +278,8 @@ ctest_soon() {
 quick() {
     program=$second
     built=examples/venue/out/built
+    # Before the lanes begin, of which one is a process of its own.
+    gateway=${GATEWAY:-$root/$built/gateway/mireseason-gateway}
     ctest=
     short='examples|supervisor'
     told=$work/all
@@ -289,8 +290,8 @@ quick() {
     not_run "model, isolation, hostile, refused_memory, replicas: not run: there is no proved program"
     not_run "$(others | grep -vxE "$short" | paste -sd ' ' | sed 's/ /, /g'): not run: --quick has no time for them"
     # shellcheck disable=SC2046 # a word for each folder
-    before_gateway=$(longest_first engines pages cases $(others | grep -xE "$short"))
-    with_gateway="gateway audit"
+    before_gateway=$(longest_first pages cases $(others | grep -xE "$short"))
+    with_gateway="gateway audit engines"
     in_two_lanes soon
     [ -z "$ctest" ] || wait "$ctest"
     echo "quick: $(($(date +%s) - start)) s"
