@@ -43,8 +43,10 @@ pub fn dealers_are_read_back()
 ///
 /// What is kept of the message with 1181=n is the same in two venues, byte for byte, except 45 of a
 /// Reject, where both have one. Whatever leaves of it is that, with the session's header
-/// (`what_leaves_is_the_venues`). Nothing is asked of the messages but that each is a frame
-/// (`AreMade`). The sessions may differ in all that comes to them, as the steps of all firms may.
+/// (`what_leaves_is_the_venues`). The premise is that of `what_is_kept_reads_back`: each session is
+/// given its venue's messages in their order. Of these nothing is asked but that each is a frame
+/// (`AreMade`). In all else that comes to them the sessions may differ, as the steps of all firms
+/// may.
 ///
 /// It ends at: an operator's reset; 45 of a Reject; the session's header; the words of refusals
 /// and the names of trades, which the law supposes to be the same in both venues; whether both
