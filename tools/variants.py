@@ -35,7 +35,7 @@ def body_of(root: Path, crate: str, enum: str) -> str:
     for path in sorted((root / "crates" / crate / "src").glob("**/*.rt")):
         text = path.read_text(encoding="utf-8")
         found = re.search(
-            r"^pub enum %s(?:<.*>)? \{\n(.*?)^\}" % enum, text, re.DOTALL | re.MULTILINE
+            r"^pub enum %s(?:<[^>]*>)? \{\n(.*?)^\}" % enum, text, re.DOTALL | re.MULTILINE
         )
         if found is not None:
             return found[1]
@@ -79,6 +79,8 @@ def table(what: str, root: Path = ROOT) -> str:
         for name, said in variants(body)
         if name != "Memory" and (field is None or name in having)
     ]
+    if not lines:
+        raise SystemExit("no variant stands in %s::%s" % (crate, enum))
     return rows(heads if heads[0] else ["fault", "when"], lines)
 
 

@@ -99,6 +99,15 @@ def test_each_variant_stands_in_a_row_with_its_comment(tmp_path: Path) -> None:
     assert alone == ["| `Line` | of a line |"]
 
 
+def test_an_enum_with_a_lifetime_ends_at_its_own_brace(tmp_path: Path) -> None:
+    """What follows it, an `impl` with a lifetime of its own, is no part of it."""
+    place = tmp_path / "crates" / "low" / "src"
+    place.mkdir(parents=True)
+    text = ENUM.replace("Fault {", "Fault<'a> {") + "\nimpl<'a> Drop for Fault<'a> {\n    own\n}\n"
+    (place / "fault.rt").write_text(text, encoding="utf-8")
+    assert len(variants.table("low::Fault", tmp_path).splitlines()) == 5
+
+
 def test_a_small_name_has_a_space_for_each_capital() -> None:
     assert variants.called("UnknownFirm", "line K:", True) == "line K: unknown firm"
 
