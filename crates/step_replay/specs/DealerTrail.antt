@@ -1,6 +1,6 @@
 -- What became so at the place of one dealer, in order: at its desk, in the words of its quotes, and
 -- what it was sent. Its desk, the words of its quotes and what is due to it are functions of this
--- one list, and no other dealer, no room and no investor stands in it.
+-- one list, and no fact of another dealer, of a room or of an investor stands in it.
 use Rattle.std.specs.Prelude.{ℕ, ◌==◌, Bool, false, List, ◌++◌, map, filter_map, Option, Some, None}
 use Rattle.std.specs.Prelude.{if◌then◌else◌}
 use Rattle.std.specs.List.{list_any}
