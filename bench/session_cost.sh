@@ -1,7 +1,7 @@
 #!/bin/sh
 # Instructions of a firm's session for a quote of 220 bytes that it expects: one call of fix_sessions_came, from the bytes
 # to what the venue is given. Needs g++, valgrind and rt; with MODEL=1 the second implementation's, and no rt.
-# @figure instructions of a firm's session for an expected quote of 220 bytes: one call of `fix_sessions_came` | 10,000, and half of the 22,750 of QuickFIX's `Session` | 9,609, 0.42 times QuickFIX's. The second implementation (`MODEL=1`) 15,165
+# @figure instructions of a firm's session for an expected quote of 220 bytes: one call of `fix_sessions_came`, from the bytes to what the venue is given | 10,000, and half of the 22,750 of QuickFIX's `Session` | 9,609, 0.42 times QuickFIX's. The second implementation (`MODEL=1`) 15,165
 set -e
 here=$(cd "$(dirname "$0")" && pwd)
 top=$here/..

@@ -5,7 +5,7 @@
 # Needs rt.
 #
 #     bench/threads.sh [PROGRAM]
-# @figure messages a second of `day`, each firm a thread, and of `replay` | none | one pair of firms 201,000 and 187,000, eight pairs 164,000 and 114,000
+# @figure messages a second of `day`, each firm a thread, and of `replay` | none | one pair of firms 201,000 and 187,000, eight pairs 164,000 and 114,000; two cores do not show how a day grows with cores
 set -e
 . "$(dirname "$0")/program.sh"
 messages=6000

@@ -6,7 +6,7 @@
 # `live --marks` and of `replay` over pipes (pipes.py). Needs g++, python3, libquickfix-dev, valgrind and rt.
 #
 #     bench/venue.sh [PROGRAM]
-# @figure instructions of `replay` on 1,000 auctions (6,000 messages come, 16,000 are sent), beside the least that a venue on QuickFIX needs: to parse the former and to build and write the latter | 140 million, 0.45 times | 134 million, 0.45 times. 182,692 messages a second
+# @figure instructions of `replay` on 1,000 auctions (6,000 messages come, 16,000 are sent), beside the least that a venue on QuickFIX needs: to parse the former and to build and write the latter | 140 million, 0.45 times | 134 million, 0.45 times; QuickFIX's parse alone of what comes and is sent takes 2.2 times as much. 182,692 messages a second
 # @figure instructions a line of `live`, of the same messages; of `replay` where they come as `hex` lines | those of `replay`; twice those of `in` lines | 1.14 times; 1.07 times
 set -e
 . "$(dirname "$0")/program.sh"

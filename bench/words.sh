@@ -1,7 +1,7 @@
 #!/bin/sh
 # Times of `Board::withdraw`, beside a bare compare-and-exchange in C++, in one run.
 # Needs g++ and rt. usage: bench/words.sh
-# @figure `Board::withdraw` beside a bare `std::atomic` exchange, open and settled, one thread and four | twice | 0.76 to 0.97 times
+# @figure `Board::withdraw` beside a bare `std::atomic` exchange, open and settled words, one thread and four | at most twice | 0.76 to 0.97 times
 set -e
 here=$(cd "$(dirname "$0")" && pwd)
 make=$(mktemp -d)

@@ -1,4 +1,10 @@
-"""Says how long firms had no answer after each fault."""
+"""Says how long firms had no answer after each fault.
+
+The figures of docs/SCALING.md are of three whole runs beside each other on four processors, at a load of 14 to 17: in nine days
+160,649 messages of firms, 332,472 to firms, and 400 terms. Of the faults 28 were a full disk, 33 the leader of etcd, 30 a
+gateway, 32 a host cut off, 31 a link to the primary, 26 a link of primary and standby, 29 power, 31 a primary alone before its
+power, 30 a primary killed.
+"""
 
 import statistics
 from dataclasses import dataclass, field
