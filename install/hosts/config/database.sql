@@ -38,7 +38,7 @@ ALTER ROLE keeper SET idle_in_transaction_session_timeout = '10min';
 -- What PostgreSQL lets everybody do that no role here needs: large objects, words in the WAL, locks by a number, which whoever
 -- holds one could keep others waiting with, numbers of transactions, of which there are only so many before the server has to
 -- be vacuumed, and notices, which stay on disk until all that listen have read them. (NOTIFY itself can't be taken away: a
--- standby takes none.)
+-- standby takes none. On the primary it uses up numbers of transactions, and 8 GB of the disk if a session listens and waits.)
 DO $$
 DECLARE
     one REGPROCEDURE;
@@ -58,7 +58,7 @@ GRANT USAGE ON SCHEMA mireseason TO gateway, keeper;
 -- Makes the schema of a day with its tables, which belong to the owner, and says what the others may: a gateway puts rows
 -- there, changes where a session stands and who speaks, and marks what a session keeps no longer (each Logon with 141=Y
 -- does, whether there is a Reject or not); a reader and the keeper read. Two gateways that begin at once: the second waits
--- for the first by the schema's name, and fails then.
+-- for the first by the schema's name, and fails then. No lock of others holds this up: only the owner may make the name.
 CREATE OR REPLACE FUNCTION mireseason.make_log(name TEXT) RETURNS VOID
 LANGUAGE plpgsql SECURITY DEFINER SET search_path = pg_catalog, pg_temp AS $make_log$
 BEGIN
