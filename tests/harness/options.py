@@ -64,7 +64,7 @@ def venue_words(text: str) -> tuple[str, ...]:
 
 
 def usual_venue() -> str:
-    """The proved program where it stands."""
+    """What VENUE says; else the proved program where it stands, or else the second."""
     return os.environ.get("VENUE") or ("proved" if PROVED.exists() else "second")
 
 
@@ -72,7 +72,7 @@ def pytest_addoption(parser: pytest.Parser) -> None:
     group = parser.getgroup("mireseason")
     group.addoption(
         "--venue",
-        help="proved, second, or the words of a program; VENUE, or the proved one where it stands",
+        help="proved, second, or the words of a program; VENUE, or else proved if built, or second",
     )
     group.addoption(
         "--gateway", help="a gateway that is built; GATEWAY, or else it is built in gateway/out"
