@@ -331,7 +331,7 @@ TEST_CASE("no first entry") {
     } catch (const std::runtime_error &fault) {
         told = fault.what();
     }
-    same<std::string>("the log has no entry 0: behind the begin comes entry 1", told, "the cause");
+    same<std::string>("the log has no entry 0: after the begin comes entry 1", told, "the cause");
 }
 
 // What a gateway that was killed left beside its file stands in the file itself once the log is

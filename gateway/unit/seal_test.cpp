@@ -275,7 +275,7 @@ void accepted(const fs::path &folder, const std::string &connection) {
     told(start(place), "--accept-loss", "the way out");
     LogGuard guard = guard_at(place);
     told(guard.accept(*place.open()->reader(), no_act),
-         "behind entry 3; the checkpoint that was kept had entry 5", "what is accepted");
+         "after entry 3; the checkpoint that was kept had entry 5", "what is accepted");
     same<std::string>("", start(place), "a start after it");
     // What nobody has sealed is never accepted.
     place.run(insert_of(place, next_entry(place)));
