@@ -1,4 +1,5 @@
-//! QuoteIDs as the keys of an ordered map.
+//! QuoteIDs as the keys of an ordered map. (A hash map has a fixed seed: a firm could choose IDs that
+//! make its day slow.)
 ghost use Rattle.std.specs.Prelude.{◌≡◌};
 ghost use Rattle.dealer_desk.specs.DealerTable as spec;
 
