@@ -289,9 +289,8 @@ quick() {
     browser
     not_run "model, isolation, hostile, refused_memory, replicas: not run: there is no proved program"
     not_run "$(others | grep -vxE "$short" | paste -sd ' ' | sed 's/ /, /g'): not run: --quick has no time for them"
-    # shellcheck disable=SC2046 # a word for each folder
-    before_gateway=$(longest_first pages cases $(others | grep -xE "$short"))
-    with_gateway="gateway audit engines"
+    before_gateway=$(longest_first pages cases supervisor)
+    with_gateway="gateway audit engines examples"
     in_two_lanes soon
     [ -z "$ctest" ] || wait "$ctest"
     echo "quick: $(($(date +%s) - start)) s"
