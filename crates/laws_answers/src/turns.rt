@@ -12,9 +12,9 @@ ghost use Rattle.laws_answers.specs.Answered.{Awaits, IsAnsweredOnce, numbers_us
 /// The work is one duty (a hit, a pass, or the drops of a cancel of all), and the firm is sent
 /// nothing yet (`specs/Answered`).
 ///
-/// It ends at: which messages use up a number (of those that a session takes:
-/// [each](docs/PROOFS.md#between-the-wire-and-the-venue)); what the one message says, which is the
-/// desk's definition; what a hit, a pass and a drop lead to.
+/// It ends at: which messages use up a number ([each one that a session
+/// takes](docs/PROOFS.md#between-the-wire-and-the-venue) does); what the one message says, which
+/// is the desk's definition; what a hit, a pass and a drop lead to.
 pub fn each_message_in_its_turn_is_answered()
     ensures { (config : Configuration) (steps : List Step) (firm moment : ℕ) (bytes : List ℕ)
         → numbers_used config firm

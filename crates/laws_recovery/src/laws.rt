@@ -37,8 +37,8 @@ pub fn a_start_is_a_fold()
 /// note of what it finds (`readable`).
 ///
 /// It ends at: whether the venue is open, whether the firm is suspended, whether a message is
-/// taken; a waiting answer to a TestRequest; `expected` and `had`, which may be lower than those
-/// in memory (but either both have run out of numbers, or neither has).
+/// taken; a waiting answer to a TestRequest; `expected` and `had`, which may be lower than in
+/// memory (but what is recovered has run out of numbers exactly if what is in memory has).
 pub fn recovered_is_the_session()
     ensures in_one_life { (names : Names) (steps : List Step)
         → AreSound names fresh steps

@@ -22,8 +22,9 @@ use step_replay::no_quote_is_lifted_and_withdrawn;
 /// quote (`unlifted`), and no `Trade` is of it (`untraded`), before or after the message
 /// (`specs/Withdrawals`).
 ///
-/// It ends at: messages on days on which work is left (the law speaks of a `Trade`; when no work
-/// is left, each 297=0 to a hit and each 694=1 belongs to one); which fields the messages have.
+/// It ends at: the messages, on days on which work is left (the law is about a `Trade`, not about
+/// messages; when no work is left, each 297=0 that answers a hit, and each 694=1, belongs to a
+/// `Trade`); which fields the messages have.
 pub fn what_is_withdrawn_is_never_traded()
     ensures said { (config : Configuration) (steps : List Step) (dealer : ℕ) (row : DealerRow)
         (bytes : List ℕ) → dealer_numbered config dealer ≡ Some row

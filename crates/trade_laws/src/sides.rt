@@ -23,8 +23,8 @@ use dealer_desk::{limits_are_kept, what_is_asked_is_of_the_day};
 /// request, once, with the 117 of its quote that has the word of Qk. Of the words of that request's
 /// quotes only this quote's is lifted.
 ///
-/// It ends at: days on which work is left: there the notice may be to come.
-/// (`laws_trades::a_trade_has_a_time` says that the moment of the notice is the award's.)
+/// It ends at: days on which work is left: on those the dealer may not have been sent its notice
+/// yet. (`laws_trades::a_trade_has_a_time` says that the moment of the notice is the award's.)
 pub fn both_sides_of_a_trade_agree()
     ensures answers { (config : Configuration) (steps : List Step)
         (investor request quote price : ℕ) (dealer : List ℕ)
