@@ -23,7 +23,7 @@ def test_limits_while_the_desk_runs(house: House) -> None:
         "seconds": 0,
         "replaces": "",
     }
-    assert admin.act(**quote).startswith("You may look")
+    assert admin.act(**quote).startswith("You may only look")
     assert admin.act(**limits) == ""
     above = "The quantity is above the 1,000,000 that your desk allows you."
     assert tess.act(**quote) == above

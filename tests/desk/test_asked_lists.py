@@ -73,7 +73,7 @@ def test_a_wrong_line_is_named(house: House) -> None:
         asked[1] = {**asked[1], **wrong}
         assert ask(investor, asked) == why
     assert ask(tom, lines(2)) == "Line 2: The quantity has to be from 1 to 1,000,000."
-    assert ask(house.view(house.investor, "lou"), lines(2)).startswith("You may look")
+    assert ask(house.view(house.investor, "lou"), lines(2)).startswith("You may only look")
     assert ask(house.view(house.dealer), lines(2)) == "A dealer's desk does not do this."
     assert investor.requests == {} and investor.lists == {}
 

@@ -245,15 +245,15 @@ def test_who_may_not_act(house: House) -> None:
         "seconds": 60,
         "dealers": ["DLR1"],
     }
-    assert lou.act(**ask_two).startswith("You may look")
-    assert lou.act(do="save group", name="x", dealers=["DLR1"]).startswith("You may look")
+    assert lou.act(**ask_two).startswith("You may only look")
+    assert lou.act(do="save group", name="x", dealers=["DLR1"]).startswith("You may only look")
     assert tom.act(**ask_two) == "The quantity has to be from 1 to 1,000,000."
     assert tom.act(do="cancel all") == "An investor's desk does not do this."
     dealer = house.view(house.dealer)
     assert dealer.act(**ask_two) == "A dealer's desk does not do this."
     assert not lou.requests and not dealer.requests
     asked = tom.ask_for(["DLR1"], quantity=1_000_000)
-    assert lou.act(do="pass", request=asked).startswith("You may look")
+    assert lou.act(do="pass", request=asked).startswith("You may only look")
     tom.until("lou sees it", lambda: tom.requests[asked]["trader"] == "T4")
 
 

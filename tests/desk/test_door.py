@@ -103,7 +103,7 @@ def test_f9_takes_back_and_stops(house: House) -> None:
     )
     assert program.act(**quote) == STOPPED
     assert program.act(do="release program", name="P1") == "A program may not do this."
-    assert lou.act(do="release program", name="P1").startswith("You may look")
+    assert lou.act(do="release program", name="P1").startswith("You may only look")
     assert tom.act(do="release program", name="P2") == "The desk has no program 'P2'."
     assert tom.act(do="release program", name="P1") == ""
     assert program.act(**quote) == ""

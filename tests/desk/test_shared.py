@@ -55,7 +55,7 @@ def test_a_claim(house: House) -> None:
     assert tess.act(do="claim", request=shown) == ""
     until_claimed([tess, tom, lou], shown, "tess")
     assert tom.act(do="claim", request=shown) == "T1 has claimed it."
-    assert lou.act(do="claim", request=shown).startswith("You may look")
+    assert lou.act(do="claim", request=shown).startswith("You may only look")
     assert investor.act(do="claim", request="x") == "An investor's desk does not do this."
     assert tess.act(do="hand over", request=shown, to="tom") == ""
     until_claimed([tess, tom], shown, "tom")
