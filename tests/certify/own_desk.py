@@ -218,6 +218,8 @@ class OwnDesk:
 
     def _does(self, task: Any) -> None:
         act, do = task["act"], task["act"]["do"]
+        if self.view.closed is not None:
+            self._view = View(self.desk)  # a login lasts twelve hours, which a moved clock may pass
         why = ""
         if do == "position":
             self._enter(task["number"], str(self.position(act["bond"])))
