@@ -1,5 +1,6 @@
 pub mod Answers
 pub mod Conditions
+pub mod FourQuotes
 pub mod Notices
 pub mod PriceAlike
 pub mod PricedDays

@@ -219,11 +219,30 @@ cancelled_all = record {
       ∷ line "09:00:30.000" "AI" "131=A|117=Q1|297=17" ∷ [];
 }
 
+-- DLR1 cancels all its quotes, and INV1 hits the one before it is dropped: the drop finds it lifted.
+-- Its report bears the moment of the cancel.
+abbrev pub dropped_too_late : Day
+dropped_too_late = record {
+  config = venue;
+  steps = both_quoted ++ say "DLR1" "T1" "09:00:30" "Z" 2 "298=4"
+      ∷ say "INV1" "T8" "09:01:00" "AJ" 2 "693=h1|117=Q1|694=1" ∷ turn "INV1" 1 ++ turn "DLR1" 2
+      ++ turn "INV1" 3;
+  dlr1 = shown ∷ quoted_first ∷ line "09:00:30.000" "AI" "117=a1|297=5|300=4"
+      ∷ told "09:01:00.000" "693=N1|131=R1|117=a1|694=1|55=[N/A]|48=BONDA0000001|22=4|54=1|38=2000000|133=99.50390625"
+      ∷ [];
+  dlr2 = shown ∷ quoted_second
+      ∷ told "09:01:00.000" "693=N1|131=R1|694=4|55=[N/A]|48=BONDA0000001|22=4|54=1|38=2000000"
+      ∷ [];
+  dlr3 = [];
+  inv1 = taken ∷ offered_first ∷ offered_second
+      ∷ line "09:01:00.000" "AI" "693=h1|131=A|117=Q1|297=0" ∷ [];
+}
+
 -- all of them
 abbrev pub worked_days : List Day
 worked_days =
     auction ∷ tie ∷ done_away ∷ cancelled_too_late ∷ withdrawn_before_the_hit ∷ sweeps
-    ∷ hit_at_the_deadline ∷ used_up ∷ passed ∷ cancelled_all ∷ []
+    ∷ hit_at_the_deadline ∷ used_up ∷ passed ∷ cancelled_all ∷ dropped_too_late ∷ []
 
 -- What is due to DLR1.
 

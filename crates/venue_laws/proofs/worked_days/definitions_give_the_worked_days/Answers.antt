@@ -5,4 +5,4 @@ use Rattle.venue_laws.proofs.worked_days.definitions_give_the_worked_days.Goals 
 
 pub returns : goal.returns
 unfolding computed
-returns c = record { sent = refl; too_late = refl; cancelled_all = refl }
+returns c = record { sent = refl; four_quotes = refl; too_late = refl; cancelled_all = refl }
