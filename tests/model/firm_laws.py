@@ -8,11 +8,11 @@ from __future__ import annotations
 
 from collections import Counter
 from collections.abc import Callable, Iterator
+from typing import TypeGuard
 
 from .configuration import Configuration
 from .days import Day
 from .dealer import COVER
-from .desk import Trade
 from .frames import read_frame, write_frame
 from .watched import AWAITED, Award, Turns, WatchedVenue, played
 
@@ -129,21 +129,33 @@ def is_notice(m: Fields, request: bytes) -> bool:
 
 
 def trades_have_one_name(venue: WatchedVenue, turns: Turns) -> Iterator[str]:
-    """Both sides of a trade have one name for it, and no other trade has it."""
+    """The line of a trade on each side has one name, and no other line has it."""
     if turns is Turns.AS_DRAWN:
         return
-    sides = []
-    for firms in (dealers(venue.configuration), investors(venue.configuration)):
-        names: Counter[bytes] = Counter()
-        for firm in firms:
-            desk = venue.desks[firm]
-            for number, note in enumerate(desk.notes, 1):
-                line = desk.note_line(number)
-                if isinstance(note, Trade) and line is not None:
-                    names[line.split(b" ")[-1]] += 1
-        sides.append(names)
-    if sides[0] != sides[1] or any(count != 1 for count in sides[0].values()):
-        yield "names %r and %r" % (dict(sides[0]), dict(sides[1]))
+    printed = Counter(
+        line.split(b" ")[-1]
+        for desk in venue.desks
+        for number in range(1, len(desk.sent) + 1)
+        if is_trade(line := desk.note_line(number))
+    )
+    for award in venue.awards:
+        answers, notices = told_of_trade(venue, award)
+        names = [name_behind(venue, award.room[0], m) for m in answers]
+        names += [name_behind(venue, award.won.dealer, m) for m in notices]
+        if len(names) != 2 or names[0] != names[1] or printed[names[0]] != 2:
+            yield "names %r of one trade" % names
+    if sum(printed.values()) != 2 * len(venue.awards):
+        yield "%d lines of %d trades" % (sum(printed.values()), len(venue.awards))
+
+
+def is_trade(line: bytes | None) -> TypeGuard[bytes]:
+    return line is not None and line.startswith(b"trade ")
+
+
+def name_behind(venue: WatchedVenue, firm: int, m: Fields) -> bytes:
+    """The name in the line of a trade that stands behind a message, or nothing."""
+    line = venue.desks[firm].note_line(int(m[34]))
+    return line.split(b" ")[-1] if is_trade(line) else b""
 
 
 # ---------------------------------------------------------------- answers
@@ -236,6 +248,15 @@ def quotes_are_shown(venue: WatchedVenue, turns: Turns) -> Iterator[str]:
             yield "297=7 of %r, swept %r" % (expiries, swept)
 
 
+def ended_requests_are_closed(venue: WatchedVenue, turns: Turns) -> Iterator[str]:
+    """A request that is closed at its investor's desk has a room that ended; all done, each such is."""
+    for (investor, n), room in venue.rooms.items():
+        closed = not venue.investor_desk(investor).requests[n - 1].is_open()
+        ended = room.phase == "ended"
+        if closed and not ended or ended and not closed and turns is not Turns.AS_DRAWN:
+            yield "request %d: closed %r, its room ended %r" % (n, closed, ended)
+
+
 def told_of(venue: WatchedVenue, investor: int, request: bytes, dealer: int) -> list[object]:
     """What an investor was told of a dealer on a request, in order."""
     told: list[object] = []
@@ -279,14 +300,16 @@ def nothing_is_overdue(venue: WatchedVenue, _turns: Turns) -> Iterator[str]:
 
 
 def messages_can_be_carried(venue: WatchedVenue, _turns: Turns) -> Iterator[str]:
-    """Each message is a frame of the venue's types, without a bar and what the wire adds, and fits."""
+    """Each message is a frame of its number and a known type, and the wire can carry it."""
     for desk in venue.desks:
-        for message, note in zip(desk.sent, desk.notes, strict=True):
+        for number, (message, note) in enumerate(zip(desk.sent, desk.notes, strict=True), 1):
             frame = write_frame(message)
             if read_frame(frame) != message or b"|" in frame:
                 yield "bytes %r" % frame
             if message[0][1] not in TYPES or [tag for tag, _ in message[:5]] != HEADER:
                 yield "header %r" % frame
+            if message[3][1] != b"%d" % number:
+                yield "number %d in %r" % (number, frame)
             added = ADDED if note is None else (*ADDED, 58, 1003)
             if any(tag in added for tag, _ in message[5:]):
                 yield "a field of the wire in %r" % frame
@@ -301,6 +324,7 @@ LAWS: dict[str, Law] = {
     "only": no_other_dealer_is_shown,
     "named": the_named_are_asked,
     "quotes": quotes_are_shown,
+    "ended": ended_requests_are_closed,
     "messages": messages_are_answered,
     "times": trades_have_a_time,
     "hits": trades_are_of_the_quote_hit,

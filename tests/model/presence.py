@@ -1,7 +1,9 @@
-"""Two live days that differ in what the other dealers do, with the same hits awarded to the same dealers.
+"""Two days that differ in what the other dealers do, and in which quotes hits name.
 
-What was due to one dealer has to be one list in both, and what it was sent the same bytes, except for who was
-the cover (694=4 or 5 of a closing notice). No law says so after a hit; this asks the model.
+Behind each step that both have, the same requests have been awarded to the same dealers. Then what was due to
+one dealer has to be one list in both, and what it was sent the same bytes, except for who was the cover (694=4
+or 5 of a closing notice). A live day does all turns of a step's actor behind the step. Where turns are done as
+they were drawn, the same messages have left a hit, too.
 """
 
 from __future__ import annotations
@@ -15,24 +17,41 @@ from .desk import price_tag
 from .frames import moment_text, read_frame, write_frame
 from .prices import price_text
 from .replay import CLOCK, Item
-from .watched import WatchedVenue, exhaust, steps_of
+from .watched import RoomName, WatchedVenue, exhaust, steps_of
 
 Step = tuple[Any, ...]
 Aim = tuple[int, bytes, int]  # of a hit: the dealer, its QuoteID, and the investor's request
 Pair = tuple[WatchedVenue, WatchedVenue]
+Stand = tuple[tuple[tuple[RoomName, int], ...], dict[int, int]]
 MIDDLE = 25_472  # a price in 256ths, about which the other dealers' lie
 
 
-class Live:
-    """A day that goes on step by step, with all turns of a step's actor behind it."""
+class Run:
+    """A day that goes on step by step: live, or with turns as they were drawn."""
 
-    def __init__(self, configuration: Configuration) -> None:
+    def __init__(self, configuration: Configuration, live: bool) -> None:
         self.venue = WatchedVenue(configuration)
+        self.live = live
+        self.behind: dict[int, Stand] = {}  # where it stood behind each step, by the step's place
 
     def step(self, kind: str, *step: Any) -> None:
         if kind != "turn":
             getattr(self.venue, kind)(*step)
-            exhaust(self.venue, CLOCK if kind == "expire" else step[0])
+            if self.live:
+                exhaust(self.venue, CLOCK if kind == "expire" else step[0])
+        elif not self.live:
+            for _ in range(step[1]):
+                if not self.venue.turn(step[0]):
+                    break
+
+    def note(self, place: int) -> None:
+        """Notes what was awarded to whom, and, unless the day is live, how many hits each investor left."""
+        awards = tuple((award.room, award.word[0]) for award in self.venue.awards)
+        hits = {
+            firm: sum(quote is not None for _, _, quote in responses)
+            for firm, responses in self.venue.responses.items()
+        }
+        self.behind[place] = (awards, {} if self.live else hits)
 
 
 def value(message: list[tuple[int, bytes]], tag: int) -> bytes | None:
@@ -52,24 +71,25 @@ def is_hit(data: bytes) -> bool:
 
 
 def first_day(
-    configuration: Configuration, steps: list[Step]
-) -> tuple[WatchedVenue, list[Aim | None]]:
+    configuration: Configuration, steps: list[Step], live: bool
+) -> tuple[Run, list[Aim | None]]:
     """The day as it was drawn, and at which quote each step aims that is a hit."""
-    live = Live(configuration)
+    run = Run(configuration, live)
     aims: list[Aim | None] = []
-    for kind, *step in steps:
+    for place, (kind, *step) in enumerate(steps):
         aim: Aim | None = None
         if kind == "came" and not configuration.is_dealer(step[0]) and is_hit(step[2]):
-            quote = live.venue.investor_desk(step[0]).quote(
+            quote = run.venue.investor_desk(step[0]).quote(
                 value(read_frame(step[2]) or [], 117) or b""
             )
             if quote is not None and isinstance(quote.word, tuple):
                 dealer, q = quote.word
-                id = live.venue.dealer_desk(dealer).quotes[q - 1].id
+                id = run.venue.dealer_desk(dealer).quotes[q - 1].id
                 aim = (dealer, id, quote.request.n)
         aims.append(aim)
-        live.step(kind, *step)
-    return live.venue, aims
+        run.step(kind, *step)
+        run.note(place)
+    return run, aims
 
 
 def aimed(venue: WatchedVenue, investor: int, data: bytes, aim: Aim) -> bytes:
@@ -112,30 +132,34 @@ def new_quote(draw: Draw, venue: WatchedVenue, firm: int, moment: int) -> bytes 
 
 
 def second_day(
-    draw: Draw, configuration: Configuration, steps: list[Step], aims: list[Aim | None], dealer: int
-) -> WatchedVenue:
+    draw: Draw, first: Run, steps: list[Step], aims: list[Aim | None], dealer: int
+) -> Run:
     """The same steps, but for those of the other dealers: some are left out, and others put in."""
-    live = Live(configuration)
+    configuration = first.venue.configuration
+    run = Run(configuration, first.live)
     left_out, put_in = draw.choice([0, 0.1, 0.3, 0.7]), draw.choice([0.1, 0.4])
     others = [firm for firm in range(len(configuration.dealers)) if firm != dealer]
-    for (kind, *step), aim in zip(steps, aims, strict=True):
-        if kind == "came" and step[0] in others:
+    for place, ((kind, *step), aim) in enumerate(zip(steps, aims, strict=True)):
+        if kind != "expire" and step[0] in others:
             if draw.random() < left_out:
                 continue
-            desk = live.venue.desks[step[0]]
-            step = [step[0], step[1], changed(step[2], 34, b"%d" % desk.inbox.expected)]
+            if kind == "came":
+                desk = run.venue.desks[step[0]]
+                step = [step[0], step[1], changed(step[2], 34, b"%d" % desk.inbox.expected)]
         if aim is not None:
-            step = [step[0], step[1], aimed(live.venue, step[0], step[2], aim)]
+            step = [step[0], step[1], aimed(run.venue, step[0], step[2], aim)]
         if others and kind == "came" and draw.random() < put_in:
             firm = draw.choice(others)
-            quote = new_quote(draw, live.venue, firm, step[1])
+            quote = new_quote(draw, run.venue, firm, step[1])
             if quote is not None:
-                live.step("came", firm, step[1], quote)
-        live.step(kind, *step)
-    return live.venue
+                run.step("came", firm, step[1], quote)
+                run.step("turn", firm, draw.randint(0, 3))
+        run.step(kind, *step)
+        run.note(place)
+    return run
 
 
-def pair_of(seed: int) -> tuple[int, Pair] | None:
+def pair_of(seed: int, live: bool = True) -> tuple[int, Pair] | None:
     """A dealer, and two days in which the same hits are awarded to the same dealers; or none."""
     draw = Draw(seed)
     day = Day(draw, length=draw.choice([40, 80]))
@@ -144,10 +168,11 @@ def pair_of(seed: int) -> tuple[int, Pair] | None:
         return None
     dealer = draw.randrange(len(configuration.dealers))
     steps = steps_of(day)
-    one, aims = first_day(configuration, steps)
-    other = second_day(draw, configuration, steps, aims, dealer)
-    awards = [[(a.room, a.word[0], a.moment) for a in venue.awards] for venue in (one, other)]
-    return (dealer, (one, other)) if awards[0] == awards[1] else None
+    one, aims = first_day(configuration, steps, live)
+    other = second_day(draw, one, steps, aims, dealer)
+    if any(one.behind[place] != stand for place, stand in other.behind.items()):
+        return None
+    return dealer, (one.venue, other.venue)
 
 
 def blurred(due: list[Item]) -> list[Item]:

@@ -11,6 +11,7 @@ from tests.model.wrong_venues import WRONG, planted
 
 MOST_DAYS = 300
 PRESENCE = "full_books_close_later"  # it breaks no law of one day: two have to be compared
+BOTH_WAYS = pytest.mark.parametrize("live", [True, False], ids=["live", "as drawn"])
 
 # Each wrong venue, the law that finds it, and a day on which it did.
 FOUND = [
@@ -20,6 +21,7 @@ FOUND = [
     ("posts_are_not_relayed", "quotes", 0),
     ("sweeps_leave_rooms_open", "overdue", 86),
     ("investors_count_all_trades", "names", 2),
+    ("dealers_count_all_trades", "names", 34),
     ("answers_are_late", "times", 2),
     ("hits_of_a_replaced_quote_take_the_new_one", "hits", 105),
     ("hits_of_no_quote_take_the_last_one", "hits", 28),
@@ -27,8 +29,18 @@ FOUND = [
     ("cancels_of_all_take_one_quote", "messages", 6),
     ("expiries_are_told_twice", "quotes", 0),
     ("declines_are_not_told", "quotes", 2),
+    ("declines_overtake_quotes", "quotes", 179),
+    ("withdrawals_are_not_told", "quotes", 0),
+    ("replaced_quotes_are_not_told", "quotes", 0),
+    ("passes_leave_requests_open", "ended", 6),
+    ("refusals_close_requests", "ended", 0),
     ("requests_reach_dealers_asked_before", "only", 0),
     ("the_first_dealers_are_asked", "named", 0),
+    ("identifiers_may_have_a_bar", "carried", 0),
+    ("rejects_repeat_too_much", "carried", 0),
+    ("rejects_are_heartbeats", "carried", 0),
+    ("refusals_of_rooms_are_noted", "carried", 0),
+    ("numbers_are_those_of_answers", "carried", 0),
 ]
 
 
@@ -48,16 +60,18 @@ def test_wrong_venues_are_found(wrong: str, law: str, first: int) -> None:
 
 
 @pytest.mark.draws(short=40, long=1000)
-def test_presence_is_not_told(drawn: int) -> None:
+@BOTH_WAYS
+def test_presence_is_not_told(drawn: int, live: bool) -> None:
     """What the other dealers do, with the same hits awarded, tells a dealer nothing but the cover."""
-    found = pair_of(drawn)
+    found = pair_of(drawn, live)
     if found is not None:
         assert told_apart(*found) is None
 
 
-def test_drawn_days_make_pairs() -> None:
+@BOTH_WAYS
+def test_drawn_days_make_pairs(live: bool) -> None:
     """Or the test above would look at nothing."""
-    found = [pair_of(seed) for seed in range(20)]
+    found = [pair_of(seed, live) for seed in range(20)]
     assert any(pair is not None and pair[1][0].awards for pair in found)
 
 

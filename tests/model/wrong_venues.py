@@ -5,12 +5,12 @@ They keep the laws of isolation and of a trade's two sides, but each tells a fir
 
 from __future__ import annotations
 
-from collections.abc import Callable, Iterator
+from collections.abc import Callable, Iterator, Sequence
 from contextlib import contextmanager
 from typing import Any
 
 from .dealer import COVER, DONE_AWAY, HIT, DealerDesk
-from .desk import Ask, Desk, Duty, Trade
+from .desk import Ask, Desk, Duty, Reason, Trade
 from .investor import InvestorDesk
 from .replay import Actor, Venue
 from .room import Posted, Room
@@ -18,6 +18,8 @@ from .session import Message
 from .watched import RoomName, WatchedVenue
 
 Planted = tuple[type, str, Callable[..., Any]]
+Values = Sequence[tuple[int, bytes | None]]
+Note = Reason | Trade | None
 
 
 def drops_say_withdrawn() -> Planted:
@@ -78,18 +80,24 @@ def sweeps_leave_rooms_open() -> Planted:
     return Room, "expire", expire
 
 
+def count_of_all_trades(desk: Desk, number: int) -> bytes | None:
+    """A line whose count of trades runs over all firms."""
+    note = desk.notes[number - 1]
+    if not isinstance(note, Trade):
+        return None
+    k = sum(isinstance(other, Trade) for other in desk.notes[:number])
+    name = b"-".join([desk.date, *desk.sides(note.other), b"%d" % k])
+    return b"trade %s %d %s" % (desk.row.name, number, name)
+
+
 def investors_count_all_trades() -> Planted:
     """An investor's count in a trade's name runs over all dealers."""
+    return InvestorDesk, "note_line", count_of_all_trades
 
-    def note_line(desk: Desk, number: int) -> bytes | None:
-        note = desk.notes[number - 1]
-        if not isinstance(note, Trade):
-            return None
-        k = sum(isinstance(other, Trade) for other in desk.notes[:number])
-        name = b"-".join([desk.date, *desk.sides(note.other), b"%d" % k])
-        return b"trade %s %d %s" % (desk.row.name, number, name)
 
-    return InvestorDesk, "note_line", note_line
+def dealers_count_all_trades() -> Planted:
+    """A dealer's count in a trade's name runs over all investors."""
+    return DealerDesk, "note_line", count_of_all_trades
 
 
 def answers_are_late() -> Planted:
@@ -188,6 +196,69 @@ def declines_are_not_told() -> Planted:
     return Venue, "do_decline", do_decline
 
 
+def passes_leave_requests_open() -> Planted:
+    """A pass ends its room, and the request stays open at its investor's desk."""
+    right = InvestorDesk.answered
+
+    def answered(
+        desk: InvestorDesk, n: int, response: tuple[bytes, int | None], reply: str, moment: int
+    ) -> None:
+        before = desk.requests[n - 1].closed
+        right(desk, n, response, reply, moment)
+        if reply == "Passed":
+            desk.requests[n - 1].closed = before
+
+    return InvestorDesk, "answered", answered
+
+
+def refusals_close_requests() -> Planted:
+    """A hit that is refused closes its request, and the room goes on."""
+    right = InvestorDesk.answered
+
+    def answered(
+        desk: InvestorDesk, n: int, response: tuple[bytes, int | None], reply: str, moment: int
+    ) -> None:
+        right(desk, n, response, reply, moment)
+        desk.close(desk.requests[n - 1], reply)
+
+    return InvestorDesk, "answered", answered
+
+
+def declines_overtake_quotes() -> Planted:
+    """A decline is told at once, before a quote of its dealer that is still to be relayed."""
+
+    def do_decline(venue: Venue, dealer: int, room: RoomName, moment: int) -> list[Duty]:
+        if venue.room(room).takes():
+            venue.do_declined(dealer, room, moment)
+        return []
+
+    return Venue, "do_decline", do_decline
+
+
+def withdrawals_are_not_told() -> Planted:
+    """A quote is taken out of its room, and its investor is not told."""
+    right = Venue.do_unpost
+
+    def do_unpost(venue: Venue, *unpost: Any) -> list[Duty]:
+        right(venue, *unpost)
+        return []
+
+    return Venue, "do_unpost", do_unpost
+
+
+def replaced_quotes_are_not_told() -> Planted:
+    """A quote that its dealer replaced is not reported gone before the new one is shown."""
+    right = InvestorDesk.quote_came
+
+    def quote_came(desk: InvestorDesk, n: int, dealer: bytes, *quote: Any) -> None:
+        request = desk.requests[n - 1]
+        for old in desk.standing(request) if request.is_open() else []:
+            old.gone = old.gone or old.dealer == dealer
+        right(desk, n, dealer, *quote)
+
+    return InvestorDesk, "quote_came", quote_came
+
+
 def requests_reach_dealers_asked_before() -> Planted:
     """A request is also shown to the dealers whom its investor asked before."""
     right = Venue.do_open
@@ -221,6 +292,66 @@ def the_first_dealers_are_asked() -> Planted:
     return InvestorDesk, "take_request", take_request
 
 
+def sending(
+    changed: Callable[[bytes, Values, Note], tuple[bytes, Values, Note]],
+) -> Planted:
+    """A desk that sends its messages, and notes them, as they are changed."""
+    right = Desk.send
+
+    def send(desk: Desk, moment: int, kind: bytes, fields: Values, note: Note = None) -> None:
+        right(desk, moment, *changed(kind, fields, note))
+
+    return Desk, "send", send
+
+
+def identifiers_may_have_a_bar() -> Planted:
+    """What a firm wrote behind a bar in an identifier comes back with it."""
+
+    def changed(kind: bytes, fields: Values, note: Note) -> tuple[bytes, Values, Note]:
+        return kind, [(tag, v and v + b"|6=9" * (tag == 131)) for tag, v in fields], note
+
+    return sending(changed)
+
+
+def rejects_repeat_too_much() -> Planted:
+    """A Reject is longer than the wire can carry with the session's fields and what is told."""
+
+    def changed(kind: bytes, fields: Values, note: Note) -> tuple[bytes, Values, Note]:
+        return kind, [*fields, *[(354, b"x" * 3_600)] * (kind == b"3")], note
+
+    return sending(changed)
+
+
+def rejects_are_heartbeats() -> Planted:
+    """A message that is not taken is answered by a 35=0, which a gap fill may cover."""
+
+    def changed(kind: bytes, fields: Values, note: Note) -> tuple[bytes, Values, Note]:
+        return b"0" if kind == b"3" else kind, fields, note
+
+    return sending(changed)
+
+
+def refusals_of_rooms_are_noted() -> Planted:
+    """Beside a room's refusal, which has a 58 of its own, another one is noted."""
+
+    def changed(kind: bytes, fields: Values, note: Note) -> tuple[bytes, Values, Note]:
+        return kind, fields, Reason("Gone") if any(tag == 58 for tag, _ in fields) else note
+
+    return sending(changed)
+
+
+def numbers_are_those_of_answers() -> Planted:
+    """A message that answers none of the firm's bears the number of the one before it."""
+    right = Desk.send
+
+    def send(desk: Desk, moment: int, kind: bytes, fields: Values, note: Note = None) -> None:
+        right(desk, moment, kind, fields, note)
+        if kind in (b"R", b"S"):
+            desk.sent[-1][3] = (34, b"%d" % (len(desk.sent) - 1))
+
+    return Desk, "send", send
+
+
 WRONG: dict[str, Callable[[], Planted]] = {
     make.__name__: make
     for make in (
@@ -230,6 +361,7 @@ WRONG: dict[str, Callable[[], Planted]] = {
         posts_are_not_relayed,
         sweeps_leave_rooms_open,
         investors_count_all_trades,
+        dealers_count_all_trades,
         answers_are_late,
         full_books_close_later,
         hits_of_a_replaced_quote_take_the_new_one,
@@ -238,8 +370,18 @@ WRONG: dict[str, Callable[[], Planted]] = {
         cancels_of_all_take_one_quote,
         expiries_are_told_twice,
         declines_are_not_told,
+        passes_leave_requests_open,
+        refusals_close_requests,
+        declines_overtake_quotes,
+        withdrawals_are_not_told,
+        replaced_quotes_are_not_told,
         requests_reach_dealers_asked_before,
         the_first_dealers_are_asked,
+        identifiers_may_have_a_bar,
+        rejects_repeat_too_much,
+        rejects_are_heartbeats,
+        refusals_of_rooms_are_noted,
+        numbers_are_those_of_answers,
     )
 }
 
