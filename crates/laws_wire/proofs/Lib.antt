@@ -1,1 +1,16 @@
+mod ActionTexts
+mod ArrivalTexts
+mod BarLemmas
+mod CarriedBack
+mod DayTexts
+mod DealerSaid
+mod DealerTexts
+mod DutyTexts
+mod FieldValues
+mod InvestorSaid
+mod InvestorTexts
+mod MessageCounts
+mod MessageFields
 mod MessageLemmas
+mod SaidMessages
+mod WrittenFrames

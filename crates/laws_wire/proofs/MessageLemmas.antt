@@ -256,7 +256,7 @@ sent_written config steps firm bytes sent =
 
 -- Types.
 
-type_known : (message : OutMessage) → In (msg_type_of message) venue_types
+pub type_known : (message : OutMessage) → In (msg_type_of message) venue_types
 type_known (out.Reject reject) = inl refl
 type_known (out.Request request) = inr (inl refl)
 type_known (out.ShownQuote quote) = inr (inr (inl refl))

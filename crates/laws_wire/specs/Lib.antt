@@ -1,1 +1,2 @@
+pub mod Carriable
 pub mod VenueMessages

@@ -1,0 +1,308 @@
+-- Every duty, message and sweep, line by line of the market's table: what it adds for a dealer and
+-- what it leaves may be said.
+use Rattle.std.proofs.Common.{◌≡◌, ℕ, ◌<◌, Bool, true, false, ◌&&◌, List, [], ◌++◌, map}
+use Rattle.std.proofs.Common.{Option, Some, None, option_map, option_to_list, Result, Ok, Err, refl}
+use Rattle.std.proofs.Common.{if◌then◌else◌, is_some}
+use Rattle.fix_fields.specs.declared.limits.TheConstants.{A_DAY}
+use Rattle.market_terms.specs.declared.closes.Close.{Close}
+use Rattle.market_terms.specs.declared.closes.HitRefusal.{HitRefusal}
+use Rattle.market_terms.specs.declared.duties.Duty.{Duty}
+use Rattle.market_terms.specs.declared.duties.Duty.TheVariants as duty
+use Rattle.market_terms.specs.declared.rooms.ResponseRef.{ResponseRef}
+use Rattle.market_terms.specs.declared.rooms.RoomRef.{RoomRef}
+use Rattle.quote_word.specs.declared.settled.Settled.{Settled}
+use Rattle.venue_rows.specs.Rows.{Configuration, dealer_numbered, has_room, investor_numbered}
+use Rattle.venue_rows.specs.declared.dealer_rows.DealerRow.{DealerRow}
+use Rattle.venue_rows.specs.declared.investor_rows.InvestorRow.{InvestorRow}
+use Rattle.dealer_desk.specs.DealerFacts.{quote_to_drop}
+use Rattle.dealer_desk.specs.DealerOutput.{event_facts, further_drop}
+use Rattle.dealer_desk.specs.DealerOutput.{shown_room}
+use Rattle.dealer_desk.specs.DealerOutput.{unpost_dropped}
+use Rattle.dealer_desk.specs.declared.events.DealerEvent.{DealerEvent}
+use Rattle.dealer_desk.specs.declared.events.DealerEvent.TheVariants as at_desk
+use Rattle.investor_desk.specs.InvestorDesk.{market_for, market_of}
+use Rattle.investor_desk.specs.InvestorRules.{InvestorMarket, investor_verdict}
+use Rattle.investor_desk.specs.declared.events.InvestorEvent.{InvestorEvent}
+use Rattle.investor_desk.specs.declared.events.InvestorEvent.TheVariants as at_investor
+use Rattle.request_room.specs.Book as room
+use Rattle.request_room.specs.Book.{hit_outcome}
+use Rattle.request_room.specs.RoomFacts.{RoomFact}
+use Rattle.request_room.specs.declared.ends.End.{End}
+use Rattle.request_room.specs.declared.events.RoomEvent.{RoomEvent}
+use Rattle.request_room.specs.declared.events.RoomEvent.TheVariants as at_room
+use Rattle.venue_places.specs.Dealers.{Dealer, QuoteRef, acting_dealer, dealer_at, dealer_of}
+use Rattle.venue_places.specs.Dealers.{offer_of, quote_with_word, word_for}
+use Rattle.venue_places.specs.declared.actors.Actor.{Actor}
+use Rattle.venue_places.specs.declared.actors.Actor.TheVariants as actor
+use Rattle.venue_steps.specs.InvestorSteps.{replies_to}
+use Rattle.venue_steps.specs.RoomSteps.{duties_of_decline}
+use Rattle.venue_steps.specs.RoomSteps.{duties_of_post, duties_of_unpost}
+use Rattle.step_replay.specs.Actions.{Effect, answer_to_drop, answered_by, at_dealer, at_market}
+use Rattle.step_replay.specs.Actions.{declined_by, done_by, done_for, drop_at, dropped_by}
+use Rattle.step_replay.specs.Actions.{hit_with, in_room, left_by, left_by_drop, left_by_investor}
+use Rattle.step_replay.specs.Actions.{lifting, nothing, posted_by, received_by_dealer}
+use Rattle.step_replay.specs.Actions.{received_by_investor, settlement_of, shown_to, told_of}
+use Rattle.step_replay.specs.Actions.{told_to}
+use Rattle.step_replay.specs.Actions.{unposted_by, verdict_on, where_known}
+use Rattle.step_replay.specs.DealerTrail as dealer_trail
+use Rattle.step_replay.specs.DealerTrail.{book_by, entries_of, rooms_by}
+use Rattle.step_replay.specs.DutyEffects.{duty_effect, message_effect, sweep_effect}
+use Rattle.step_replay.specs.EachLemmas.{Every, every_both}
+use Rattle.step_replay.specs.InvestorTrail as investor_trail
+use Rattle.step_replay.specs.VenueFacts.{AtDealer, AtInvestor, Fact, InRoom, of_dealer}
+use Rattle.step_replay.specs.VenueFacts.{of_investor, of_room}
+use Rattle.laws_wire.proofs.DealerTexts as dealer
+use Rattle.laws_wire.proofs.DealerTexts.{event_adds}
+use Rattle.laws_wire.proofs.FieldValues.{IsGiven}
+use Rattle.laws_wire.proofs.InvestorTexts as investor
+use Rattle.laws_wire.proofs.DutyTexts.{AreNamed, DutyGiven, EffectGiven, EntryGiven, FactGiven}
+use Rattle.laws_wire.proofs.DutyTexts.{dealer_leaves}
+use Rattle.laws_wire.proofs.DutyTexts.{drops_on, each_made, each_mapped, expires, follows, hits}
+use Rattle.laws_wire.proofs.DutyTexts.{investor_leaves, opens, passes, unposts}
+
+module _ (D : ℕ → Type 0) (of_day : (n : ℕ) → n < A_DAY → D n) (config : Configuration)
+    (named : AreNamed config) (facts : List Fact) where
+  -- Effects.
+
+  nothing_given : EffectGiven D nothing
+  nothing_given = record { facts = tt; duties = tt }
+
+  when : (b : Bool) (effect : Effect) → EffectGiven D effect
+      → EffectGiven D (if b then effect else nothing)
+  when true effect given = given
+  when false effect given = nothing_given
+
+  unless : (b : Bool) (effect : Effect) → EffectGiven D effect
+      → EffectGiven D (if b then nothing else effect)
+  unless true effect given = nothing_given
+  unless false effect given = given
+
+  rooms : (at : RoomRef) (added : List RoomFact) → Every (FactGiven D) (map (InRoom at) added)
+  rooms at added = each_made (FactGiven D) (InRoom at) (λ fact. tt) added
+
+  in_a_room : (at : RoomRef) (may : Bool) (event : RoomEvent) (duties : List Duty)
+      → Every (DutyGiven D) duties → EffectGiven D (in_room config facts at may event duties)
+  in_a_room at may event duties given =
+      when (has_room config at.investor at.n && may)
+      (record {
+        facts = map (InRoom at) (room.event_facts (of_room at facts) event);
+        duties = duties;
+      })
+      (record { facts = rooms at (room.event_facts (of_room at facts) event); duties = given })
+
+  market_given : (market : InvestorMarket) (event : InvestorEvent) (duties : List Duty)
+      → Every (DutyGiven D) duties → EffectGiven D (at_market facts market event duties)
+  market_given market event duties given = record {
+    facts = each_made (FactGiven D) (AtInvestor market.firm) (λ entry. tt) _;
+    duties = given;
+  }
+
+  known : (request : ℕ) (quote : Option ℕ) (event : InvestorEvent) (market : InvestorMarket)
+      → EffectGiven D (where_known facts request quote event market)
+  known request quote event market =
+      when _ (at_market facts market event []) (market_given market event [] tt)
+
+  invested : (number : ℕ) (action : InvestorMarket → Effect)
+      → ((row : InvestorRow) → investor_numbered config number ≡ Some row
+      → EffectGiven D (action (market_of config number row)))
+      → EffectGiven D (done_for (market_for config number) action)
+  invested number action each = by_row (investor_numbered config number) refl
+    where
+      by_row : (found : Option InvestorRow) → investor_numbered config number ≡ found
+          → EffectGiven D (done_for (option_map (market_of config number) found) action)
+      by_row None is = nothing_given
+      by_row (Some row) is = each row is
+
+  numbered : (number : ℕ) (action : Dealer → Effect)
+      → ((row : DealerRow) → dealer_numbered config number ≡ Some row
+      → EffectGiven D (action (dealer_of number row)))
+      → EffectGiven D (done_by (dealer_at config number) action)
+  numbered number action each = by_row (dealer_numbered config number) refl
+    where
+      by_row : (found : Option DealerRow) → dealer_numbered config number ≡ found
+          → EffectGiven D (done_by (option_map (dealer_of number) found) action)
+      by_row None is = nothing_given
+      by_row (Some row) is = each row is
+
+  acting : (by : Actor) (action : Dealer → Effect)
+      → ((number : ℕ) (row : DealerRow) → dealer_numbered config number ≡ Some row
+      → EffectGiven D (action (dealer_of number row)))
+      → EffectGiven D (done_by (acting_dealer config by) action)
+  acting (actor.Firm number) action each = numbered number action (each number)
+  acting actor.Clock action each = nothing_given
+
+  desk_given : (number : ℕ) (row : DealerRow) (event : DealerEvent) (duties : List Duty)
+      → dealer.EventGiven D event → Every (DutyGiven D) duties
+      → EffectGiven D (at_dealer config facts (dealer_of number row) event duties)
+  unfolding entries_of
+  desk_given number row event duties given left =
+      let trail = of_dealer number facts in
+      let happened = event_facts config.date row (book_by trail) event in
+      let shown = option_to_list (shown_room event) in
+      let sent = option_to_list (dealer_trail.message_by config.date row trail event) in
+      record {
+        facts = each_mapped (FactGiven D) (AtDealer number)
+            (map dealer_trail.AtDesk happened ++ map dealer_trail.ShownIn shown
+            ++ map dealer_trail.Sent sent)
+            (every_both (EntryGiven D) (map dealer_trail.AtDesk happened
+            ++ map dealer_trail.ShownIn shown)
+            (map dealer_trail.Sent sent)
+            (every_both (EntryGiven D) (map dealer_trail.AtDesk happened)
+            (map dealer_trail.ShownIn shown)
+            (each_mapped (EntryGiven D) dealer_trail.AtDesk happened
+            (event_adds D of_day config.date row (book_by trail) event given))
+            (each_made (EntryGiven D) dealer_trail.ShownIn (λ at. tt) shown))
+            (each_made (EntryGiven D) dealer_trail.Sent (λ bytes. tt) sent));
+        duties = left;
+      }
+
+  -- At a dealer.
+
+  tells_of : (number : ℕ) (row : DealerRow) (close : Close) (moment : ℕ) → D moment
+      → (request : Option ℕ)
+      → EffectGiven D (told_of config facts (dealer_of number row) close moment request)
+  tells_of number row close moment day None = nothing_given
+  tells_of number row close moment day (Some request) =
+      when _ (at_dealer config facts (dealer_of number row) (at_desk.Told request close moment) [])
+      (desk_given number row (at_desk.Told request close moment) [] day tt)
+
+  drops : (last moment number : ℕ) (row : DealerRow) → D moment
+      → EffectGiven D (dropped_by config facts last moment (dealer_of number row))
+  drops last moment number row day =
+      let own = of_dealer number facts in
+      when _ (at_dealer config facts (dealer_of number row) (drop_at own last moment)
+      (left_by_drop config facts last moment (dealer_of number row)))
+      (desk_given number row (drop_at own last moment)
+      (left_by_drop config facts last moment (dealer_of number row)) day
+      (every_both (DutyGiven D)
+      (option_to_list (unpost_dropped (rooms_by own) moment (answer_to_drop own last)
+      (quote_to_drop (book_by own) last)))
+      (option_to_list (further_drop
+      (book_by (own ++ entries_of config.date row own (drop_at own last moment))) last moment))
+      (unposts D (rooms_by own) moment (answer_to_drop own last) (quote_to_drop (book_by own) last)
+      day)
+      (drops_on D _ last moment day)))
+
+  -- A hit.
+
+  lifted : (found : Option QuoteRef) (outcome : Result End HitRefusal)
+      → Every (FactGiven D) (lifting found outcome)
+  lifted None outcome = tt
+  lifted (Some hit) (Ok award) = (tt, tt)
+  lifted (Some hit) (Err reason) = tt
+
+  hits_with : (at : RoomRef) (response : ResponseRef) (word moment : ℕ)
+      (settlement : Option Settled) → IsGiven response.id → D moment
+      → EffectGiven D (hit_with config facts at response word moment settlement)
+  hits_with at response word moment settlement given day =
+      let before = of_room at facts in
+      let outcome = hit_outcome before word moment settlement in
+      let happened = room.event_facts before (at_room.Hit word moment settlement) in
+      record {
+        facts = every_both (FactGiven D) (lifting (quote_with_word config word) outcome)
+            (map (InRoom at) happened) (lifted (quote_with_word config word) outcome)
+            (rooms at happened);
+        duties = hits D before at response moment outcome given day;
+      }
+
+  -- All duties, line by line.
+
+  pub duty_given : (by : Actor) (left : Duty) → DutyGiven D left
+      → EffectGiven D (duty_effect config facts by left)
+  unfolding duty_effect
+  duty_given by (duty.Open at ask dealers moment) given =
+      in_a_room at true _ _ (opens D (of_room at facts) at ask dealers moment given.0 given.1)
+  duty_given by (duty.Show dealer at ask moment) given =
+      numbered dealer (shown_to config facts at ask moment)
+      (λ row is. unless _
+      (at_dealer config facts (dealer_of dealer row) (at_desk.Shown at ask moment) [])
+      (desk_given dealer row (at_desk.Shown at ask moment) [] given tt))
+  duty_given by (duty.Ready at moment) given = in_a_room at true _ [] tt
+  duty_given by (duty.Post at quote price valid_until moment) given =
+      acting by (posted_by config facts at quote price valid_until moment)
+      (λ number row is.
+      let offer = offer_of config (dealer_of number row) quote price valid_until in
+      in_a_room at _ _ (duties_of_post (of_room at facts) at number offer moment)
+      (follows D _ (duty.Relay at offer moment) ((named.dealers number row is, given.0), given.1)))
+  duty_given by (duty.Relay at offer moment) given =
+      invested at.investor _ (λ row is. known at.n None _ (market_of config at.investor row))
+  duty_given by (duty.Unpost at quote moment) given =
+      acting by (unposted_by config facts at quote moment)
+      (λ number row is.
+      let word = word_for config (dealer_of number row) quote in
+      in_a_room at _ _ (duties_of_unpost (of_room at facts) at number word moment)
+      (follows D _ (duty.Gone at word moment) given))
+  duty_given by (duty.Gone at word moment) given =
+      invested at.investor _ (λ row is. known at.n None _ (market_of config at.investor row))
+  duty_given by (duty.Decline at moment) given =
+      acting by (declined_by config facts at moment)
+      (λ number row is. in_a_room at _ _ (duties_of_decline (of_room at facts) at number moment)
+      (follows D _ (duty.Declined at moment) given))
+  duty_given by (duty.Declined at moment) given =
+      acting by _ (λ number row is.
+      invested at.investor _ (λ buyer there. known at.n None _
+      (market_of config at.investor buyer)))
+  duty_given by (duty.Hit at response word moment) given =
+      when _ _ (hits_with at response word moment _ given.0 given.1)
+  duty_given by (duty.Pass at response moment) given =
+      in_a_room at true _ _ (passes D (of_room at facts) at response moment given.0 given.1)
+  duty_given by (duty.Answer at response reply moment) given =
+      invested at.investor (answered_by facts at response reply moment)
+      (λ row is. when (replies_to response.k reply) _
+      (known at.n response.k _ (market_of config at.investor row)))
+  duty_given by (duty.Close at moment) given =
+      invested at.investor _ (λ row is. known at.n None _ (market_of config at.investor row))
+  duty_given by (duty.Tell dealer at close moment) given =
+      numbered dealer (told_to config facts at close moment)
+      (λ row is. tells_of dealer row close moment given _)
+  duty_given by (duty.Drop last moment) given =
+      acting by (dropped_by config facts last moment)
+      (λ number row is. drops last moment number row given)
+
+  pub sweep_given : (at : RoomRef) (moment : ℕ) → D moment
+      → EffectGiven D (sweep_effect config facts at moment)
+  unfolding sweep_effect
+  sweep_given at moment day =
+      in_a_room at true _ _ (expires D (of_room at facts) at moment day)
+
+  -- A message.
+
+  dealer_says : (moment : ℕ) (bytes : List ℕ) (number : ℕ) (row : DealerRow) → D moment
+      → EffectGiven D (received_by_dealer config facts moment bytes (dealer_of number row))
+  dealer_says moment bytes number row day =
+      let own = of_dealer number facts in
+      let v = verdict_on config facts moment bytes (dealer_of number row) in
+      let settlement = settlement_of own v in
+      when _ (at_dealer config facts (dealer_of number row)
+      (at_desk.Received moment bytes settlement) (left_by own moment v))
+      (desk_given number row (at_desk.Received moment bytes settlement) (left_by own moment v) day
+      (dealer_leaves D (rooms_by own) moment v settlement
+      (dealer.verdict_given D of_day config.date row (book_by own) moment bytes day) day))
+
+  investor_says : (moment : ℕ) (bytes : List ℕ) (number : ℕ) (row : InvestorRow)
+      → investor_numbered config number ≡ Some row → D moment
+      → EffectGiven D (received_by_investor facts moment bytes (market_of config number row))
+  investor_says moment bytes number row is day =
+      let market = market_of config number row in
+      let book = investor_trail.book_by (of_investor number facts) in
+      market_given market (at_investor.Received moment bytes)
+      (left_by_investor facts moment bytes market)
+      (investor_leaves D market moment (investor_verdict market book moment bytes)
+      (investor.verdict_given D of_day market (named.investors number row is) book moment bytes)
+      day)
+
+  pub message_given : (firm moment : ℕ) (bytes : List ℕ) → D moment
+      → EffectGiven D (message_effect config facts firm moment bytes)
+  unfolding message_effect
+  message_given firm moment bytes day = by_role (is_some (dealer_numbered config firm))
+    where
+      by_role : (b : Bool) → EffectGiven D
+          (if b
+          then done_by (dealer_at config firm) (received_by_dealer config facts moment bytes)
+          else done_for (market_for config firm) (received_by_investor facts moment bytes))
+      by_role true =
+          numbered firm (received_by_dealer config facts moment bytes)
+          (λ row is. dealer_says moment bytes firm row day)
+      by_role false =
+          invested firm (received_by_investor facts moment bytes)
+          (λ row is. investor_says moment bytes firm row is day)

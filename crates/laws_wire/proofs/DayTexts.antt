@@ -1,0 +1,372 @@
+-- On a day of a configuration that keeps its limits, what was due to each firm may be said.
+use Rattle.std.proofs.Common.{◌≡◌, ℕ, ◌-◌, ◌<◌, ◌==◌, zero, suc, Bool, true, false, not, List, []}
+use Rattle.std.proofs.Common.{◌∷◌, ◌++◌, count_by, drop, filter_map, fold, length, map}
+use Rattle.std.proofs.Common.{Option, Some, None, option_to_list, refl, sym, subst, ◌∙◌}
+use Rattle.std.proofs.Common.{if◌then◌else◌, IsTrue, is_some}
+use Rattle.std.specs.List.{AllByRecursion}
+use Rattle.std.specs.Prelude.{slice_get}
+use Rattle.std.proofs.lemmas.Bool.{and_parts, cond_both}
+use Rattle.std.proofs.lemmas.List.Elements.{recursion_from_All}
+use Rattle.std.proofs.lemmas.Option.{same_Some}
+use Rattle.fix_fields.specs.declared.limits.TheConstants.{A_DAY}
+use Rattle.market_terms.specs.declared.duties.Duty.{Duty}
+use Rattle.market_terms.specs.declared.duties.Duty.TheVariants as duty
+use Rattle.market_terms.specs.declared.rooms.RoomRef.{RoomRef}
+use Rattle.venue_rows.specs.Rows.{Configuration, KeepsLimits, dealer_numbered, firm_names}
+use Rattle.venue_rows.specs.Rows.{has_room, investor_numbered}
+use Rattle.venue_rows.specs.Texts.{is_among, is_firm_name, is_name, reserved_names}
+use Rattle.venue_rows.specs.declared.dealer_rows.DealerRow.{DealerRow}
+use Rattle.venue_rows.specs.declared.investor_rows.InvestorRow.{InvestorRow}
+use Rattle.dealer_desk.specs.DealerFacts.{Came, Declined, Dropped, Late, Quoted, Shown, Told}
+use Rattle.dealer_desk.specs.DealerFacts.{Withdrawn}
+use Rattle.investor_desk.specs.InvestorDesk.{DeskEvents, book_at, market_for, no_events}
+use Rattle.investor_desk.specs.InvestorRules.{InvestorMarket}
+use Rattle.investor_views.specs.Comings.{Coming, For, Own, after_coming, at_desk_of, comes_by}
+use Rattle.investor_views.specs.Comings.{comes_by_turn, comings, comings_from}
+use Rattle.investor_views.specs.InvestorDues.{due_by, due_to_investor, dues_from, dues_where}
+use Rattle.venue_places.specs.Dealers.{Dealer, dealer_of, has_word_for, offer_of, word_for}
+use Rattle.venue_places.specs.Placed as place
+use Rattle.venue_places.specs.Placed.{placed}
+use Rattle.venue_places.specs.declared.actors.Actor.{Actor}
+use Rattle.venue_places.specs.declared.actors.Actor.TheVariants as actor
+use Rattle.venue_places.specs.declared.arrivals.ForInvestor.{ForInvestor}
+use Rattle.venue_places.specs.declared.arrivals.ForRoom.{ForRoom}
+use Rattle.venue_places.specs.declared.arrivals.ForRoom.TheVariants as to_room
+use Rattle.venue_places.specs.declared.arrivals.ForInvestor.TheVariants as to_investor
+use Rattle.venue_places.specs.declared.arrivals.Placement.{Placement}
+use Rattle.venue_places.specs.declared.arrivals.Placement.TheVariants as arrival
+use Rattle.step_replay.specs.Actions.{Effect}
+use Rattle.step_replay.specs.AuditTrail.{AuditTrail, Caused, after_step, after_turn, audit_trail}
+use Rattle.step_replay.specs.AuditTrail.{due_to, duty_of, is_same_actor, no_steps, pending}
+use Rattle.step_replay.specs.DealerTrail as dealer_trail
+use Rattle.step_replay.specs.DealerTrail.{DealerEntry}
+use Rattle.step_replay.specs.DueList.{due_list}
+use Rattle.step_replay.specs.DutyEffects.{duty_effect, message_effect, sweep_effect}
+use Rattle.step_replay.specs.EachLemmas.{Every, every_both}
+use Rattle.step_replay.specs.PlaceLemmas.{behind_dealers, numbered_at}
+use Rattle.step_replay.specs.VenueFacts.{AtDealer, AtInvestor, Fact, InRoom, of_dealer}
+use Rattle.step_replay.specs.declared.steps.Step.{Step}
+use Rattle.step_replay.specs.declared.steps.Step.TheVariants as step
+use Rattle.laws_wire.proofs.ActionTexts.{duty_given, message_given, sweep_given}
+use Rattle.laws_wire.proofs.DealerSaid as dealer
+use Rattle.laws_wire.proofs.DutyTexts.{AreNamed, DutyGiven, EffectGiven, EntryGiven, FactGiven}
+use Rattle.laws_wire.proofs.DutyTexts.{each_mapped}
+use Rattle.laws_wire.proofs.FieldValues.{IsGiven, name_given}
+use Rattle.laws_wire.proofs.InvestorSaid as investor
+use Rattle.laws_wire.proofs.InvestorSaid.{BroughtGiven, ComingGiven}
+
+-- Names.
+
+abbrev Named : List ℕ → Type 0
+Named name = IsTrue (is_firm_name name)
+
+firm_given : (name : List ℕ) → Named name → IsGiven name
+firm_given name is =
+    name_given name (and_parts (not (is_among reserved_names name)) (is_name name) is).1
+
+dealer_there : (rows : List DealerRow) (others : List (List ℕ)) (at : ℕ) (row : DealerRow)
+    → slice_get rows at ≡ Some row
+    → AllByRecursion Named (map (λ (r : DealerRow). r.name) rows ++ others) → Named row.name
+dealer_there [] others at row is each = cc
+dealer_there (first ∷ rows) others zero row is each =
+    subst (λ (r : DealerRow). Named r.name) (same_Some first row is) each.0
+dealer_there (first ∷ rows) others (suc at) row is each = dealer_there rows others at row is each.1
+
+behind : (xs ys : List (List ℕ)) → AllByRecursion Named (xs ++ ys) → AllByRecursion Named ys
+behind [] ys each = each
+behind (x ∷ xs) ys each = behind xs ys each.1
+
+investor_there : (rows : List InvestorRow) (at : ℕ) (row : InvestorRow)
+    → slice_get rows at ≡ Some row
+    → AllByRecursion Named (map (λ (r : InvestorRow). r.name) rows) → Named row.name
+investor_there [] at row is each = cc
+investor_there (first ∷ rows) zero row is each =
+    subst (λ (r : InvestorRow). Named r.name) (same_Some first row is) each.0
+investor_there (first ∷ rows) (suc at) row is each = investor_there rows at row is each.1
+
+pub limits_name : (config : Configuration) → KeepsLimits config → AreNamed config
+limits_name config limits =
+    let each = recursion_from_All Named (firm_names config) limits.firms_named in
+    let others = map (λ (r : InvestorRow). r.name) config.investors in
+    record {
+      dealers = λ number row is. firm_given row.name
+          (dealer_there config.dealers others number row is each);
+      investors = λ number row is.
+          let at : slice_get config.investors (number - length config.dealers) ≡ Some row =
+          sym (numbered_at config number (behind_dealers config number row is)) ∙ is in
+          firm_given row.name
+          (investor_there config.investors (number - length config.dealers) row at
+          (behind (map (λ (r : DealerRow). r.name) config.dealers) others each));
+    }
+
+-- Lists.
+
+dropped : {A : Type 0} (P : A → Type 0) (n : ℕ) (xs : List A) → Every P xs → Every P (drop n xs)
+dropped P zero xs all = all
+dropped P (suc n) [] all = tt
+dropped P (suc n) (x ∷ xs) all = dropped P n xs all.1
+
+found : {A B : Type 0} (P : A → Type 0) (Q : B → Type 0) (says : A → Option B)
+    → ((x : A) (y : B) → says x ≡ Some y → P x → Q y) → (xs : List A) → Every P xs
+    → Every Q (filter_map says xs)
+found P Q says each [] every = tt
+found {A} {B} P Q says each (x ∷ xs) every =
+    by_found (says x) refl (found P Q says each xs every.1)
+  where
+    by_found : (o : Option B) → says x ≡ o → Every Q (filter_map says xs)
+        → Every Q (filter_map says (x ∷ xs))
+    by_found None is later = rw is later
+    by_found (Some y) is later = rw is (each x y is every.0, later)
+
+-- Steps.
+
+-- a step's moment
+abbrev pub StepGiven : (ℕ → Type 0) → Step → Type 0
+StepGiven D (step.In firm moment bytes) = D moment
+StepGiven D (step.Turn by) = Unit {0}
+StepGiven D (step.Expire at moment) = D moment
+
+pub record DayGiven (D : ℕ → Type 0) (day : AuditTrail) : Type 0 where
+  pub facts : Every (FactGiven D) day.facts
+  pub caused : Every (λ (c : Caused). DutyGiven D c.duty) day.caused
+
+module _ (D : ℕ → Type 0) (of_day : (n : ℕ) → n < A_DAY → D n) (config : Configuration)
+    (named : AreNamed config) where
+  pending_given : (by : Actor) (day : AuditTrail) → DayGiven D day
+      → Every (DutyGiven D) (pending by day)
+  pending_given by day given =
+      dropped (DutyGiven D) (count_by (is_same_actor by) day.done)
+      (filter_map (duty_of by) day.caused)
+      (found (λ (c : Caused). DutyGiven D c.duty) (DutyGiven D) (duty_of by) each day.caused
+      given.caused)
+    where
+      each : (c : Caused) (left : Duty) → duty_of by c ≡ Some left → DutyGiven D c.duty
+          → DutyGiven D left
+      each c left is given = by_test (is_same_actor c.by by) is
+        where
+          by_test : (b : Bool) → (if b then Some c.duty else None) ≡ Some left → DutyGiven D left
+          by_test true same = subst (DutyGiven D) (same_Some c.duty left same) given
+          by_test false none = cc
+
+  grown : (by : Actor) (facts : List Fact) (caused : List Caused) (effect : Effect)
+      → Every (FactGiven D) facts → Every (λ (c : Caused). DutyGiven D c.duty) caused
+      → EffectGiven D effect
+      → Every (FactGiven D) (facts ++ effect.facts)
+      × Every (λ (c : Caused). DutyGiven D c.duty)
+      (caused ++ map (λ (left : Duty). record { by = by; duty = left }) effect.duties)
+  grown by facts caused effect before duties given = (
+    every_both (FactGiven D) facts effect.facts before given.facts,
+    every_both (λ (c : Caused). DutyGiven D c.duty) caused
+        (map (λ (left : Duty). record { by = by; duty = left }) effect.duties) duties
+        (each_mapped (λ (c : Caused). DutyGiven D c.duty)
+        (λ (left : Duty). record { by = by; duty = left })
+        effect.duties given.duties),
+  )
+
+  turn_given : (by : Actor) (day : AuditTrail) (duties : List Duty) → DayGiven D day
+      → Every (DutyGiven D) duties → DayGiven D (after_turn config by day duties)
+  turn_given by day [] given left = given
+  turn_given by day (first ∷ later) given left =
+      let more = grown by day.facts day.caused (duty_effect config day.facts by first) given.facts
+      given.caused
+      (duty_given D of_day config named day.facts by first left.0) in
+      record { facts = more.0; caused = more.1 }
+
+  step_given : (day : AuditTrail) (more : Step) → DayGiven D day → StepGiven D more
+      → DayGiven D (after_step config day more)
+  unfolding after_step
+  step_given day (step.In firm moment bytes) given moment_is =
+      let more = grown (actor.Firm firm) day.facts day.caused
+      (message_effect config day.facts firm moment bytes) given.facts given.caused
+      (message_given D of_day config named day.facts firm moment bytes moment_is) in
+      record { facts = more.0; caused = more.1 }
+  step_given day (step.Turn by) given moment_is =
+      turn_given by day (pending by day) given (pending_given by day given)
+  step_given day (step.Expire at moment) given moment_is =
+      let more = grown actor.Clock day.facts day.caused (sweep_effect config day.facts at moment)
+      given.facts given.caused (sweep_given D of_day config named day.facts at moment moment_is) in
+      record { facts = more.0; caused = more.1 }
+
+  steps_given : (steps : List Step) (day : AuditTrail) → DayGiven D day → Every (StepGiven D) steps
+      → DayGiven D (fold (after_step config) day steps)
+  steps_given [] day given moments = given
+  steps_given (more ∷ steps) day given moments =
+      steps_given steps (after_step config day more) (step_given day more given moments.0) moments.1
+
+  -- What was due to a dealer.
+
+  entry_given : (number : ℕ) (facts : List Fact) → Every (FactGiven D) facts
+      → Every (EntryGiven D) (of_dealer number facts)
+  unfolding of_dealer
+  entry_given number [] every = tt
+  entry_given number (AtDealer other entry ∷ facts) every =
+      by_test (other == number) refl (entry_given number facts every.1)
+    where
+      by_test : (b : Bool) → (other == number) ≡ b
+          → Every (EntryGiven D) (of_dealer number facts)
+          → Every (EntryGiven D) (of_dealer number (AtDealer other entry ∷ facts))
+      by_test true is later = rw is (every.0, later)
+      by_test false is later = rw is later
+  entry_given number (InRoom at fact ∷ facts) every = entry_given number facts every.1
+  entry_given number (AtInvestor other entry ∷ facts) every = entry_given number facts every.1
+
+  list_given : (trail : List DealerEntry) → Every (EntryGiven D) trail
+      → Every (dealer.DueGiven D) (due_list trail)
+  list_given [] every = tt
+  list_given (dealer_trail.AtDesk (Came moment bytes used) ∷ trail) every =
+      (every.0, list_given trail every.1)
+  list_given (dealer_trail.AtDesk (Shown ask moment) ∷ trail) every =
+      (every.0, list_given trail every.1)
+  list_given (dealer_trail.AtDesk (Told request close moment) ∷ trail) every =
+      (every.0, list_given trail every.1)
+  list_given (dealer_trail.AtDesk (Dropped last moment) ∷ trail) every =
+      (every.0, list_given trail every.1)
+  list_given (dealer_trail.AtDesk (Quoted quote) ∷ trail) every = list_given trail every.1
+  list_given (dealer_trail.AtDesk (Withdrawn quote how) ∷ trail) every = list_given trail every.1
+  list_given (dealer_trail.AtDesk (Late quote) ∷ trail) every = list_given trail every.1
+  list_given (dealer_trail.AtDesk (Declined request) ∷ trail) every = list_given trail every.1
+  list_given (dealer_trail.ShownIn at ∷ trail) every = list_given trail every.1
+  list_given (dealer_trail.Lifted quote ∷ trail) every = (tt, list_given trail every.1)
+  list_given (dealer_trail.Sent bytes ∷ trail) every = list_given trail every.1
+
+  pub dealer_dues_given : (steps : List Step) (number : ℕ) → Every (StepGiven D) steps
+      → Every (dealer.DueGiven D) (due_to number (audit_trail config steps))
+  unfolding audit_trail
+  dealer_dues_given steps number moments =
+      let day = steps_given steps no_steps (record { facts = tt; caused = tt }) moments in
+      list_given (of_dealer number (fold (after_step config) no_steps steps).facts)
+      (entry_given number (fold (after_step config) no_steps steps).facts day.facts)
+
+  -- What was due to an investor.
+
+  -- what comes to a place
+  abbrev PlacedGiven : Option Placement → Type 0
+  PlacedGiven (Some (arrival.Investor firm what)) = BroughtGiven D what
+  PlacedGiven other = Unit {0}
+
+  at_one : (firm : ℕ) (what : ForInvestor) → BroughtGiven D what
+      → PlacedGiven (place.at_investor config firm what)
+  at_one firm what given =
+      cond_both (is_some (investor_numbered config firm)) (Some (arrival.Investor firm what)) None
+      PlacedGiven (λ there. given) (λ none. tt)
+
+  in_a_room : (at : RoomRef) (what : ForRoom) → PlacedGiven (place.in_room config at what)
+  in_a_room at what =
+      cond_both (has_room config at.investor at.n) (Some (arrival.Room at what)) None PlacedGiven
+      (λ there. tt) (λ none. tt)
+
+  declined_place : (by : Actor) (left : Dealer → Option Placement)
+      → ((number : ℕ) (row : DealerRow) → dealer_numbered config number ≡ Some row
+      → PlacedGiven (left (dealer_of number row)))
+      → PlacedGiven (place.by_dealer config by left)
+  declined_place (actor.Firm number) left each = by_row (dealer_numbered config number) refl
+    where
+      by_row : (o : Option DealerRow) → dealer_numbered config number ≡ o
+          → PlacedGiven (place.by_dealer config (actor.Firm number) left)
+      by_row None is = rw is tt
+      by_row (Some row) is = rw is (each number row is)
+  declined_place actor.Clock left each = tt
+
+  placed_given : (by : Actor) (left : Duty) → DutyGiven D left → PlacedGiven (placed config by left)
+  unfolding placed
+  placed_given by (duty.Open at ask dealers moment) given =
+      cond_both (has_room config at.investor at.n) _ _ PlacedGiven (λ is. tt) (λ no. tt)
+  placed_given by (duty.Show dealer at ask moment) given =
+      cond_both (is_some (dealer_numbered config dealer)) _ _ PlacedGiven (λ is. tt) (λ no. tt)
+  placed_given by (duty.Ready at moment) given =
+      cond_both (has_room config at.investor at.n) _ _ PlacedGiven (λ is. tt) (λ no. tt)
+  placed_given by (duty.Post at quote price valid_until moment) given =
+      declined_place by (place.posted config at quote price valid_until moment)
+      (λ number row is.
+      let own = dealer_of number row in
+      let offer = offer_of config own quote price valid_until in
+      cond_both (has_word_for config own quote)
+      (place.in_room config at (to_room.Post number offer moment)) None PlacedGiven
+      (λ has. in_a_room at (to_room.Post number offer moment)) (λ none. tt))
+  placed_given by (duty.Relay at offer moment) given = at_one at.investor _ given
+  placed_given by (duty.Unpost at quote moment) given =
+      declined_place by (place.unposted config at quote moment)
+      (λ number row is.
+      let own = dealer_of number row in
+      let word = word_for config own quote in
+      cond_both (has_word_for config own quote)
+      (place.in_room config at (to_room.Unpost number word moment)) None PlacedGiven
+      (λ has. in_a_room at (to_room.Unpost number word moment)) (λ none. tt))
+  placed_given by (duty.Gone at word moment) given = at_one at.investor _ given
+  placed_given by (duty.Decline at moment) given =
+      declined_place by _ (λ number row is.
+      cond_both (has_room config at.investor at.n) _ _ PlacedGiven (λ there. tt) (λ no. tt))
+  placed_given by (duty.Declined at moment) given =
+      declined_place by _ (λ number row is.
+      at_one at.investor (to_investor.Declined at.n row.name moment)
+      (named.dealers number row is, given))
+  placed_given by (duty.Hit at response word moment) given =
+      cond_both (has_room config at.investor at.n) _ _ PlacedGiven (λ is. tt) (λ no. tt)
+  placed_given by (duty.Pass at response moment) given =
+      cond_both (has_room config at.investor at.n) _ _ PlacedGiven (λ is. tt) (λ no. tt)
+  placed_given by (duty.Answer at response reply moment) given = at_one at.investor _ given
+  placed_given by (duty.Close at moment) given = at_one at.investor _ given
+  placed_given by (duty.Tell dealer at close moment) given =
+      cond_both (is_some (dealer_numbered config dealer)) _ _ PlacedGiven (λ is. tt) (λ no. tt)
+  placed_given by (duty.Drop last moment) given = declined_place by _ (λ number row is. tt)
+
+  at_desk_given : (number : ℕ) (o : Option Placement) → PlacedGiven o
+      → Every (ComingGiven D) (option_to_list (at_desk_of number o))
+  at_desk_given number (Some (arrival.Investor firm what)) given =
+      cond_both (firm == number) (Some (For what)) None
+      (λ (c : Option Coming). Every (ComingGiven D) (option_to_list c)) (λ own. (given, tt))
+      (λ other. tt)
+  at_desk_given number other given = tt
+
+  comes_given : (number : ℕ) (day : AuditTrail) (more : Step) → DayGiven D day → StepGiven D more
+      → Every (ComingGiven D) (option_to_list (comes_by config number day more))
+  unfolding comes_by
+  comes_given number day (step.In firm moment bytes) given moment_is =
+      cond_both (firm == number) (Some (Own moment bytes)) None
+      (λ (c : Option Coming). Every (ComingGiven D) (option_to_list c)) (λ own. (moment_is, tt))
+      (λ other. tt)
+  comes_given number day (step.Turn by) given moment_is =
+      by_turn (pending by day) (pending_given by day given)
+    where
+      by_turn : (duties : List Duty) → Every (DutyGiven D) duties
+          → Every (ComingGiven D) (option_to_list (comes_by_turn config number by duties))
+      by_turn [] left = tt
+      by_turn (first ∷ later) left =
+          at_desk_given number (placed config by first) (placed_given by first left.0)
+  comes_given number day (step.Expire at moment) given moment_is = tt
+
+  all_come : (number : ℕ) (day : AuditTrail) (steps : List Step) → DayGiven D day
+      → Every (StepGiven D) steps → Every (ComingGiven D) (comings_from config number day steps)
+  all_come number day [] given moments = tt
+  all_come number day (more ∷ steps) given moments =
+      every_both (ComingGiven D) (option_to_list (comes_by config number day more)) _
+      (comes_given number day more given moments.0)
+      (all_come number (after_step config day more) steps (step_given day more given moments.0)
+      moments.1)
+
+  due_of : (desk : DeskEvents) (coming : Coming) → ComingGiven D coming
+      → investor.DueGiven D (due_by (book_at desk) coming)
+  unfolding due_by
+  due_of desk (Own moment bytes) given = given
+  due_of desk (For (to_investor.Relay request offer moment)) given = given
+  due_of desk (For (to_investor.Gone request word moment)) given = given
+  due_of desk (For (to_investor.Declined request dealer moment)) given = given
+  due_of desk (For (to_investor.Answer request response reply moment)) given = given
+  due_of desk (For (to_investor.Close request moment)) given = given
+
+  dues_of : (came : List Coming) (desk : DeskEvents) → Every (ComingGiven D) came
+      → Every (investor.DueGiven D) (dues_from desk came)
+  dues_of [] desk every = tt
+  dues_of (first ∷ later) desk every =
+      (due_of desk first every.0, dues_of later (after_coming desk first) every.1)
+
+  pub investor_dues_given : (steps : List Step) (number : ℕ) → Every (StepGiven D) steps
+      → Every (investor.DueGiven D) (due_to_investor config number steps)
+  investor_dues_given steps number moments = by_market (market_for config number)
+    where
+      by_market : (o : Option InvestorMarket)
+          → Every (investor.DueGiven D) (dues_where o (comings config number steps))
+      by_market None = tt
+      by_market (Some market) =
+          dues_of (comings config number steps) (no_events market)
+          (all_come number no_steps steps (record { facts = tt; caused = tt }) moments)
