@@ -55,7 +55,7 @@ nothing_lifted investor (Some hit) (Err reason) = refl
 nothing_lifted investor (Some hit) (Ok award) = refl
 
 -- the line of a note
-line_of : (date own dealer : List ℕ) (notes : List (Option InvestorNote)) (number k : ℕ)
+pub line_of : (date own dealer : List ℕ) (notes : List (Option InvestorNote)) (number k : ℕ)
     (found : Option InvestorNote) → found ≡ Some (note.Trade dealer)
     → count_to (trades_with_dealer dealer) notes number ≡ k
     → investor_line date own notes number found
@@ -159,7 +159,7 @@ module _ (config : Configuration) (investor : ℕ) (row : InvestorRow)
   steps_keep [] day kept = kept
   steps_keep (s ∷ steps) day kept = steps_keep steps (after_step config day s) (step_keeps day s kept)
 
-  day_kept : (steps : List Step) → Kept (audit_trail config steps).facts
+  pub day_kept : (steps : List Step) → Kept (audit_trail config steps).facts
   unfolding audit_trail of_investor noted_in desk_after
   day_kept steps =
       steps_keep steps no_steps (record {

@@ -61,7 +61,7 @@ get_next (y ∷ xs) more x = get_next xs more x
 text_same : (a b : List ℕ) → same_text a b ≡ true → a ≡ b
 text_same a b test = (bytes_eq-Decides a b).0 test
 
-text_self : (a : List ℕ) → same_text a a ≡ true
+pub text_self : (a : List ℕ) → same_text a a ≡ true
 text_self a = (bytes_eq-Decides a a).1 refl
 
 written_length : (market : InvestorMarket) (number moment : ℕ) (messages : List OutMessage)
@@ -172,6 +172,7 @@ module _ (market : InvestorMarket) (investor : ℕ) (dealer : List ℕ) where
       (before : List RoomRef) (room : RoomRef) : Type 0 where
     pub number : ℕ
     pub tells : TellsOfTrade trail dealer room number
+    pub before_is : before ≡ rooms tells.stood
     pub said : slice_get notes (number - 1) ≡ Some (Some (note.Trade dealer))
     pub counted : count_to (trades_with_dealer dealer) notes number ≡ length before + 1
     pub most : number ≤ length notes
@@ -197,6 +198,7 @@ module _ (market : InvestorMarket) (investor : ℕ) (dealer : List ℕ) where
               ∙ append_assoc (tells.stood ++ pair) tells.after more;
           number_is = tells.number_is;
         };
+        before_is = is.before_is;
         said = get_grown notes added (is.number - 1) (Some (note.Trade dealer)) is.said;
         counted = ap (count_by (trades_with_dealer dealer)) (take-append-le is.number notes added is.most)
             ∙ is.counted;
@@ -231,6 +233,7 @@ module _ (market : InvestorMarket) (investor : ℕ) (dealer : List ℕ) where
               ++ (AtDesk (Closed request (close.Awarded quote dealer price)) ∷ Sent message ∷ [])));
           number_is = next ∙ ap (λ (n : ℕ). n + 1) long;
         };
+        before_is = refl;
         said = ap (slice_get (notes ++ added)) place ∙ get_next notes [] (Some (note.Trade dealer));
         counted = ap (count_by (trades_with_dealer dealer))
             (take_all (length (notes ++ added)) (notes ++ added) (omega arith))

@@ -38,7 +38,7 @@ use Rattle.step_replay.specs.declared.steps.Step.{Step}
 use Rattle.laws_trades.specs.TradeTimes.{IsAnsweredAt, IsAwarded, IsSaidTo, room_at}
 use Rattle.laws_trades.proofs.AwardedWords.{found_passes}
 use Rattle.laws_trades.proofs.TimeDays.{day_timed}
-use Rattle.laws_trades.proofs.TimeLemmas.{FactTimed}
+use Rattle.laws_trades.proofs.TimeParts.{FactTimed}
 
 -- Lists.
 

@@ -47,8 +47,8 @@ use Rattle.laws_answers.specs.Awards.{IsInTime}
 use Rattle.laws_trades.specs.TradeTimes.{IsAwarded, IsHitOf, IsToldAt}
 use Rattle.laws_trades.specs.Withdrawals.{IsSaid}
 use Rattle.laws_trades.proofs.AwardedWords.{found_passes}
-use Rattle.laws_trades.proofs.TimeLemmas.{Brings, DutyTimed, FactTimed, duty_brings, duty_grown}
-use Rattle.laws_trades.proofs.TimeLemmas.{fact_grown, message_brings, sweep_brings}
+use Rattle.laws_trades.proofs.TimeDuties.{duty_brings, message_brings, sweep_brings}
+use Rattle.laws_trades.proofs.TimeParts.{Brings, DutyTimed, FactTimed, duty_grown, fact_grown}
 use Rattle.laws_trades.proofs.WithdrawalLemmas.{AtOne, Before, Behind, places}
 use Rattle.venue_laws.proofs.PlainFacts.{at_dealer_all, in_room_all}
 

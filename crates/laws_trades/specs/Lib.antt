@@ -1,4 +1,5 @@
 pub mod Cancels
 pub mod PrintedTrades
+pub mod TradeLines
 pub mod TradeTimes
 pub mod Withdrawals

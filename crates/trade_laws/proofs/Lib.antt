@@ -3,7 +3,7 @@ mod CalmMessages
 mod LiveLemmas
 mod NameAwards
 mod NameDay
-mod NameLemmas
+pub mod NameLemmas
 mod NameParts
 mod NameSilent
 mod NameTurns

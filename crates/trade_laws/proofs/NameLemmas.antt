@@ -48,7 +48,7 @@ get_behind (x ∷ xs) ys place =
     let more : length (x ∷ xs) + place ≡ suc (length xs + place) = omega arith in
     ap (slice_get ((x ∷ xs) ++ ys)) more ∙ get_behind xs ys place
 
-dealer_name : (config : Configuration) (dealer : ℕ) (row : DealerRow)
+pub dealer_name : (config : Configuration) (dealer : ℕ) (row : DealerRow)
     → dealer_numbered config dealer ≡ Some row
     → slice_get (firm_names config) dealer ≡ Some row.name
 dealer_name config dealer row is =

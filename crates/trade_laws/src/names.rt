@@ -20,7 +20,7 @@ use dealer_desk::{limits_are_kept, what_is_asked_is_of_the_day};
 /// premise: the configuration keeps its limits.
 ///
 /// It ends at: two firms of one name, which no program takes (`KeepsLimits`); the `trade` lines
-/// from which TradeID (1003) is made, which are tested.
+/// from which TradeID (1003) is made (`laws_trades::a_trade_is_printed_under_one_name`).
 pub fn a_trade_has_one_name()
     ensures { (config : Configuration) (steps : List Step) (investor dealer : ℕ)
         (buyer : InvestorRow) (seller : DealerRow) → KeepsLimits config
