@@ -36,10 +36,11 @@ use Rattle.venue_laws.proofs.VenueParts.{did_in, duties_by, later_same}
 use Rattle.venue_laws.proofs.VenueSteps.{Here, day}
 use Rattle.venue_laws.proofs.VenueTurns.{beside, doing_now, turn}
 use Rattle.laws_rooms.specs.Offers.{AreShownFirst, quote_in, quotes_in}
-use Rattle.laws_rooms.proofs.OfferLemmas.{Tells, Told, message_tells, message_turn, open_live, other_turn}
+use Rattle.laws_rooms.proofs.OfferLemmas.{Tells, Told, message_tells, message_turn, other_turn}
 use Rattle.laws_rooms.proofs.OfferLemmas.{relay_of, relays, same_turn, sweep_tells, sweep_turn, tells_mine}
 use Rattle.laws_rooms.proofs.OfferLemmas.{tells_other, told_more}
 use Rattle.laws_rooms.proofs.RoomLemmas.{did_all, one_more}
+use Rattle.laws_rooms.proofs.ShutLemmas.{open_live}
 use Rattle.laws_rooms.proofs.TurnShares.{anothers, its_own, share}
 
 module _ (lone : LoneQuotes) (words : WordsOfDay) (config : Configuration) (dealer : ℕ)

@@ -3,7 +3,6 @@ use Rattle.std.proofs.Common.{◌≡◌, ◌==◌, ◌&&◌, ◌+◌, ℕ, Bool,
 use Rattle.std.proofs.Common.{Option, Some, None, IfSome, is_none, is_some, option_map, refl, sym, ap, ◌∙◌, subst, inl, inr}
 use Rattle.std.proofs.Common.{if◌then◌else◌, arith}
 use Rattle.std.specs.List.{cons_option}
-use Rattle.std.specs.Option.{option_or}
 use Rattle.std.proofs.lemmas.Bool.{and_parts, cases_Bool, eq-eqb, false≢true}
 use Rattle.std.proofs.lemmas.List.{append-nil, append_assoc}
 use Rattle.std.proofs.lemmas.List.Elements.{filter_map-append}
@@ -25,8 +24,8 @@ use Rattle.investor_desk.specs.InvestorRules.{InvestorMarket, investor_verdict}
 use Rattle.investor_desk.specs.declared.verdicts.InvestorVerdict.{InvestorVerdict}
 use Rattle.investor_desk.specs.declared.verdicts.InvestorVerdict.TheVariants as asks
 use Rattle.investor_desk.specs.InvestorDesk.{market_of}
-use Rattle.investor_desk.specs.InvestorFacts.{Asked, InvestorBook, InvestorFact, Offered, StandingRequest, book_of}
-use Rattle.investor_desk.specs.InvestorFacts.{closes, first_said, offer_of_dealer, offers_of, request_numbered}
+use Rattle.investor_desk.specs.InvestorFacts.{InvestorBook, InvestorFact, Offered, StandingRequest}
+use Rattle.investor_desk.specs.InvestorFacts.{offer_of_dealer, offers_of, request_numbered}
 use Rattle.investor_desk.specs.InvestorFacts.{while_open}
 use Rattle.investor_desk.specs.InvestorOutput as investor_output
 use Rattle.investor_desk.specs.declared.events.InvestorEvent.TheVariants as at_investor
@@ -62,57 +61,8 @@ use Rattle.laws_rooms.specs.Offers.{is_of, quotes_in, quotes_shown, shown_of}
 use Rattle.laws_rooms.proofs.AnswerLemmas.{Goes, late, lefts, message_goes, quiet, sweep_goes, takes, turn_mine}
 use Rattle.laws_rooms.proofs.AnswerLemmas.{turn_other}
 use Rattle.laws_rooms.proofs.ReplyDuties.{none_of}
+use Rattle.laws_rooms.proofs.ShutLemmas.{shut, shut_in, still_live}
 use Rattle.laws_rooms.proofs.TellLemmas.{market_grown}
-
--- A request that is closed at the desk stays so.
-
-said_more : {A : Type 0} (says : InvestorFact → Option A) (facts more : List InvestorFact)
-    → is_some (first_said says facts) ≡ true → is_some (first_said says (facts ++ more)) ≡ true
-said_more says [] more is = cc
-said_more {A} says (fact ∷ facts) more is =
-    either (says fact) (λ rest. said_more says facts more rest) is
-  where
-    either : (o : Option A)
-        → (is_some (first_said says facts) ≡ true → is_some (first_said says (facts ++ more)) ≡ true)
-        → is_some (option_or o (first_said says facts)) ≡ true
-        → is_some (option_or o (first_said says (facts ++ more))) ≡ true
-    either None later said = later said
-    either (Some x) later said = refl
-
--- whether a request that was found is closed
-abbrev shut : Option StandingRequest → Bool
-shut None = false
-shut (Some own) = is_some own.close
-
-abbrev shut_in : ℕ → List InvestorFact → Bool
-shut_in number facts = shut (request_numbered (book_of facts) number)
-
-shut_grown : (number : ℕ) (facts more : List InvestorFact) → shut_in number facts ≡ true
-    → shut_in number (facts ++ more) ≡ true
-unfolding request_numbered
-shut_grown number [] more is = cc
-shut_grown number (Asked request ∷ facts) more is = elim (cases_Bool (request.number == number)) [
-  | inl same ↦ rw same (said_more (closes request.number) facts more (rw same at is))
-  | inr differs ↦ rw differs (shut_grown number facts more (rw differs at is))
-]
-shut_grown number (fact ∷ facts) more is = shut_grown number facts more is
-
-still_live : (number : ℕ) (facts more : List InvestorFact) → shut_in number (facts ++ more) ≡ false
-    → shut_in number facts ≡ false
-still_live number facts more live = elim (cases_Bool (shut_in number facts)) [
-  | inr not_yet ↦ not_yet
-  | inl closed ↦ absurd (false≢true (sym live ∙ shut_grown number facts more closed))
-]
-
--- one that is open is not closed
-pub open_live : (found : Option StandingRequest) → is_some (while_open found) ≡ true → shut found ≡ false
-open_live None is = cc
-open_live (Some own) is = by_close own.close is
-  where
-    by_close : (o : Option RequestClose) → is_some (if is_none o then Some own else None) ≡ true
-        → is_some o ≡ false
-    by_close None so = refl
-    by_close (Some how) so = cc
 
 -- Quotes among answers.
 
@@ -224,7 +174,7 @@ module _ (dealer : ℕ) (config : Configuration) (row : DealerRow)
       away_both at differs true false hears_it takes_it = same_idle
       away_both at differs false has_word hears_it takes_it = same_idle
 
-    post_same : (at : RoomRef) (quote price : ℕ) (until : Option ℕ) (moment : ℕ)
+    pub post_same : (at : RoomRef) (quote price : ℕ) (until : Option ℕ) (moment : ℕ)
         → Same (duty_effect config facts (actor.Firm dealer) (duty.Post at quote price until moment))
     unfolding duty_effect event_facts
     post_same at quote price until moment = elim (cases_Bool (is_same_room at room)) [

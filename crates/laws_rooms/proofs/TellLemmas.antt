@@ -93,7 +93,7 @@ module _ (config : Configuration) (facts : List Fact) (room : RoomRef) where
   book = investor_trail.book_by trail
 
   -- what comes to the desk adds to its facts
-  desk_grown : (row : InvestorRow) (event : InvestorEvent)
+  pub desk_grown : (row : InvestorRow) (event : InvestorEvent)
       → market_facts room.investor (facts ++ (at_market facts (market_of config room.investor row) event []).facts)
       ≡ known ++ investor_output.event_facts (market_of config room.investor row) book event
   desk_grown row event =

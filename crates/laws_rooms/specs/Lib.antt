@@ -1,7 +1,9 @@
 pub mod Answered
 pub mod Declines
+pub mod Ends
 pub mod Expiries
 pub mod Offers
 pub mod Responses
 pub mod Shown
+pub mod Tellings
 pub mod Told

@@ -15,8 +15,8 @@ use dealer_desk::{limits_are_kept, what_is_asked_is_of_the_day};
 /// Of each dealer that declined in a room its investor was sent 35=AI with 297=11, the request's
 /// 131 and the dealer's name (448); or the request was closed at its desk (`specs/Declines`).
 ///
-/// It ends at: days on which a duty is left; the order of what an investor is told; which further
-/// fields the messages have.
+/// It ends at: days on which a duty is left; which further fields the messages have. (The order of
+/// what an investor is told: `laws_rooms::answers_are_told_as_they_took_effect`.)
 pub fn each_decline_comes_to_its_investor()
     ensures { (config : Configuration) (steps : List Step) (room : RoomRef) (dealer : ℕ)
         → NoDutyIsLeft (venue.audit_trail config steps)

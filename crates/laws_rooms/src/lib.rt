@@ -12,6 +12,14 @@
 //! - [`quotes_are_shown_as_they_took_effect`]: then the quotes of a dealer that an investor was shown on
 //!   a request are the first of those that took effect, in their order, and all of them while the
 //!   request is open at its desk.
+//! - [`answers_are_told_as_they_took_effect`]: then the quotes and declines of a dealer that an investor was
+//!   told on a request are the first of those that took effect, in their order, and all of them while the
+//!   request is open at its desk.
+//! - [`answers_are_all_told_on_a_live_day`]: on a day whose steps come one by one they are all of them.
+//! - [`an_ended_room_is_closed_at_its_desk`]: then the request of a room that has ended is closed at its
+//!   investor's desk.
+//! - [`a_closed_request_has_an_ended_room`]: at each moment, a request that is closed at its investor's desk
+//!   has a room that has ended.
 //! - [`each_quote_comes_to_its_investor`]: then each quote in a room was shown to its investor, or the
 //!   request was closed there.
 //! - [`each_decline_comes_to_its_investor`]: then of each decline in a room, too.
@@ -25,20 +33,26 @@
 
 mod answers;
 mod asked;
+mod closed;
 mod declines;
+mod ends;
 mod expiries;
 mod named;
 mod quotes;
 mod responses;
 mod rooms;
 mod shown;
+mod told;
 
 pub use answers::each_answer_takes_effect_in_its_order;
 pub use asked::each_accepted_request_is_shown;
+pub use closed::a_closed_request_has_an_ended_room;
 pub use declines::each_decline_comes_to_its_investor;
+pub use ends::an_ended_room_is_closed_at_its_desk;
 pub use expiries::each_expiry_is_told_once;
 pub use named::a_request_is_shown_to_no_other_dealer;
 pub use quotes::each_quote_comes_to_its_investor;
 pub use responses::each_response_is_answered;
 pub use rooms::no_room_is_left_opening;
 pub use shown::quotes_are_shown_as_they_took_effect;
+pub use told::{answers_are_all_told_on_a_live_day, answers_are_told_as_they_took_effect};
