@@ -12,7 +12,7 @@ export const signed = quantity => (quantity > 0 ? '+' : quantity < 0 ? '\u2212' 
 
 // 2,000,000; 2m; 1.5m; 2mm; 500k; 1b. Null where it is none: a comma stands before three digits, or 0,5m would be 5m.
 export function parseAmount(entry) {
-  const parts = /^((?:\d{1,3}(?:,\d{3})+|\d*)\.?\d*)\s*(k|mm|m|b)?$/i.exec(entry.trim());
+  const parts = /^((?:\d{1,3}(?:,\d{3})+|\d*)(?:\.\d*)?)\s*(k|mm|m|b)?$/i.exec(entry.trim());
   if (!parts || !/\d/.test(parts[1])) return null;
   const factor = {k: 1e3, m: 1e6, mm: 1e6, b: 1e9}[parts[2]?.toLowerCase()] ?? 1;
   const number = Math.round(Number(parts[1].replaceAll(',', '')) * factor * 1e6) / 1e6;

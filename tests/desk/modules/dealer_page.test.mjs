@@ -1,0 +1,282 @@
+// A dealer's page around its cards: the head, the alarm, keys, places of cards, the table, programs, limits and a logout.
+import assert from 'node:assert/strict';
+import test from 'node:test';
+import {answers, boxes, button, clock, click, document, midday, press, rest, Socket, type, window, words} from './stand.mjs';
+import {BOND, SECOND, dealerHello, own, request} from './samples.mjs';
+import {at, card, cards, desk, seen, told} from './whole.mjs';
+
+const trader = {...dealerHello().trader, isAdmin: true};
+const hello = (more = {}) => dealerHello({trader, ...more});
+await desk.open(hello({banner: 'A trial.', session: {exposure: 3e6, accepted: 7}}), request('R1'));
+const head = at('top'), light = () => words(head.querySelector('.light')), counts = () => words(head.querySelector('.counts'));
+const said = () => words(document.querySelector('.said[role=status]'));
+const session = (more = {}) => desk.says({...hello().session, ...more});
+const live = (id, price, more = {}) => request(id, {quotes: [own(price, {state: 'live'})], ...more});
+
+// Requests that ended long ago, whose cards and places have gone.
+function gone(...ids) {
+  desk.tells(ids.map(id => request(id, {state: 'passed', ended: midday - 100_000})));
+  clock.skip(12_000);
+}
+
+test('the head', () => {
+  assert.deepEqual([words(head.querySelector('.who')), light(), counts()],
+    ['DLR1 ann (T1), dealer', '\u25cf Venue connected', 'Exposure 3,000,000 of 60,000,000 (5 %) \u00b7 quotes today 7 of 4,096']);
+  assert.deepEqual([words(at('banner')), seen(at('banner')), words(head.querySelector('.clock'))], ['A trial.', true, '12:00:00 UTC']);
+  assert.match(words(at('keys')), /F9 cancel all/);
+  session({clock: -1501});
+  assert.match(counts(), / \u00b7 the venue\u2019s clock is -1\.5 s apart$/);
+  session({clock: 1500});
+  assert.ok(!counts().includes('apart'));
+  session({on: false, since: midday, cause: 'the line is cut'});
+  assert.deepEqual([light(), words(head.querySelector('.cause')), counts()], ['\u25cb Venue not connected since 12:00:00 UTC', 'The line is cut. Trying. ', 'Exposure 0 of 60,000,000 (0 %)']);
+  assert.ok(document.body.classList.contains('off'));
+  session();
+  assert.ok(!document.body.classList.contains('off'));
+  desk.says({t: 'trader', trader: {...trader, mayAct: false}});
+  assert.deepEqual([words(head.querySelector('.who')), seen(at('cancelall'))], ['DLR1 ann (T1), dealer, may look', false]);
+  desk.says({t: 'trader', trader});
+  assert.ok(seen(at('cancelall')));
+});
+
+test('prices as decimals or in 32nds', () => {
+  desk.tells([live('R1', 99.5)]);
+  assert.match(words(card(0)), /Live 99\.5 \(99-16\)/);
+  press(document.body, 'F4');
+  assert.deepEqual([words(at('format')), /Live 99-16 \(99\.5\)/.test(words(card(0)))], ['Prices: 32nds', true]);
+  at('format').click();
+  assert.equal(words(at('format')), 'Prices: decimal');
+});
+
+test('the alarm', () => {
+  const alarm = at('alarm');
+  assert.equal(seen(alarm), false);
+  desk.tells([live('R1', 99.5, {quotes: [own(99.5, {state: 'live', valid: midday + 60_000})]}), live('R2', 98, {side: 'sell'}), live('R3', 97, {deadline: clock.at}), request('R4')]);
+  session({on: false, since: midday, alarm: 'The venue is lost.'});
+  assert.ok(seen(alarm));
+  assert.match(words(alarm), /^The venue is lost\. These quotes may still stand at the venue and be hit:/);
+  assert.deepEqual([...alarm.querySelectorAll('li')].map(words), ['offer 2,000,000 Alder 4 2034 at 99.5 until 12:01:00 UTC', 'bid 2,000,000 Alder 4 2034 at 98 until 12:02:00 UTC']);
+  assert.match(words(alarm), /Withdraw or Cancel all is delivered as soon as the venue is back\. To cancel them now, call the venue\u2019s operator\.$/);
+  assert.equal(document.querySelector('.said[role=status]').parentNode, alarm, 'what else is said has a line in it');
+  clock.skip(60_000);
+  assert.equal(alarm.querySelectorAll('li').length, 1, 'a quote whose validity is over is none');
+  session();
+  assert.deepEqual([seen(alarm), document.querySelector('.said[role=status]').parentNode], [false, at('foot')]);
+  gone('R2', 'R3');
+});
+
+test('keys', () => {
+  document.activeElement.blur();
+  press(document.body, 'F2');
+  assert.equal(document.activeElement, cards().find(one => one.dataset.state === 'open' && words(one).includes('No live quote')).querySelector('.entry'), 'to the one without a quote');
+  assert.ok(!press(document.body, 'F3').defaultPrevented, 'F3 is an investor\u2019s');
+  type(document.activeElement, '99');
+  press(document.body, 'F9', {repeat: true});
+  assert.deepEqual(desk.heard, []);
+  press(document.body, 'F9');
+  const [sent] = desk.heard;
+  assert.deepEqual([sent, document.activeElement.value], [{do: 'cancel all', number: sent.number}, ''], 'what was typed goes, too');
+  desk.answers(sent.number, 'No.');
+  assert.deepEqual([said(), document.querySelector('.said[role=status]').classList.contains('why')], ['No.', true]);
+  clock.pass(8000);
+  assert.equal(said(), '');
+  at('cancelall').click();
+  assert.equal(desk.heard[0].do, 'cancel all');
+  document.activeElement.blur();
+  boxes.set(at('body'), {left: 0, top: 0, width: 100, height: 20});
+  Object.defineProperty(at('body'), 'clientHeight', {value: 100});
+  for (const [key, to] of Object.entries({PageDown: 90, PageUp: -90, Home: -1e6, End: 1e6})) {
+    press(document.body, key);
+    assert.deepEqual(at('body').scrolledBy, [0, to]);
+  }
+  assert.ok(!press(document.body, 'x').defaultPrevented);
+});
+
+test('help', () => {
+  press(document.body, '?');
+  const help = at('help');
+  assert.deepEqual([help.open, words(at('help-title')), document.activeElement.textContent], [true, 'Help for a dealer', 'Close']);
+  help.close();
+  card(0).querySelector('.entry').focus();
+  press(document.activeElement, '?');
+  assert.ok(help.open, 'it is a part of no price');
+  help.close();
+  const filter = at('filter');
+  filter.focus();
+  press(filter, '?');
+  assert.ok(!help.open, 'it may be one of other texts');
+});
+
+test('which request is next', () => {
+  gone('R1', 'R4');
+  desk.tells([request('A', {deadline: clock.at + 50_000}), request('B', {deadline: clock.at + 40_000}), live('C', 99.5, {deadline: clock.at + 30_000})]);
+  document.activeElement.blur();
+  const next = () => { press(document.body, 'F2'); return cards().findIndex(one => one.contains(document.activeElement)); };
+  const of = id => cards().findIndex(one => one.contains(entries.get(id)));
+  const entries = new Map(['A', 'B', 'C'].map((id, nth) => [id, cards()[nth].querySelector('.entry')]));
+  assert.deepEqual([next(), next(), next()], [of('B'), of('A'), of('B')], 'those without a quote, round');
+  desk.tells([live('A', 99, {deadline: clock.at + 50_000}), live('B', 98, {deadline: clock.at + 40_000})]);
+  assert.equal(next(), of('C'), 'where none wants one, of those that are open');
+  gone('A', 'B', 'C');
+  press(document.body, 'F2');
+  assert.equal(said(), 'No request is open.');
+});
+
+test('no card moves under a press', () => {
+  const places = () => [...at('cards').children].map(one => one.className === 'place' ? '' : one.querySelector('.what') ? words(one.querySelector('.what')).split(' ')[0] : '-');
+  const size = (id, quantity, more = {}) => request(id, {quantity, deadline: clock.at + 600_000, ...more});
+  Socket.columns = '100px 100px';
+  desk.tells([size('P1', 1), size('P2', 2), size('P3', 3)]);
+  assert.deepEqual(places(), ['1', '2', '3']);
+  desk.tells([size('P2', 2, {state: 'passed', ended: clock.at})]);
+  assert.deepEqual(places(), ['1', '2', '3'], 'what has ended stays for a while');
+  clock.skip(44_900);
+  assert.deepEqual(places(), ['1', '2', '3']);
+  clock.pass(200);
+  assert.deepEqual(places(), ['1', '', '3'], 'and leaves its place');
+  clock.skip(10_000);
+  desk.tells([size('P4', 4)]);
+  assert.deepEqual(places(), ['1', '4', '3'], 'which a new one takes');
+  desk.tells([size('P4', 4, {state: 'passed', ended: clock.at})]);
+  button(cards().find(one => one.dataset.state === 'passed'), 'Close').click();
+  assert.deepEqual(places(), ['1', '', '3']);
+  Socket.columns = '100px';
+  clock.pass(1800);
+  assert.deepEqual(places(), ['1', '', '3']);
+  clock.pass(400);
+  assert.deepEqual(places(), ['1', '3'], 'below each other it would be a blank');
+  gone('P1', 'P3');
+});
+
+test('a press behind a move does nothing', () => {
+  desk.tells([request('G1', {deadline: clock.at + 600_000})]);
+  const mine = cards().find(one => one.dataset.state === 'open'), decline = button(mine, 'Decline'), entry = mine.querySelector('.entry');
+  clock.pass(600);
+  const presses = () => { const event = click(decline); const was = decline.classList.contains('armed'); press(decline, 'Escape'); return [event.defaultPrevented, was]; };
+  assert.deepEqual([presses(), told(mine)], [[true, false], 'The page moved under your press: look again.']);
+  clock.pass(200);
+  assert.deepEqual(presses(), [false, true]);
+  boxes.set(decline, {left: 3, top: 3, width: 100, height: 20});
+  assert.deepEqual(presses(), [false, true], 'three pixels are none');
+  boxes.set(decline, {left: 7, top: 3, width: 100, height: 20});
+  assert.deepEqual(presses(), [true, false]);
+  clock.pass(800);
+  boxes.set(decline, {left: 7, top: 7, width: 100, height: 20});
+  assert.deepEqual(presses(), [true, false]);
+  clock.pass(800);
+  assert.deepEqual(presses(), [false, true]);
+  document.activeElement.blur();
+  const down = () => { const event = new window.MouseEvent('mousedown', {bubbles: true, cancelable: true}); entry.dispatchEvent(event); return event.defaultPrevented; };
+  assert.equal(down(), false);
+  boxes.set(entry, {left: 50, top: 50, width: 100, height: 20});
+  assert.equal(down(), true, 'a price would be typed for another request');
+  entry.focus();
+  assert.equal(down(), false);
+  assert.deepEqual([press(decline, 'Enter', {repeat: true}).defaultPrevented, press(decline, ' ', {repeat: true}).defaultPrevented, press(decline, 'Enter').defaultPrevented,
+    press(decline, 'a', {repeat: true}).defaultPrevented], [true, true, false, false]);
+  gone('G1');
+});
+
+test('programs', () => {
+  const program = {name: 'auto', trader: 'ann', isOn: true, isStopped: false, by: '', since: midday}, part = at('programs');
+  assert.equal(seen(part), false);
+  desk.says({t: 'programs', programs: [program]});
+  assert.deepEqual([words(part.querySelector('span')), seen(part)], ['acts with the rights of ann, since 12:00:00 UTC. F9 stops it', true]);
+  button(part, 'Stop').click();
+  let [sent] = desk.heard;
+  assert.deepEqual(sent, {do: 'stop program', name: 'auto', number: sent.number});
+  desk.says({t: 'programs', programs: [{...program, isOn: false}]});
+  assert.equal(words(part.querySelector('span')), 'not connected');
+  desk.says({t: 'programs', programs: [{...program, isStopped: true, by: 'T2'}]});
+  assert.equal(words(part.querySelector('span')), 'stopped by T2, 12:00:00 UTC: it may do nothing until a trader releases it');
+  assert.equal(button(part, 'Stop'), undefined);
+  const release = button(part, 'Release');
+  release.click();
+  clock.pass(300);
+  release.click();
+  [sent] = desk.heard;
+  assert.deepEqual(sent, {do: 'release program', name: 'auto', number: sent.number});
+  desk.answers(sent.number, 'Not you.');
+  assert.equal(said(), 'Not you.');
+  desk.says({t: 'programs', programs: [{...program, isStopped: true, by: ''}]});
+  assert.match(words(part), /stopped by the desk,/);
+  desk.says({t: 'programs', programs: []});
+  assert.equal(seen(part), false);
+});
+
+test('limits of the firm', () => {
+  const dialog = at('limits'), why = () => words(dialog.querySelector('p[role=status]'));
+  const traders = [{login: 'ann', trader: 'T1', mayAct: true, quantity: null, exposure: 5e6, used: 1e6}, {login: 'tom', trader: 'T2', mayAct: false, quantity: 2e6, exposure: null, used: 0}];
+  desk.says({t: 'limits', traders});
+  at('limits-button').click();
+  assert.ok(dialog.open);
+  const rows = () => [...dialog.querySelectorAll('tbody')[0].children].map(row => [words(row.children[0]), ...[...row.querySelectorAll('input')].map(one => one.value), words(row.querySelector('.used'))]);
+  assert.deepEqual(rows(), [['ann (T1)', '', '5,000,000', '1,000,000'], ['tom (T2), looks only', '2,000,000', '', '0']]);
+  const [quantity, exposure] = dialog.querySelectorAll('tbody')[0].children[1].querySelectorAll('input'), set = dialog.querySelector('[aria-label="Set the limits of tom"]');
+  quantity.value = '2x';
+  set.click();
+  assert.deepEqual([why(), desk.heard], ['2x is no quantity: write 2,000,000, 2m or 500k, or nothing for the firm\u2019s own.', []]);
+  quantity.value = '';
+  exposure.value = '3m';
+  desk.says({t: 'limits', traders});
+  assert.equal(exposure.value, '3m', 'what somebody types stays');
+  press(exposure, 'Enter', {repeat: true});
+  assert.deepEqual(desk.heard, []);
+  press(exposure, 'Enter');
+  let [sent] = desk.heard;
+  assert.deepEqual(sent, {do: 'set limits', login: 'tom', quantity: null, exposure: 3e6, number: sent.number});
+  desk.answers(sent.number, 'No.');
+  assert.deepEqual([why(), exposure.value], ['No.', '3m']);
+  set.click();
+  desk.answers(desk.heard[0].number);
+  assert.deepEqual([why(), exposure.value, rows()[1][2]], ['Set for tom: quantity the firm\u2019s own, exposure 3,000,000.', '3,000,000', '3,000,000']);
+  const [reference, distance] = dialog.querySelectorAll('form'), price = dialog.querySelector('[aria-label="Reference price"]'), points = dialog.querySelector('[aria-label="Distance in points"]');
+  const submit = form => form.dispatchEvent(new window.Event('submit', {bubbles: true, cancelable: true}));
+  submit(reference);
+  assert.equal(why(), 'Type a price: 99.515625 or 99-16+.');
+  dialog.querySelector('select').value = SECOND;
+  price.value = '99.00390625';
+  submit(reference);
+  [sent] = desk.heard;
+  assert.deepEqual([sent, price.value], [{do: 'set reference', bond: SECOND, price: 25345, number: sent.number}, '']);
+  desk.answers(sent.number);
+  assert.equal(why(), 'The reference of Birch 3 2030 is 99.00390625.');
+  desk.says({t: 'references', references: {[BOND]: {price: 99 * 256, at: midday, by: 'tom'}}, distance: 128});
+  const row = dialog.querySelectorAll('tbody')[1].children[0];
+  assert.deepEqual([[...row.children].slice(0, 4).map(words), points.value], [['Alder 4 2034', '99', '12:00:00', 'tom'], '0.5']);
+  row.querySelector('button').click();
+  [sent] = desk.heard;
+  assert.deepEqual(sent, {do: 'set reference', bond: BOND, price: null, number: sent.number});
+  desk.answers(sent.number);
+  assert.equal(why(), 'Alder 4 2034 has no reference any more.');
+  for (const [typed, value, words_] of [['2', 512, 'A typed word is wanted beyond 2 points.'], ['', null, 'A typed word is wanted beyond one point.']]) {
+    points.value = typed;
+    submit(distance);
+    [sent] = desk.heard;
+    assert.deepEqual(sent, {do: 'set distance', distance: value, number: sent.number});
+    desk.answers(sent.number);
+    assert.equal(why(), words_);
+  }
+  points.value = 'x';
+  submit(distance);
+  assert.deepEqual([why(), desk.heard], ['x is no distance: write 0.5 or 1, in points, or nothing for one point.', []]);
+  dialog.close();
+});
+
+test('who leaves is told of live quotes', async () => {
+  answers['/logout'] = {};
+  desk.tells([live('L1', 99, {deadline: clock.at + 600_000})]);
+  const out = () => { at('logout').click(); return desk.socket.isClosed; };
+  const words_ = '1 quote stays live and can be hit. Cancel all, or press Log out again to leave.';
+  out();
+  assert.equal(said(), words_);
+  clock.pass(500);
+  assert.ok(!out(), 'a double click is one press');
+  clock.skip(8001);
+  out();
+  assert.equal(said(), words_, 'the question stands for a while');
+  clock.pass(700);
+  out();
+  await rest();
+  assert.ok(desk.socket.isClosed);
+});

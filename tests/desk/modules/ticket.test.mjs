@@ -1,0 +1,249 @@
+// An investor's ticket: what it reads back, what it says of each fault, what it sends, and a list that is pasted.
+import assert from 'node:assert/strict';
+import test from 'node:test';
+import {button, clock, document, midday, press, type, window, words} from './stand.mjs';
+import {BOND, SECOND, asked, investorHello} from './samples.mjs';
+import {at, desk, seen} from './whole.mjs';
+
+const groups = {rates: ['DLR1', 'DLR3']};
+await desk.open(investorHello({groups}), asked('R0', {state: 'passed', ended: midday - 90_000, dealers: [{name: 'DLR2', answer: 'none'}]}));
+const ticket = at('ticket').querySelector('form');
+const [bond, buy, sell, quantity, deadline] = ['bond', 'buy', 'sell', 'quantity', 'deadline'].map(at);
+const echo = () => words(ticket.querySelector('.echo'));
+const why = () => words(ticket.querySelector(':scope > [role=alert].why:last-child'));
+const submit = () => ticket.dispatchEvent(new window.Event('submit', {bubbles: true, cancelable: true}));
+const fault = name => { const line = at(`${name}-fault`); return seen(line) ? words(line) : ''; };
+const box = name => ticket.querySelector(`input[value=${name}]`);
+const boxes = () => [...ticket.querySelectorAll('.picks input')].filter(one => one.checked).map(one => one.value);
+const leave = node => node.dispatchEvent(new window.FocusEvent('focusout', {bubbles: true}));
+const tick = node => node.click();
+function fill(values = {}) {
+  const {name = 'alder', size = '2m', side = buy} = values;
+  type(bond, name);
+  press(bond, 'Enter');
+  side.checked = true;
+  type(quantity, size);
+  if (!box('DLR1').checked) tick(box('DLR1'));
+}
+
+test('what is missing', () => {
+  assert.deepEqual([boxes(), words(ticket.querySelector('.source'))], [['DLR2'], 'As in your last request']);
+  assert.equal(document.activeElement, bond, 'the keys go where the work begins');
+  assert.equal(echo(), 'Choose a bond, a side, a quantity.');
+  type(quantity, '2m');
+  assert.equal(echo(), 'Choose a bond, a side. The quantity is 2,000,000.');
+  assert.equal(words(button(ticket, 'Ask 1 dealer')), 'Ask 1 dealer');
+  submit();
+  assert.equal(fault('bond'), 'Choose a bond: a part of its name or identifier will do.');
+  assert.deepEqual([bond.getAttribute('aria-invalid'), bond.getAttribute('aria-describedby'), desk.heard], ['true', 'bond-fault', []]);
+  press(ticket, 'Escape');
+  assert.deepEqual([fault('bond'), quantity.value, bond.getAttribute('aria-invalid')], ['', '', null]);
+});
+
+test('a bond that is completed', () => {
+  const list = at('bonds'), options = () => [...list.children].map(words);
+  type(bond, 'b');
+  assert.deepEqual([options(), list.hidden, bond.getAttribute('aria-expanded')], [[`Birch 3 2030${SECOND}`, `Alder 4 2034${BOND}`], false, 'true']);
+  press(bond, 'ArrowDown');
+  assert.equal(bond.getAttribute('aria-activedescendant'), 'bond-1');
+  press(bond, 'ArrowDown');
+  assert.equal(bond.getAttribute('aria-activedescendant'), 'bond-0', 'from the last to the first');
+  press(bond, 'ArrowUp');
+  assert.equal(list.children[1].getAttribute('aria-selected'), 'true');
+  press(bond, 'Enter');
+  assert.deepEqual([bond.value, list.hidden], ['Alder 4 2034', true]);
+  type(bond, '2030 bir');
+  assert.deepEqual(options(), [`Birch 3 2030${SECOND}`]);
+  press(bond, 'Escape');
+  assert.deepEqual([list.hidden, bond.value], [true, '2030 bir']);
+  press(bond, 'ArrowDown');
+  assert.equal(list.hidden, false);
+  bond.dispatchEvent(new window.FocusEvent('blur'));
+  assert.equal(bond.value, 'Birch 3 2030', 'what was typed names one bond');
+  type(bond, 'oak');
+  assert.deepEqual([list.hidden, echo()], [true, 'No bond has \u201coak\u201d in its name or identifier.']);
+  leave(bond);
+  assert.equal(fault('bond'), 'No bond has \u201coak\u201d in its name or identifier.');
+  press(ticket, 'Escape');
+});
+
+test('a side by a key', () => {
+  const sides = ticket.querySelector('.sides');
+  press(sides, 's', {ctrlKey: true});
+  assert.ok(!sell.checked);
+  press(sides, 'S');
+  assert.deepEqual([sell.checked, ticket.dataset.side], [true, 'sell']);
+  press(sides, 'b');
+  assert.deepEqual([buy.checked, sell.checked, ticket.dataset.side], [true, false, 'buy']);
+  press(document.body, 'F2');
+  assert.deepEqual([buy.checked, document.activeElement], [false, bond], 'the side is chosen anew');
+});
+
+test('what it reads back', () => {
+  fill();
+  assert.equal(echo(), 'Buy 2,000,000 Alder 4 2034, answers within 2 min, until 12:02:00 UTC, in steps of 1/256');
+  assert.equal(words(ticket.querySelector('button.strong')), 'Ask 2 dealers');
+  clock.pass(1000);
+  assert.match(echo(), /until 12:02:01 UTC/, 'the time of the end moves on');
+});
+
+test('what is wrong with a quantity or a deadline', () => {
+  type(quantity, '6m');
+  assert.deepEqual([echo(), fault('quantity')], ['6,000,000 is above the limit of 5,000,000 a request.', '']);
+  leave(quantity);
+  assert.equal(fault('quantity'), '6,000,000 is above the limit of 5,000,000 a request.');
+  type(quantity, '2x');
+  assert.deepEqual([echo(), fault('quantity')], ['2x is no quantity: write 2,000,000, 2m or 500k.', ''], 'while it is typed');
+  type(quantity, '5m');
+  for (const [typed, words_] of Object.entries({4: 'A deadline is 5 seconds away at least.', '12:00:01': 'The deadline is after midnight in UTC, when the venue\u2019s day ends.',
+    x: 'A deadline is a time from now: 90 (seconds), 2:00, 5m or 1h.', '25:00:00': 'The deadline is after midnight in UTC, when the venue\u2019s day ends.'})) {
+    type(deadline, typed);
+    assert.equal(echo(), words_, typed);
+  }
+  for (const typed of ['5', '11:59:58']) {
+    type(deadline, typed);
+    assert.match(echo(), /^Buy 5,000,000/, typed);
+  }
+  type(deadline, '');
+  assert.equal(echo(), 'Choose a deadline. The quantity is 5,000,000.');
+  type(deadline, '2:00');
+  const {trader} = investorHello();
+  desk.says({t: 'trader', trader: {...trader, quantity: 5e6 - 1}});
+  type(quantity, '5m');
+  assert.equal(echo(), '5,000,000 is above the limit of 4,999,999 a request.');
+  desk.says({t: 'trader', trader});
+});
+
+test('what it sends', () => {
+  type(quantity, '2m');
+  submit();
+  const [sent] = desk.heard;
+  assert.deepEqual(sent, {do: 'ask', bond: BOND, side: 'buy', quantity: 2e6, seconds: 120, dealers: ['DLR1', 'DLR2'], number: sent.number});
+  assert.ok(ticket.querySelector('button.strong').disabled);
+  desk.answers(sent.number, 'No.');
+  assert.deepEqual([why(), quantity.value, ticket.querySelector('button.strong').disabled], ['No.', '2m', false]);
+  type(deadline, '90');
+  submit();
+  desk.answers(desk.heard[0].number);
+  assert.deepEqual([why(), quantity.value, bond.value, buy.checked, deadline.value, boxes()], ['', '', '', false, '2:00', ['DLR1', 'DLR2']]);
+  assert.equal(localStorage.getItem('dealers INV1 ann'), '["DLR1","DLR2"]');
+});
+
+test('the same is asked twice only by a press more', () => {
+  desk.tells([asked('R1')]);
+  fill();
+  submit();
+  assert.equal(why(), 'The same is open already. Press again to ask a second time.');
+  clock.pass(599);
+  submit();
+  assert.deepEqual(desk.heard, [], 'too soon to be an answer');
+  clock.pass(1);
+  submit();
+  desk.answers(desk.heard[0].number);
+  fill();
+  clock.skip(8001);
+  submit();
+  assert.deepEqual(desk.heard, [], 'the question is asked anew');
+  for (const other of [{name: 'birch'}, {size: '1m'}, {side: sell}]) {
+    fill(other);
+    submit();
+    desk.answers(desk.heard[0].number);
+  }
+});
+
+test('dealers and groups', () => {
+  const pick = name => button(ticket.querySelector('.chips'), name).click();
+  pick('none');
+  assert.deepEqual([boxes(), words(ticket.querySelector('.source'))], [[], '']);
+  fill();
+  tick(box('DLR1'));
+  assert.equal(echo(), 'Choose dealers. The quantity is 2,000,000.');
+  pick('all');
+  assert.deepEqual(boxes(), ['DLR1', 'DLR2', 'DLR3']);
+  pick('rates');
+  assert.deepEqual(boxes(), ['DLR1', 'DLR3']);
+  const name = ticket.querySelector('.group-name'), said = () => words(ticket.querySelector('.dealers > .why'));
+  press(name, 'Enter');
+  assert.deepEqual(desk.heard, []);
+  name.value = ' two ';
+  pick('none');
+  press(name, 'Enter');
+  assert.equal(said(), 'Choose the dealers of the group first.');
+  pick('rates');
+  press(name, 'Enter');
+  let [sent] = desk.heard;
+  assert.deepEqual(sent, {do: 'save group', name: 'two', dealers: ['DLR1', 'DLR3'], number: sent.number});
+  desk.answers(sent.number, 'No.');
+  assert.deepEqual([said(), name.value], ['No.', ' two ']);
+  press(name, 'Enter');
+  desk.answers(desk.heard[0].number);
+  assert.deepEqual([said(), name.value], ['', '']);
+  pick('two');
+  const remover = [...ticket.querySelectorAll('.group')].find(one => words(one).startsWith('two')).lastChild;
+  remover.click();
+  clock.pass(300);
+  remover.click();
+  [sent] = desk.heard;
+  assert.deepEqual(sent, {do: 'save group', name: 'two', dealers: [], number: sent.number});
+  desk.answers(sent.number);
+  assert.equal(button(ticket, 'two'), undefined);
+});
+
+const text = at('lines');
+const lineRows = () => [...ticket.querySelectorAll('.checked tbody tr')].map(row => [...row.children].map(words).join('|'));
+
+test('a list that is pasted', () => {
+  button(ticket, 'Paste a list').click();
+  assert.deepEqual([document.activeElement, at('many').getAttribute('aria-pressed')], [text, 'true']);
+  assert.equal(echo(), 'Choose lines.');
+  type(text, `Bond\tSide\tQuantity\n${BOND}\tbuy\t2m\nbirch, sell, 1,000,000\nb birch 500k\n`);
+  assert.deepEqual(lineRows(), ['1|BUY|2,000,000|Alder 4 2034Look: the same is open already', '2|SELL|1,000,000|Birch 3 2030', '3|BUY|500,000|Birch 3 2030']);
+  assert.equal(echo(), '3 requests: buy 2,500,000 and sell 1,000,000. Answers within 2 min of each request, asked one after the other as the limits allow');
+  assert.equal(words(ticket.querySelector('button.strong')), 'Ask 2 dealers for 3 requests');
+  submit();
+  assert.equal(why(), 'Once more: ask 2 dealers to buy 2,500,000 and sell 1,000,000, in 3 requests.');
+  clock.pass(599);
+  submit();
+  assert.deepEqual(desk.heard, []);
+  clock.pass(1);
+  at('list-name').value = ' mine ';
+  submit();
+  const [sent] = desk.heard;
+  assert.deepEqual(sent, {do: 'ask list', name: 'mine', seconds: 120, dealers: ['DLR1', 'DLR3'], number: sent.number,
+    lines: [{bond: BOND, side: 'buy', quantity: 2e6}, {bond: SECOND, side: 'sell', quantity: 1e6}, {bond: SECOND, side: 'buy', quantity: 5e5}]});
+  desk.answers(sent.number);
+  assert.deepEqual([at('many').getAttribute('aria-pressed'), text.value, at('list-name').value], ['false', '', '']);
+});
+
+test('a list that can not be asked', () => {
+  button(ticket, 'Paste a list').click();
+  const why_ = {'birch b 1m\noak b 1m': 'Line 2: No bond has \u201coak\u201d in its name or identifier.', [Array(51).fill('birch b 1m').join('\n')]: '51 lines: a list has 50 at most.'};
+  for (const [lines, words_] of Object.entries(why_)) {
+    type(text, lines);
+    assert.equal(echo(), words_);
+  }
+  type(text, 'birch b 1m\nalder s 1m');
+  desk.says({...investorHello().session, accepted: 1023});
+  clock.pass(200);
+  assert.equal(echo(), '2 lines, and 1 requests are left of the day.');
+  desk.says({...investorHello().session, accepted: 1022});
+  clock.pass(200);
+  assert.match(echo(), /^2 requests: buy 1,000,000 and sell 1,000,000/);
+  submit();
+  type(text, 'birch b 1m');
+  assert.match(echo(), /^1 request: buy 1,000,000\. /);
+  clock.pass(700);
+  submit();
+  assert.deepEqual([desk.heard, why()], [[], 'Once more: ask 2 dealers to buy 1,000,000, in 1 requests.'], 'other lines are asked about anew');
+  press(text, 'Escape');
+  assert.deepEqual([why(), text.value], ['', 'birch b 1m']);
+  clock.pass(700);
+  submit();
+  assert.match(why(), /^Once more/, 'Escape takes the first press back');
+  clock.skip(8001);
+  submit();
+  assert.deepEqual(desk.heard, [], 'a first press is forgotten');
+  clock.pass(700);
+  submit();
+  assert.match(desk.heard[0].name, /^List \d\d:\d\d:\d\d$/);
+});
