@@ -1,5 +1,7 @@
 #include "common/moment.h"
 
+#include "common/day_end.h"
+
 #include <algorithm>
 #include <ctime>
 
@@ -93,14 +95,24 @@ DayClock::Reading DayClock::read() {
             ExactMoment{(now - day).count()}};
 }
 
-DayClock::Day DayClock::day_of(const Reading &now) {
-    if (now.date == date_) {
-        last_ = now;
-        return Day::goes_on;
+DayClock::Day day_by(const std::string &date, const std::string &now,
+                     std::optional<milliseconds> drift) {
+    if (now == date) {
+        return DayClock::Day::goes_on;
     }
-    const bool came = !last_ || std::chrono::abs((now.time - last_->time) -
-                                                 (now.measured - last_->measured)) <= most_drift;
-    return came && now.date > date_ ? Day::over : Day::set;
+    const bool came = !drift || std::chrono::abs(*drift) <= most_drift;
+    return came && now > date ? DayClock::Day::over : DayClock::Day::set;
+}
+
+DayClock::Day DayClock::day_of(const Reading &now) {
+    const auto drift =
+        last_ ? std::optional((now.time - last_->time) - (now.measured - last_->measured))
+              : std::nullopt;
+    const Day day = day_by(date_, now.date, drift);
+    if (day == Day::goes_on) {
+        last_ = now;
+    }
+    return day;
 }
 
 DayClock::Day DayClock::day() {

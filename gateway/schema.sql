@@ -1,11 +1,12 @@
--- The tables of the gateway's log of one day: what came, what was sent, and the stores of the FIX sessions. SQLite and
+-- The tables of the gateway's log of one day: what came, what the venue gave, and what the FIX sessions did. SQLite and
 -- PostgreSQL share this text. A reader needs SELECT alone; only the gateway writes.
 
 -- The form of these tables: one row, the same in SQLite and PostgreSQL. A gateway of another form refuses the
 -- log, so no day has two. (Forms 1, in SQLite, and 2, in PostgreSQL, had no table connection, and neither
 -- received nor connection in entry. Form 3 had neither seal nor checkpoint, and no venue in entry 0. In form 4
 -- outgoing had each message of a session as it left, and session two numbers. In forms 4 and 5 a checkpoint named neither
--- the one before nor the day's end, and what is sealed and signed began with `mireseason log 4`.)
+-- the one before nor the day's end, and what is sealed and signed began with `mireseason log 4`. Up to form 5 tables
+-- outgoing and session had what each session kept, and its numbers: the gateway read them back.)
 CREATE TABLE form (
     number INTEGER NOT NULL
 );
@@ -95,61 +96,21 @@ CREATE TABLE connection (
     hash        BYTEA   NOT NULL
 );
 
--- This table and the next two are a copy for readers: no gateway reads them, and no seal covers them.
+-- A copy for readers: no gateway reads this table, and no seal covers it. Notes have hashes of what it says.
 --
 -- What the venue gave for a firm: its frame as the venue wrote it, SOH as the byte 0x01. number is the
--- venue's MsgSeqNum (34) to that firm, place that of the entry which it answers. What the venue notes beside it
--- follows from the entries too, and stands in outgoing alone.
+-- venue's MsgSeqNum (34) to that firm, place that of the entry which it answers. On a day with reasons told is the field
+-- that tells the firm what the venue notes beside the message: Text (58), the words of the reason, or TradeID (1003), the
+-- name of the trade. From these columns, and from the firm's session notes, follows each message of the venue as it left
+-- (docs/RECOVERY.md): its number, and all that stands behind the session's header. A row comes in one transaction with the
+-- note that names it, or with an earlier one.
 CREATE TABLE sent (
     firm   TEXT    NOT NULL,
     number INTEGER NOT NULL,
     place  INTEGER NOT NULL,
     bytes  BYTEA   NOT NULL,
+    told   TEXT,             -- TAG=VALUE; NULL where nothing is noted
     PRIMARY KEY (firm, number)
-);
-
--- What each session keeps for its firm: number is the session's MsgSeqNum (34), bytes the message as it is kept: a
--- frame of 35 and of all that stands behind the session's header on the wire, so without 49, 56, 34, 52, 43, 122 and
--- 97. A message of the venue has 1181, 60, and on a day with reasons what is told beside it, as the last field: Text
--- (58), the words of the reason that the venue notes, or TradeID (1003), the name of the trade. sent is the number of
--- the row of `sent` that it carries, NULL in what is the session's own: a Reject (35=3), a BusinessMessageReject (35=j)
--- of a message that the gateway did not take, and an answer (35=0) that had to wait. What else a session says (Logon,
--- Heartbeat, ..) uses up a number and has no row. A row of `sent` and the row that carries it come in one transaction;
--- so do a row of the session's own and the number of the message that it answers.
-CREATE TABLE outgoing (
-    firm    TEXT    NOT NULL,
-    epoch   INTEGER NOT NULL, -- how often an operator had reset the session
-    number  INTEGER NOT NULL,
-    sent    INTEGER,
-    copy    INTEGER NOT NULL, -- 1: it had another number in the epoch before, and was not known to have come
-    dropped INTEGER NOT NULL, -- 1: a 35=3 or 35=j that is kept no longer, since the firm began with 141=Y
-    type    TEXT    NOT NULL, -- 35
-    moment  TEXT    NOT NULL, -- OrigSendingTime (122) of a resend, HH:MM:SS.sss in UTC: of the venue's the moment of
-                              -- its entry, else when it was kept first
-    bytes   BYTEA   NOT NULL,
-    PRIMARY KEY (firm, epoch, number)
-);
-
--- The numbers of each session (docs/SESSIONS.md). A row comes in one transaction with what its numbers count, or with
--- a later one: the number of an entry counts too.
-CREATE TABLE session (
-    firm         TEXT PRIMARY KEY,
-    epoch        INTEGER NOT NULL, -- how often an operator has reset it
-    entries_from INTEGER NOT NULL, -- the last place of entry then: numbers of entries behind it are of this epoch
-    logged_on    INTEGER NOT NULL, -- 1 from its Logon to the end of its session
-    expected     INTEGER NOT NULL, -- the number of the firm's next message
-    next         INTEGER NOT NULL, -- the number of the next message to the firm
-    had          INTEGER NOT NULL, -- the number of the last TestRequest that the firm answered: it has all below it
-    first_given  INTEGER NOT NULL, -- the first number under which a message of the venue is kept, or 0
-    last_given   INTEGER NOT NULL, -- the last of them, or 0
-    last_kept    INTEGER NOT NULL, -- the last number under which anything but an answer is kept, or 0
-    is_one_free  INTEGER NOT NULL, -- 1: number 1 was not used
-    was_taken    INTEGER NOT NULL, -- 1: the venue was given a message of the firm in this epoch
-    is_reset     INTEGER NOT NULL, -- 1: an operator has reset it, and no Logon was accepted since
-    reset_at     BIGINT  NOT NULL, -- when, in milliseconds from the beginning of the calendar, or 0
-    is_locked    INTEGER NOT NULL, -- 1: the firm's engine has lost its store, and no Logon is accepted
-    last_logon   BIGINT  NOT NULL, -- SendingTime (52) of the last Logon that was accepted, as reset_at, or 0
-    is_suspended INTEGER NOT NULL  -- 1: an operator has suspended the firm
 );
 
 -- What no one can make who may write here and has no key of a gateway.

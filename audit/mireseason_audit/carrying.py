@@ -42,7 +42,7 @@ def check_wire(
 def check_notes(log: Log, firm: str, lines: Iterable[bytes]) -> Iterator[Finding]:
     """Holds a firm's session against its sealed notes, by their lines."""
     notes = [note for line in lines if (note := note_of(line.rstrip(b"\n"))) is not None]
-    for finding in misnoted_session(firm, log.outgoing(firm), log.outgoing(firm), notes):
+    for finding in misnoted_session(firm, log.outgoing(firm), notes):
         yield replace(finding, named_items=(items.SESSIONS,))
 
 

@@ -64,7 +64,11 @@ def sum_of(data: bytes) -> int:
 
 def framed(fields: Iterable[tuple[int, bytes]]) -> bytes:
     """The frame of the fields of a body, MsgType (35) first."""
-    body = b"".join(b"%d=%s\x01" % field for field in fields)
+    return frame_of(b"".join(b"%d=%s\x01" % field for field in fields))
+
+
+def frame_of(body: bytes) -> bytes:
+    """The frame of a body, which begins with 35 and ends with an SOH."""
     head = b"8=FIXT.1.1\x019=%d\x01" % len(body) + body
     return head + b"10=%03d\x01" % sum_of(head)
 

@@ -49,9 +49,9 @@ CHECKS = (
         SESSIONS,
         "each message of the venue left once, in order, under a number without a gap, after a "
         "header of 35, 34, 49, 52 and 56, with the body that the gateway makes of it; all others "
-        "are of types that a session sends of itself. Since form 6, what a session keeps is "
-        "compared with its sealed notes: the messages of the venue by their running hash, Rejects "
-        "and BusinessMessageRejects by their fields, number and moment",
+        "are of types that a session sends of itself. Since form 6, what left follows from `sent` and "
+        "from the session's sealed notes: each note has the number that is due, and the running hash "
+        "of the venue's messages up to it",
     ),
     (
         REASONS,

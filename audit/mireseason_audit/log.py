@@ -148,6 +148,14 @@ class Log(Closing):
         for block in self.outgoing_blocks(firm):
             yield from map(Outgoing, itertools.repeat(firm), *block)
 
+    def told_beside(self, firm: str) -> Iterator[tuple[int, bytes]]:
+        """What tells a firm of the notes beside messages of the venue, by their numbers: what has these fields, each with
+        an SOH before it. Not every message need have one.
+        """
+        for row in self.outgoing(firm):
+            if row.sent is not None and not row.copy:
+                yield row.sent, row.bytes
+
     def own_messages(self, firm: str) -> Iterator[Outgoing]:
         """Of a firm's session, those that carry none of the venue."""
         return (row for row in self.outgoing(firm) if row.sent is None)

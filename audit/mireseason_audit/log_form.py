@@ -28,7 +28,9 @@ WITH_EPOCHS = WITH_SEALS | {
     "session": "firm epoch entries_from logged_on expected next had first_given last_given"
     " last_kept is_one_free was_taken is_reset reset_at is_locked last_logon is_suspended",
 }
-WITH_ENDS = WITH_EPOCHS | {
+# What each session keeps, and its numbers, follow from its notes.
+WITH_ENDS = {name: WITH_EPOCHS[name] for name in ("form", "entry", "connection")} | {
+    "sent": "firm number place bytes told",
     "seal": "number term place event notes hash mac",
     "checkpoint": "number term place event seal is_end signature",
 }

@@ -6,8 +6,10 @@ from collections.abc import Iterator, Sequence
 from typing import Any
 
 from .faults import Unreadable
+from .kept_rows import Given, kept_rows, own_rows
 from .log import Log
 from .records import (
+    SOH,
     Carried,
     Checkpoint,
     ConnectionEvent,
@@ -19,6 +21,7 @@ from .records import (
     Outgoing,
     SealRow,
 )
+from .session_notes import RESET, Note, NotesByFirm
 
 DOOR_FORM = 3  # of the tables: since it, a log says who connected
 SEAL_FORM = 4  # since it, it is sealed and signed
@@ -45,6 +48,10 @@ LAST_SEAL = "SELECT place, event FROM seal ORDER BY number DESC LIMIT 1"
 LINES = "SELECT line FROM entry WHERE place > 0 ORDER BY place"
 SENT = "SELECT number, place, bytes FROM sent WHERE firm = ? ORDER BY number"
 OUTGOING = "SELECT number, sent, bytes FROM outgoing WHERE firm = ? ORDER BY number"
+GIVEN = """SELECT sent.number, sent.bytes, told, entry.moment, entry.number FROM sent
+    LEFT JOIN entry ON entry.place = sent.place WHERE sent.firm = ? AND sent.number >= ? ORDER BY sent.number"""
+TOLD = "SELECT number, told FROM sent WHERE firm = ? AND told IS NOT NULL ORDER BY number"
+LAST_CAME = "SELECT max(number) FROM entry WHERE firm = ? AND place > ?"
 KEPT_ROWS = "SELECT number, sent, bytes, epoch, copy, dropped, type, moment FROM outgoing"
 KEPT = KEPT_ROWS + " WHERE firm = ? ORDER BY epoch, number"
 KEPT_OWN = KEPT_ROWS + " WHERE firm = ? AND sent IS NULL ORDER BY epoch, number"
@@ -69,6 +76,7 @@ OUTGOING_TYPES: Types = ({int}, {int, NONE}, {bytes})
 KEPT_TYPES: Types = (*OUTGOING_TYPES, {int}, {int}, {int}, {str}, {str})
 
 Rows = list[tuple[Any, ...]]
+KEPT_AT_A_TIME = 128
 NO_HASH = bytes(32)  # of a row that is not there
 
 
@@ -90,6 +98,11 @@ class SqlLog(Log):
         self.has_door, self.has_seals = form >= DOOR_FORM, form >= SEAL_FORM
         self.has_epochs, self.numbers_checkpoints = form >= EPOCH_FORM, form >= END_FORM
         self.has_notes = form >= END_FORM
+        self._of_firms: NotesByFirm | None = None
+
+    def close(self, failed: bool = False) -> None:
+        if self._of_firms is not None:
+            self._of_firms.close()
 
     def rows(self, query: str, *values: object) -> Iterator[tuple[Any, ...]]:
         """The rows of a query, one by one."""
@@ -201,16 +214,51 @@ class SqlLog(Log):
         return self._messages(SENT, "sent", firm, SENT_TYPES)
 
     def outgoing_blocks(self, firm: str) -> Iterator[Carried]:
+        if self.has_notes:
+            return self._noted(firm)
         if self.has_epochs:
             return self._kept(firm)
         return self._messages(OUTGOING, "outgoing", firm, OUTGOING_TYPES)
 
     def own_messages(self, firm: str) -> Iterator[Outgoing]:
-        if not self.has_epochs:
+        if self.has_notes:
+            yield from own_rows(firm, self.notes_of(firm))
+        elif not self.has_epochs:
             yield from super().own_messages(firm)
+        else:
+            for block in self._kept(firm, KEPT_OWN):
+                yield from map(Outgoing, itertools.repeat(firm), *block)
+
+    def told_beside(self, firm: str) -> Iterator[tuple[int, bytes]]:
+        if not self.has_notes:
+            yield from super().told_beside(firm)
             return
-        for block in self._kept(firm, KEPT_OWN):
-            yield from map(Outgoing, itertools.repeat(firm), *block)
+        for number, told in self.rows(TOLD, firm):
+            check_numbers("sent %s" % firm, number, number)
+            yield number, SOH + bytes_in(told)
+
+    def notes_of(self, firm: str) -> list[Note]:
+        return list(self._notes().of(firm)) if self.has_notes else []
+
+    def _notes(self) -> NotesByFirm:
+        """All, once somebody asks."""
+        if self._of_firms is None:
+            self._of_firms = NotesByFirm(self.seals())
+        return self._of_firms
+
+    def _noted(self, firm: str) -> Iterator[Kept]:
+        """What a firm's session keeps, by its notes."""
+        rows = kept_rows(firm, self.notes_of(firm), lambda number: self._given(firm, number))
+        while block := list(itertools.islice(rows, KEPT_AT_A_TIME)):
+            columns = zip(*(row[1:] for row in block))
+            yield Kept._make(columns)
+
+    def _given(self, firm: str, first: int) -> Iterator[Given]:
+        """What the venue gave for a firm, from a number on."""
+        for number, data, told, moment, came in self.rows(GIVEN, firm, first):
+            check_numbers("sent %s" % firm, number, number, *(() if came is None else (came,)))
+            told = None if told is None else bytes_in(told)
+            yield Given(number, self.bytes_of(data), told, text_or_none(moment), came)
 
     def _kept(self, firm: str, query: str = KEPT) -> Iterator[Kept]:
         """What a firm's session keeps."""
@@ -270,13 +318,32 @@ class SqlLog(Log):
         return found
 
     def targets(self) -> dict[str, int]:
+        if self.has_notes:
+            return {firm: self._expected(firm) for firm in self._notes().firms()}
         found = {}
         for firm, target in self.rows(EXPECTED if self.has_epochs else TARGETS):
             check_numbers("session", as_text(firm), target)
             found[as_text(firm)] = target
         return found
 
+    def _expected(self, firm: str) -> int:
+        """Behind its last note, and behind the last message that came since its last reset."""
+        expected, since = 1, -1
+        for note in self.notes_of(firm):
+            is_reset = note.kind == RESET
+            expected, since = (1, note.last) if is_reset else (note.expected, since)
+        ((last,),) = self.rows(LAST_CAME, firm, since)
+        if last is not None:
+            check_numbers("entry", firm, last)
+        return expected if last is None else max(expected, int(last) + 1)
+
     def epochs(self) -> dict[str, int]:
+        if self.has_notes:
+            resets = {
+                firm: sum(note.kind == RESET for note in self.notes_of(firm))
+                for firm in self._notes().firms()
+            }
+            return resets
         found = {}
         for firm, epoch in self.rows(EPOCHS) if self.has_epochs else ():
             check_numbers("session", as_text(firm), epoch)
@@ -284,7 +351,7 @@ class SqlLog(Log):
         return found
 
     def firms(self) -> set[str]:
-        tables = "sent", "outgoing"
+        tables = ("sent",) if self.has_notes else ("sent", "outgoing")
         queries = [FIRMS.replace("TABLE_", table) for table in tables]
         return {as_text(firm) for query in queries for firm, in self.rows(query)}
 
@@ -320,6 +387,11 @@ def check_numbers(table: str, row: object, *values: object) -> None:
 
 def text_or_none(value: object) -> str | None:
     return None if value is None else as_text(value)
+
+
+def bytes_in(value: object) -> bytes:
+    """The bytes of a text; of what is none, of how it is written."""
+    return as_text(value).encode("utf-8", "backslashreplace")
 
 
 def as_text(value: object) -> str:

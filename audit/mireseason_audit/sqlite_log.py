@@ -118,6 +118,7 @@ class SqliteLog(SqlLog):
             yield "%d bytes after the last page" % more
 
     def close(self, failed: bool = False) -> None:
+        super().close(failed)
         self._connection.close()
 
 

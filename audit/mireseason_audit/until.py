@@ -94,6 +94,10 @@ class UntilLog(Log):
             left = 0 if ends else left
             yield block.picked(range(ends[0] + 1 if ends else len(block.numbers)))
 
+    def told_beside(self, firm: str) -> Iterator[tuple[int, bytes]]:
+        """As they are now: nobody asks for later messages."""
+        return self._log.told_beside(firm)
+
     def line_blocks(self) -> Iterator[list[bytes]]:
         for block in self.entry_blocks():
             lines = [line for place, line in zip(block.places, block.lines) if place > 0]

@@ -2,12 +2,10 @@
 (58), and a trade's name in TradeID (1003). A log of an older gateway has neither.
 """
 
-from collections.abc import Iterator
 from typing import NamedTuple
 
 from .frame import fields_of, text_of
 from .log import Log
-from .records import Outgoing
 
 TEXT, TRADE = b"\x0158=", b"\x011003="
 MOST_KEPT = 8192  # more than one entry brings a firm
@@ -27,18 +25,17 @@ class WireTexts:
     """Goes through a firm's session once, as far as it is asked for."""
 
     def __init__(self, log: Log, firm: str) -> None:
-        self._rows: Iterator[Outgoing] = log.outgoing(firm) if log.has_chain else iter(())
-        self._last = 0  # the venue's number of the last message that was looked at
+        self._told = log.told_beside(firm) if log.has_chain else iter(())
+        self._next: tuple[int, bytes] | None = (0, b"")  # that was not looked at yet
         self._kept: dict[int, WireText] = {}  # of the last ones to which something was added
 
     def of(self, number: int) -> WireText:
         """What was added to the message that carries this number of the venue's: of the last ones
         that were asked for, or of a later one.
         """
-        while self._last < number and (row := next(self._rows, None)) is not None:
-            if row.sent is not None and not row.copy:
-                self._last = row.sent
-                self._keep(row.sent, added_to(row.bytes))
+        while self._next is not None and self._next[0] <= number:
+            self._keep(self._next[0], added_to(self._next[1]))
+            self._next = next(self._told, None)
         return self._kept.get(number, NOTHING)
 
     def _keep(self, number: int, text: WireText) -> None:
@@ -49,7 +46,7 @@ class WireTexts:
 
 
 def added_to(message: bytes) -> WireText:
-    """The two texts of a message on the wire."""
+    """The two texts that stand in a message, or in what tells of them."""
     if TEXT not in message and TRADE not in message:
         return NOTHING
     fields = fields_of(message)

@@ -84,6 +84,7 @@ class Book final : public SessionHost {
     std::uint64_t put(const std::string &, const SessionEvent &event) override {
         ++last_ticket;
         replies += event.replies;
+        notes.insert(notes.end(), event.notes.begin(), event.notes.end());
         if (event.drops_rejects) {
             calls.push_back("drops");
             std::erase_if(
@@ -163,6 +164,7 @@ class Book final : public SessionHost {
     std::vector<std::string> refusals;   // their words
     std::vector<std::string> climbs;     // FIRM FROM TO REFUSED
     std::vector<std::string> calls;
+    std::vector<SessionNote> notes; // that are written, in their order
     std::map<std::uint32_t, KeptMessage> kept;
     std::vector<std::size_t> reads;             // of what is kept, and how many each could have
     std::function<void()> happens_at_next_read; // before what was read is back

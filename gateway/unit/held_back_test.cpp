@@ -109,6 +109,18 @@ TEST_CASE("a connection that ends meanwhile") {
     check_calls({"3 AI again"}, talk.ear.heard(), "what it is sent");
 }
 
+// So that a gateway that starts again knows a later Logon from one that is said again.
+TEST_CASE("the note of a Logon says when that was sent") {
+    Scene scene;
+    Talk talk(scene);
+    talk.settle();
+    const auto logon = std::find_if(scene.book.notes.begin(), scene.book.notes.end(),
+                                    [](const SessionNote &note) { return note.kind == 'A'; });
+    check(logon != scene.book.notes.end(), "it has no note");
+    check(logon->last_logon != 0, "no moment");
+    same(scene.book.numbers.last_logon, logon->last_logon, "the moment that the session keeps");
+}
+
 } // namespace
 
 } // namespace gateway::tests

@@ -131,6 +131,36 @@ TEST_CASE("lines") {
     }
 }
 
+TEST_CASE("each event is a line, and is counted") {
+    std::ostringstream written;
+    auto events = std::make_shared<spdlog::logger>(
+        "test", std::make_shared<spdlog::sinks::ostream_sink_mt>(written));
+    events->set_pattern("%l %v");
+    Metrics metrics;
+    OperatorEvents told(metrics, events);
+    told.refused("no request", "a\nb");
+    told.dropped("no message", "");
+    told.may_have_lost_store("DLR1", NumberClimb{1, 92, 91});
+    told.logon_refused("DLR1", {"192.0.2.1:7", "", false}, "wrong password");
+    told.stranger({"192.0.2.1:7", "CN", true}, "no firm", "x");
+    told.delivered(Delivery());
+    same<std::string>(
+        "warning refused what=\"no request\" text=\"a?b\"\n"
+        "warning dropped what=\"no message\"\n"
+        "warning may have lost its store from=1 to=92 refused=91 firm=DLR1\n"
+        "warning refused what=\"wrong password\" firm=DLR1 address=192.0.2.1:7\n"
+        "warning refused what=\"no firm\" address=192.0.2.1:7 certificate=\"CN\" text=\"x\"\n",
+        written.str(), "lines");
+    const std::string counts = metrics.text();
+    for (const char *line : {"mireseason_refused_total{reason=\"no request\"} 1\n",
+                             "mireseason_refused_total{reason=\"wrong password\"} 1\n",
+                             "mireseason_refused_total{reason=\"no firm\"} 1\n",
+                             "mireseason_dropped_total{reason=\"no message\"} 1\n",
+                             "mireseason_handed_over_seconds_count 1\n"}) {
+        check(counts.find(line) != std::string::npos, line);
+    }
+}
+
 } // namespace
 
 } // namespace gateway::tests

@@ -86,21 +86,11 @@ void check_chain(LogReader &reader, std::uint32_t count) {
 constexpr std::uint32_t threads = 4;
 constexpr std::uint32_t messages = 200;
 
-// The session's message that carries the venue's of this number, and its numbers from then on.
-Log::SessionChange carrying(const std::string &firm, std::uint32_t number) {
-    Log::SessionChange change;
-    change.row.firm = firm;
-    change.row.numbers.expected = number + 1;
-    change.row.numbers.next = number + 2;
-    Outgoing &kept = change.kept.emplace();
-    kept.firm = firm;
-    kept.number = number + 1;
-    kept.sent = number;
-    kept.type = "AI";
-    kept.moment = "09:00:00.000";
-    kept.bytes = "wire";
-    change.carried = Sent{firm, number, number, "frame"};
-    return change;
+// A session was given the venue's message of this number; every other one tells the firm something.
+Log::SessionChange given(const std::string &firm, std::uint32_t number) {
+    const bool tells = number % 2 == 0;
+    const auto told = tells ? std::optional<std::string>("58=too late") : std::nullopt;
+    return {firm, Sent{firm, number, number, "frame", told}};
 }
 
 // Every other thread commits itself, three messages at a time, and leaves the last ones to the log.
@@ -112,7 +102,7 @@ void write_from(Log &log, std::uint32_t thread) {
         if (committer == Log::Committer::caller && number % 3 == 0) {
             log.commit();
         }
-        log.put(carrying(firm, number));
+        log.put(given(firm, number));
     }
 }
 
@@ -220,8 +210,7 @@ TEST_CASE("what is said in a firm's name stays in front of what comes to the log
     DayThatGoesOn day(*database);
     const auto read = std::chrono::system_clock::now();
     const auto say = [&](std::uint32_t number, std::string_view frame) {
-        const SessionRow row{"F", 0, 0, true, {}};
-        check(day.log.append_at_once("F", {number, 1, read}, frame, row, Log::Turn()).has_value(),
+        check(day.log.append_at_once("F", {number, 1, read}, frame, Log::Turn()).has_value(),
               "the log has no room");
     };
     say(1, "1");
@@ -380,9 +369,9 @@ std::uint32_t counted(const std::filesystem::path &folder, const std::string &ro
 // What no gateway reads.
 void check_copy(const std::filesystem::path &folder) {
     same(threads * messages, counted(folder, "sent WHERE place = number"), "messages");
-    same(threads * messages, counted(folder, "outgoing WHERE sent = number - 1"), "what is kept");
-    same(threads, counted(folder, fmt::format("session WHERE expected = {}", messages + 1)),
-         "sessions");
+    same(threads * messages / 2, counted(folder, "sent WHERE told = '58=too late'"),
+         "what is told");
+    same(threads * messages / 2, counted(folder, "sent WHERE told IS NULL"), "nothing is told");
 }
 
 // The gateway before may have put some of them there.
@@ -390,13 +379,11 @@ void a_copy_again(Database &database, const std::filesystem::path &folder) {
     Batch batch;
     batch.is_repeated = true;
     for (const std::uint32_t number : {messages, messages + 1}) {
-        batch.sent.push_back({"F1", number, number, "frame"});
-        batch.outgoing.push_back(
-            {"F1", 0, number + 1, number, false, false, "AI", "09:00:00.000", "wire"});
+        batch.sent.push_back({"F1", number, number, "frame", "1003=1"});
     }
     database.writer()->commit(batch);
     same(threads * messages + 1, counted(folder, "sent"), "messages, each once");
-    same(threads * messages + 1, counted(folder, "outgoing"), "what is kept, each once");
+    same(1U, counted(folder, "sent WHERE told = '1003=1'"), "the one that was not there");
 }
 
 // A day that many threads have written.

@@ -40,11 +40,11 @@ void is_refused(const std::string &line, const std::string &words) {
 }
 
 TEST_CASE("what firms are told") {
-    same<std::string>("58=the request has ended|", told("why DLR1 7 Closed"), "a reason");
-    same<std::string>("58=too late|", told("why DLR1 7 Lifted"), "another");
-    same<std::string>("1003=20250314-INV1-DLR1-12|", told("trade DLR1 7 20250314-INV1-DLR1-12"),
+    same<std::string>("58=the request has ended", told("why DLR1 7 Closed"), "a reason");
+    same<std::string>("58=too late", told("why DLR1 7 Lifted"), "another");
+    same<std::string>("1003=20250314-INV1-DLR1-12", told("trade DLR1 7 20250314-INV1-DLR1-12"),
                       "a trade of a dealer");
-    same<std::string>("1003=20250314-DLR1-B-1|", told("trade DLR1 7 20250314-DLR1-B-1"),
+    same<std::string>("1003=20250314-DLR1-B-1", told("trade DLR1 7 20250314-DLR1-B-1"),
                       "a trade of an investor");
 }
 

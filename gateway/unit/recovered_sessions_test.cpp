@@ -112,12 +112,11 @@ TEST_CASE("a day") {
     same<std::string>("2:wire 1 3:" + own + " 4:wire 2", scene.kept(), "what is kept");
     same<std::uint32_t>(nine + 1, scene.spool.kept("DLR1", 2, 1).at(0).first, "an entry's moment");
     same<std::uint32_t>(nine, scene.spool.kept("DLR1", 3, 1).at(0).first, "its own moment");
-    const SessionNumbers &numbers = state.session.numbers;
+    const SessionNumbers &numbers = state.numbers;
     check(numbers.expected == 3 && numbers.next == 5 && !numbers.is_one_free, "its numbers");
     check(numbers.last_logon == 77 && numbers.was_taken, "its Logon, and its message");
     check(state.entries == 1 && state.given == 2, "how much came and was given");
-    same<std::size_t>(1, state.unnoted.size(), "messages that no note names");
-    check(state.unnoted[0].given == 2 && state.unnoted[0].number == 4, "the last one");
+    check(state.noted == 1 && state.given == 2, "no note names the last message");
 }
 
 TEST_CASE("a note waits for what it names") {
@@ -152,7 +151,7 @@ TEST_CASE("a release waits for its act") {
     check(scene.notes.front() == text_of(release), "the act was not fed yet");
     scene.feed(0, "# act 09:00:00.000 root(0) release DLR1");
     const FirmState state = scene.finished();
-    check(!state.session.numbers.is_locked && state.act == 1, "it is released");
+    check(!state.numbers.is_locked && state.act == 1, "it is released");
 }
 
 TEST_CASE("a reset numbers anew what the firm has not had") {
@@ -171,8 +170,8 @@ TEST_CASE("a reset numbers anew what the firm has not had") {
     scene.feed(2); // and behind
     const FirmState state = scene.finished();
     same<std::string>("2':wire 2", scene.kept(), "the copy");
-    check(state.session.epoch == 1 && state.session.entries_from == 3, "the reset");
-    check(state.session.numbers.next == 3 && state.session.numbers.expected == 3, "its numbers");
+    check(state.epoch == 1, "the reset");
+    check(state.numbers.next == 3 && state.numbers.expected == 3, "its numbers");
 }
 
 TEST_CASE("141=Y keeps no Reject") {
@@ -230,9 +229,9 @@ TEST_CASE("what does not fit is refused, with the firm and the note") {
 TEST_CASE("who is suspended, and how much came") {
     Scene scene;
     scene.feed(0, "# act 09:00:00.000 root(0) suspend DLR1");
-    check(scene.finished().session.numbers.is_suspended, "by the last act");
+    check(scene.finished().numbers.is_suspended, "by the last act");
     scene.feed(0, "# act 09:00:00.000 root(0) resume DLR1");
-    check(!scene.finished().session.numbers.is_suspended, "and no more");
+    check(!scene.finished().numbers.is_suspended, "and no more");
 }
 
 TEST_CASE("more notes than are read at once") {
@@ -244,7 +243,7 @@ TEST_CASE("more notes than are read at once") {
             scene.go_on();
         }
     }
-    same<std::uint32_t>(4001, scene.finished().session.numbers.next, "the next number");
+    same<std::uint32_t>(4001, scene.finished().numbers.next, "the next number");
 }
 
 } // namespace gateway::tests

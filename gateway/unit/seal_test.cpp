@@ -378,10 +378,7 @@ void put_notes(const Place &place, const std::vector<std::string> &notes) {
     Metrics metrics;
     EntryFeed feed{begin.last.place};
     Log log(*database, feed, clock, metrics, std::move(begin), [](const std::string &) {});
-    Log::SessionChange change;
-    change.row.firm = "F";
-    change.notes = notes;
-    log.wait(log.put(std::move(change)));
+    log.wait(log.put({"F", {}, notes}));
 }
 
 // They are sealed as entries are: no start takes others.

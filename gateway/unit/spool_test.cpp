@@ -75,15 +75,36 @@ TEST_CASE("more than is read at once") {
     same<std::uint64_t>(2990, scene.spool.count_given("DLR1", 30), "how many");
 }
 
+// What was put last is in memory alone, and is found there as the rest is in the files.
+TEST_CASE("all is found at each length") {
+    Scene scene;
+    const std::string long_text(700, 'x');
+    for (std::uint32_t number = 1; number <= 200; ++number) {
+        scene.give(number, long_text + std::to_string(number));
+        scene.keep(2 * number, number);
+        scene.keep(2 * number + 1, 0);
+        const auto kept = scene.spool.kept("DLR1", 2, 1000);
+        same<std::size_t>(std::size_t{2} * number, kept.size(), "all");
+        same(long_text + std::to_string(number), kept.at(kept.size() - 2).frame, "the last one");
+        same<std::string>(long_text + "1", kept.at(0).frame, "the first one");
+        same(fmt::format("frame of {}{}", long_text, number),
+             scene.spool.given("DLR1", number).frame, "the venue's frame");
+    }
+    scene.spool.drop_rejects("DLR1", 151);
+    same<std::size_t>(200 + 74, scene.spool.kept("DLR1", 2, 1000).size(), "without some");
+    same<std::size_t>(1 + 126, scene.spool.kept("DLR1", 149, 1000).size(), "from there on");
+}
+
 TEST_CASE("a venue that gives again gives the same") {
     Scene scene;
-    GivenMessage first{1, 5, 1001, "AI", "quote 1", "frame of quote 1"};
+    const GivenMessage first{1, 5, 1001, "AI", "quote 1", "frame of quote 1", "58=too late"};
     const auto hash = scene.spool.give("DLR1", first);
     check(hash == scene.spool.hash_of_given("DLR1", 1), "the running hash");
     check(!scene.spool.give("DLR1", first), "it is given again");
     same<std::uint32_t>(1, scene.spool.last_given("DLR1"), "how many");
     const GivenMessage found = scene.spool.given("DLR1", 1);
-    check(found.wire == first.wire && found.frame == first.frame && found.place == 5,
+    check(found.wire == first.wire && found.frame == first.frame && found.told == first.told &&
+              found.place == 5,
           "the message");
     const auto is_another = [&](const GivenMessage &other) {
         CHECK_THROWS_WITH(scene.spool.give("DLR1", other),

@@ -85,7 +85,7 @@ void one_speaks(Schema &schema) {
     check(other.find("term 2 is over") != std::string::npos, "an entry of another term: " + other);
     // What is given for an entry is committed without a seal, and in a table that has no term.
     Batch given;
-    given.sent.push_back({"F", 1, 0, "35=AI"});
+    given.sent.push_back({"F", 1, 0, "35=AI", {}});
     schema.run("UPDATE speaker SET term = term + 1");
     const std::string old = thrown_by([&] { writer->commit(given); });
     check(old.find("term 1 is over") != std::string::npos, "messages alone in an old term: " + old);
@@ -184,33 +184,37 @@ void hangs_in_a_transaction(Schema &schema) {
     next->writer()->commit(batch_of(3, 5));
 }
 
-// A table that is locked for a while: whoever wants it is at work until then.
-class LockedTable {
+// A row that is about to be there: whoever puts the same one is at work until it is known. (A
+// gateway's role may lock no table of the log.)
+class HalfPutRow {
   public:
-    LockedTable(const Schema &schema, const std::string &table)
-        : connection_(schema.text()), lock_(std::make_unique<pqxx::work>(connection_)) {
-        lock_->exec(fmt::format("LOCK TABLE {}.{}", schema.name(), table));
+    explicit HalfPutRow(const Schema &schema)
+        : connection_(schema.text()), work_(std::make_unique<pqxx::work>(connection_)) {
+        work_->exec(fmt::format("SET search_path TO {}", schema.name()));
+        work_->exec(put);
     }
-    void release() { lock_.reset(); }
+    void take_back() { work_.reset(); }
+
+    static constexpr const char *put = "INSERT INTO checkpoint VALUES (1, 0, 0, 0, 0, 0, '')";
 
   private:
     pqxx::connection connection_;
-    std::unique_ptr<pqxx::work> lock_;
+    std::unique_ptr<pqxx::work> work_;
 };
 
 // Its server is at work when it is looked at, and it hangs after that.
 void hangs_behind_its_work(Schema &schema) {
     Hanging hanging(schema, 6);
-    LockedTable table(schema, "session");
-    auto done = std::async(std::launch::async, [&] { hanging.run("LOCK TABLE session"); });
+    HalfPutRow row(schema);
+    auto done = std::async(std::launch::async, [&] { hanging.run(HalfPutRow::put); });
     const std::string waits =
-        "SELECT FROM pg_locks WHERE relation = 'session'::regclass AND NOT granted";
+        "SELECT FROM pg_locks WHERE locktype = 'transactionid' AND NOT granted";
     while (schema.run(waits) == 0) {
         check(done.wait_for(10ms) != std::future_status::ready, "it is not at work");
     }
     const auto next = next_of(schema);
     check(!next->take_over(), "a gateway takes over from one whose server is at work");
-    table.release();
+    row.take_back();
     done.get();
     same(7U, term_of(*next), "the term after a gateway that hangs after its work");
     next->writer()->commit(batch_of(4, 7));

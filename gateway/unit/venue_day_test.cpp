@@ -103,11 +103,10 @@ void end_venue(const std::filesystem::path &folder) {
     }
 }
 
-// Whether the first message of the session carries the venue's first one.
+// Whether the venue's first message is where readers look.
 bool is_stored(const Config &config) {
     const auto connection = sqlite::connect(config.sqlite.string(), SQLITE_OPEN_READONLY);
-    sqlite::Statement row(connection.get(),
-                          "SELECT sent FROM outgoing WHERE firm = 'F' AND number = 2");
+    sqlite::Statement row(connection.get(), "SELECT number FROM sent WHERE firm = 'F'");
     return row.step() && row.number(0) == 1;
 }
 
@@ -126,7 +125,7 @@ void given_again_before_sessions(const std::filesystem::path &folder) {
     engine.add(leader->session_starts());
     leader->start();
     const bool stored = is_stored(config);
-    check(stored, "what was sent before has no number yet");
+    check(stored, "what was sent before is not where readers look");
     check(!status.failure(), status.failure().value_or(""));
 }
 

@@ -23,9 +23,22 @@ TOLD = {"why": "58", "trade": "1003"}  # the fields that tell what is noted besi
 SECRET = hashlib.sha256(b"the secret of the gateways of drawn days").digest()
 KEY = Ed25519PrivateKey.from_private_bytes(hashlib.sha256(b"and what one signs with").digest())
 SEALED = 40  # entries from one seal to the next
-# Before form 5 a log had all that a session sent, as it stood on the wire.
-OLD_SESSIONS = """DROP TABLE outgoing; DROP TABLE session;
-    CREATE TABLE outgoing (firm TEXT NOT NULL, number INTEGER NOT NULL, sent INTEGER,
+# Before form 6 a log had what sessions keep, and where they stood.
+OLD_SENT = """DROP TABLE sent;
+    CREATE TABLE sent (firm TEXT NOT NULL, number INTEGER NOT NULL, place INTEGER NOT NULL,
+        bytes BYTEA NOT NULL, PRIMARY KEY (firm, number));"""
+SESSIONS = """CREATE TABLE outgoing (firm TEXT NOT NULL, epoch INTEGER NOT NULL,
+        number INTEGER NOT NULL, sent INTEGER, copy INTEGER NOT NULL, dropped INTEGER NOT NULL,
+        type TEXT NOT NULL, moment TEXT NOT NULL, bytes BYTEA NOT NULL,
+        PRIMARY KEY (firm, epoch, number));
+    CREATE TABLE session (firm TEXT PRIMARY KEY, epoch INTEGER NOT NULL,
+        entries_from INTEGER NOT NULL, logged_on INTEGER NOT NULL, expected INTEGER NOT NULL,
+        next INTEGER NOT NULL, had INTEGER NOT NULL, first_given INTEGER NOT NULL,
+        last_given INTEGER NOT NULL, last_kept INTEGER NOT NULL, is_one_free INTEGER NOT NULL,
+        was_taken INTEGER NOT NULL, is_reset INTEGER NOT NULL, reset_at BIGINT NOT NULL,
+        is_locked INTEGER NOT NULL, last_logon BIGINT NOT NULL, is_suspended INTEGER NOT NULL);"""
+# Before form 5 it had all that a session sent, as it stood on the wire.
+OLD_SESSIONS = """CREATE TABLE outgoing (firm TEXT NOT NULL, number INTEGER NOT NULL, sent INTEGER,
         bytes BYTEA NOT NULL, PRIMARY KEY (firm, number));
     CREATE TABLE session (firm TEXT PRIMARY KEY, target INTEGER NOT NULL,
         logged_on INTEGER NOT NULL);"""
@@ -37,10 +50,11 @@ OLD_CHECKPOINTS = """DROP TABLE checkpoint;
 OLD_SEALS = """DROP TABLE seal;
     CREATE TABLE seal (number INTEGER PRIMARY KEY, term INTEGER NOT NULL, place INTEGER NOT NULL,
         event INTEGER NOT NULL, mac BYTEA NOT NULL);"""
+UNSEALED = "DROP TABLE seal; DROP TABLE checkpoint;"
 TABLES = {
-    3: "DROP TABLE seal; DROP TABLE checkpoint; UPDATE form SET number = 3;" + OLD_SESSIONS,
-    4: "UPDATE form SET number = 4;" + OLD_SEALS + OLD_CHECKPOINTS + OLD_SESSIONS,
-    5: "UPDATE form SET number = 5;" + OLD_SEALS + OLD_CHECKPOINTS,
+    3: "UPDATE form SET number = 3;" + UNSEALED + OLD_SENT + OLD_SESSIONS,
+    4: "UPDATE form SET number = 4;" + OLD_SEALS + OLD_CHECKPOINTS + OLD_SENT + OLD_SESSIONS,
+    5: "UPDATE form SET number = 5;" + OLD_SEALS + OLD_CHECKPOINTS + OLD_SENT + SESSIONS,
     6: "",
 }
 
@@ -292,6 +306,8 @@ class Ledger:
         self.session_message(firm, "5", moment, [])
         self.end_connection(firm, moment, "the firm has closed it")
         session = self.sessions[firm]
+        if self.form > 5:
+            return
         if self.form < 5:
             row = (firm, session.came + 1)
             self.database.execute("INSERT INTO session VALUES (?, ?, 0)", row)
@@ -350,11 +366,12 @@ class Ledger:
         elif carried is not None or is_kept:
             session.kept.append(number)
             session.given += [] if carried is None else [number]
-            query = "INSERT INTO outgoing (firm, epoch, number, sent, copy, dropped, type, moment,"
-            query += " bytes) VALUES (?, 0, ?, ?, 0, 0, ?, ?, ?)"
             kept = frame([("35", kind), *body])
-            values = (firm, number, carried, kind, time_text(moment), kept)
-            self.database.execute(query, values)
+            if self.form == 5:
+                query = "INSERT INTO outgoing (firm, epoch, number, sent, copy, dropped, type,"
+                query += " moment, bytes) VALUES (?, 0, ?, ?, 0, 0, ?, ?, ?)"
+                values = (firm, number, carried, kind, time_text(moment), kept)
+                self.database.execute(query, values)
             if carried is not None:
                 text = "%s %d\n" % (session.messages_hash.hex(), len(kept))
                 session.messages_hash = hashlib.sha256(text.encode() + kept).digest()
@@ -397,8 +414,12 @@ class Ledger:
         """A message of the venue, with what is noted beside it, and the session's that carries it."""
         session = self.sessions[firm]
         session.messages += 1
-        row = (firm, session.messages, place, data)
-        self.database.execute("INSERT INTO sent VALUES (?, ?, ?, ?)", row)
+        told = [] if note is None else [(TOLD[note[0]], reasons().get(note[1], note[1]))]
+        row: tuple[object, ...] = (firm, session.messages, place, data)
+        if self.form > 5:
+            row = *row, "%s=%s" % told[0] if told else None
+        query = "INSERT INTO sent VALUES (%s)" % ", ".join("?" * len(row))
+        self.database.execute(query, row)
         fields = fields_of(data)
         kind, own, time = fields[2][1], fields[5][1], fields[6][1]
         body: Fields = [("1181", own)]
@@ -408,8 +429,7 @@ class Ledger:
             body.append((tag, str(answered) if kind == "3" and tag == "45" else value))
         if "60" not in dict(body):
             body.append(("60", time))
-        if note is not None:
-            body.append((TOLD[note[0]], reasons().get(note[1], note[1])))
+        body += told
         self.session_message(firm, kind, moment + 1, body, session.messages)
 
     def close(self) -> None:

@@ -4,6 +4,8 @@ finds it, and in which words. After each, all chains are made anew.
 `reworded(line, old, new)` changes a message that came, with the sum at its end.
 """
 
+from tests.audit.ledger import SESSIONS
+
 BARE, KEYS, SEAL, NOTHING = "the log alone", "a gateway's key", "a seal", "nothing here"
 MADE_ANEW = "ALTER TABLE sent RENAME TO old; CREATE TABLE sent (%s); INSERT INTO sent SELECT * FROM old; DROP TABLE old"
 ENTRY_0 = (
@@ -14,12 +16,11 @@ LAST_OF_ALPHA = "(SELECT max(place) FROM entry WHERE firm = 'ALPHA')"
 OLDER = (  # the tables of form 5
     "ALTER TABLE checkpoint DROP COLUMN is_end; ALTER TABLE checkpoint DROP COLUMN seal;"
     "ALTER TABLE seal DROP COLUMN notes; ALTER TABLE seal DROP COLUMN hash;"
-    "UPDATE form SET number = 5"
+    "ALTER TABLE sent DROP COLUMN told;" + SESSIONS + "UPDATE form SET number = 5"
 )
 FIRST = "checkpoint 1 is signed by none"
 SECOND = "checkpoint 2 is signed by none"
 DEFINED = "no gateway makes this: another definition of table sent"
-RESET = "ALPHA: its session says 1 reset, and the log has 0"
 
 MORE = {
     # Who it was, and when.
@@ -116,16 +117,6 @@ MORE = {
         KEYS,
         SECOND,
     ),
-    "a reset that nobody ordered": (
-        "UPDATE session SET epoch = 1 WHERE firm = 'ALPHA'",
-        BARE,
-        RESET,
-    ),
-    "the end of a session behind such a reset": (
-        "UPDATE outgoing SET epoch = 1 WHERE firm = 'ALPHA' AND sent > 20",
-        BARE,
-        RESET,
-    ),
     # What gateways signed.
     "a checkpoint's term": ("UPDATE checkpoint SET term = 1 WHERE number = 2", KEYS, SECOND),
     "a checkpoint's entry": (
@@ -150,34 +141,8 @@ MORE = {
         "",
     ),
     # What sessions keep.
-    "what kind a kept message is of": (
-        "UPDATE outgoing SET type = '8' WHERE type = 'S'",
-        BARE,
-        "its 35 is not 8",
-    ),
-    "a kept message as a copy": (
-        "UPDATE outgoing SET copy = 1 WHERE sent = 3",
-        BARE,
-        "it is a copy of nothing",
-    ),
-    "a kept message as dropped": (
-        "UPDATE outgoing SET dropped = 1 WHERE sent = 3",
-        BARE,
-        "and a session drops no such message",
-    ),
-    "a Reject that never was": (
-        "INSERT INTO outgoing SELECT firm, epoch, (SELECT max(number) + 1 FROM outgoing o WHERE o.firm ="
-        " outgoing.firm), NULL, 0, 0, type, moment, bytes FROM outgoing WHERE type = '3' AND firm = 'ALPHA'",
-        BARE,
-        "of its session is none that was sealed",
-    ),
-    "numbers of what left": (
-        "UPDATE outgoing SET number = number + 1000 WHERE firm = 'ALPHA' AND number > 20",
-        BARE,
-        "of its session is none that was sealed",
-    ),
     "a message to nobody": (
-        "INSERT INTO sent SELECT 'ZULU', number, place, bytes FROM sent WHERE firm = 'ALPHA' AND number = 1",
+        "INSERT INTO sent SELECT 'ZULU', number, place, bytes, told FROM sent WHERE firm = 'ALPHA' AND number = 1",
         BARE,
         "the configuration has no such firm",
     ),
@@ -190,36 +155,36 @@ MORE = {
     "a row that is there already is left out": (
         MADE_ANEW
         % "firm TEXT NOT NULL, number INTEGER NOT NULL, place INTEGER NOT NULL, bytes BYTEA NOT NULL,"
-        " PRIMARY KEY (firm, number) ON CONFLICT IGNORE",
+        " told TEXT, PRIMARY KEY (firm, number) ON CONFLICT IGNORE",
         BARE,
         DEFINED,
     ),
     "a constraint": (
         MADE_ANEW
         % "firm TEXT NOT NULL, number INTEGER NOT NULL, place INTEGER NOT NULL CHECK (place < 1000),"
-        " bytes BYTEA NOT NULL, PRIMARY KEY (firm, number)",
+        " bytes BYTEA NOT NULL, told TEXT, PRIMARY KEY (firm, number)",
         BARE,
         DEFINED,
     ),
     "a collation": (
         MADE_ANEW
         % "firm TEXT COLLATE NOCASE, number INTEGER NOT NULL, place INTEGER NOT NULL, bytes BYTEA NOT NULL,"
-        " PRIMARY KEY (firm, number)",
+        " told TEXT, PRIMARY KEY (firm, number)",
         BARE,
         DEFINED,
     ),
     "a default": (
         MADE_ANEW
         % "firm TEXT NOT NULL, number INTEGER NOT NULL, place INTEGER DEFAULT 7, bytes BYTEA NOT NULL,"
-        " PRIMARY KEY (firm, number)",
+        " told TEXT, PRIMARY KEY (firm, number)",
         BARE,
         DEFINED,
     ),
     "a key that is none": (
-        MADE_ANEW % "firm TEXT, number INTEGER, place INTEGER, bytes BYTEA"
-        + "; INSERT INTO sent SELECT firm, number, place, x'00' FROM sent WHERE number = 2 AND firm = 'ALPHA'",
+        MADE_ANEW % "firm TEXT, number INTEGER, place INTEGER, bytes BYTEA, told TEXT"
+        + "; INSERT INTO sent SELECT firm, number, place, x'00', NULL FROM sent WHERE number = 2 AND firm = 'ALPHA'",
         BARE,
-        "carries number 3 where 2 comes next",
+        "it does not begin as a frame of FIXT.1.1",
     ),
     "who speaks, in a file": (
         "CREATE TABLE speaker (one INTEGER, term INTEGER, gateway TEXT, backend INTEGER, began TEXT, seen TEXT)",

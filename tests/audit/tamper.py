@@ -262,7 +262,8 @@ class Tamperer:
         """A message behind a firm's last."""
         firm, number, place, data = self.some_sent()
         last = self.rows("SELECT max(number) FROM sent WHERE firm = ?", firm)[0][0]
-        self.do("INSERT INTO sent VALUES (?, ?, ?, ?)", firm, last + 1, place, data)
+        query = "INSERT INTO sent (firm, number, place, bytes) VALUES (?, ?, ?, ?)"
+        self.do(query, firm, last + 1, place, data)
         pattern = r"%s: entry %d, number %d: the log has a message that the venue does not give"
         return Change("a message put in for %s" % firm, pattern % (firm, place, last + 1))
 
@@ -365,6 +366,9 @@ KINDS: list[Kind] = [
     Tamperer.sent_swapped,
     Tamperer.sent_of_another,
     Tamperer.sent_added,
+]
+# Of what sessions kept in tables of their own, before form 6.
+SESSION_KINDS: list[Kind] = [
     Tamperer.outgoing_byte,
     Tamperer.outgoing_byte,
     Tamperer.outgoing_out,

@@ -64,8 +64,6 @@ class Day:
                 "DELETE FROM seal WHERE place > %d" % place,
                 "DELETE FROM entry WHERE place > %d" % place,
                 "DELETE FROM connection WHERE place > %d" % event,
-                "DELETE FROM outgoing WHERE sent IN (SELECT number FROM sent WHERE"
-                " sent.firm = outgoing.firm AND place > %d)" % place,
                 "DELETE FROM sent WHERE place > %d" % place,
             ):
                 connection.execute(query)
@@ -298,7 +296,7 @@ def test_when_a_day_is_over() -> None:
         ("CREATE TABLE more (x)", "table more"),
         ("CREATE VIRTUAL TABLE words USING fts5(word)", "table words"),
         ("CREATE INDEX i ON sent (place)", "index i of sent"),
-        ("ALTER TABLE sent ADD COLUMN told TEXT", "column told of sent"),
+        ("ALTER TABLE sent ADD COLUMN more TEXT", "column more of sent"),
         ("PRAGMA user_version = 7", "user_version 7"),
     ],
 )

@@ -115,34 +115,22 @@ SCRIPTS = {  # what is done to the log, and what finds it
         "the session notes of seal 2",
     ),
     "a seal's mac": ("UPDATE seal SET mac = zeroblob(32)", NOTHING, ""),
-    "a Reject taken out": (
-        "DELETE FROM outgoing WHERE type = 'j'",
+    "what a firm was told": (
+        "UPDATE sent SET told = '58=too late' WHERE firm = 'ALPHA' AND number = 3",
         BARE,
-        "of its session was sealed, and is not kept",
+        "of its session carries another text",
     ),
-    "a Reject that is dropped": (
-        "UPDATE outgoing SET dropped = 1 WHERE type = '3'",
+    "a message under another number of the venue": (
+        "UPDATE sent SET number = number + 1 WHERE firm = 'ALPHA' AND number ="
+        " (SELECT max(number) FROM sent WHERE firm = 'ALPHA')",
         BARE,
-        "of its session is none that was sealed",
+        "where",
     ),
-    "when a message was kept": (
-        "UPDATE outgoing SET moment = '23:59:59.999'",
+    "the form": (
+        ledger.SESSIONS + "UPDATE form SET number = 5",
         BARE,
-        "of its session is none that was sealed",
+        "column is_end of checkpoint",
     ),
-    "a session's numbers": ("UPDATE session SET expected = expected + 5, next = 2", NOTHING, ""),
-    "a session taken out": (
-        "DELETE FROM session WHERE firm = 'ALPHA'",
-        BARE,
-        "its session expects number none",
-    ),
-    "a session of nobody": (
-        "UPDATE session SET firm = 'ZULU' WHERE firm = 'ALPHA'",
-        BARE,
-        "the configuration has no such firm",
-    ),
-    "a firm that is suspended": ("UPDATE session SET is_suspended = 1", NOTHING, ""),
-    "the form": ("UPDATE form SET number = 5", BARE, "column is_end of checkpoint"),
     "a table beside": ("CREATE TABLE entry_old AS SELECT * FROM entry", BARE, "table entry_old"),
     "a trigger": (
         "CREATE TRIGGER t AFTER INSERT ON entry BEGIN DELETE FROM sent; END",
@@ -217,6 +205,17 @@ def forged(
     return log
 
 
+def of_form_5(database: Database, place: Path) -> None:
+    """What a log of that form has of its sessions, as they stand."""
+    with SqliteSource(place / "day.db").open() as log:
+        for firm, expected in log.targets().items():
+            kept = [tuple(row) for row in log.outgoing(firm)]
+            query = "INSERT INTO outgoing (firm, number, sent, bytes, epoch, copy, dropped, type, moment)"
+            database.executemany(query + " VALUES (?, ?, ?, ?, ?, ?, ?, ?, ?)", kept)
+            query = "INSERT INTO session VALUES (?, 0, 0, 0, ?%s)" % (", 0" * 12)
+            database.execute(query, (firm, expected))
+
+
 def verdict_of(log: Path, folder: Path, evidence: Evidence) -> Verdict:
     """The verdict without the venue's program."""
     source, venue = SqliteSource(log), Venue(("/nowhere",))
@@ -251,7 +250,12 @@ def evidences(place: Path) -> dict[str, Evidence]:
 def test_a_forgery(place: Path, tmp_path: Path, name: str) -> None:
     """It is found by the evidence that is named, and by none that is less."""
     script, found_by, text = (SCRIPTS | MORE).get(name, ("", NOTHING, ""))
-    change = lambda database: database.executescript(script)  # noqa: E731
+
+    def change(database: Database) -> None:
+        database.executescript(script)
+        if ledger.SESSIONS in script:
+            of_form_5(database, place)
+
     log = forged(place, tmp_path, change, is_same=not script)
     for at, (what, evidence) in enumerate(evidences(place).items()):
         folder = tmp_path / str(at)
@@ -272,7 +276,6 @@ def test_a_day_that_is_cut(place: Path, tmp_path: Path) -> None:
         ((number, last, event),) = database.execute(query).fetchall()
         database.execute("DELETE FROM entry WHERE place > ?", (last,))
         database.execute("DELETE FROM sent WHERE place > ?", (last,))
-        database.execute("DELETE FROM outgoing WHERE sent IS NOT NULL")
         database.execute("DELETE FROM connection WHERE place > ?", (event,))
         database.execute("DELETE FROM seal WHERE place > ?", (last,))
         database.execute("DELETE FROM checkpoint WHERE number > ?", (number,))

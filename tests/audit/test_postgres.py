@@ -16,18 +16,20 @@ import psycopg2
 from mireseason_audit.postgres_log import PostgresSource
 
 from tests.audit.common import DAY, ROOT, Folder, audit, folder, venue_words
-from tests.audit.ledger import OLD_SESSIONS
+from tests.audit.ledger import OLD_SENT, OLD_SESSIONS
 from tests.audit.ledger import public_key
 from tests.audit.tamper import ENTRIES, hash_of
 from tests.gateway.wait import LONG, until
 
 SERVERS = sorted(Path("/usr/lib/postgresql").glob("*/bin/initdb"))
 SCHEMA, OLD_SCHEMA = "day_20261125", "day_of_form_2"
+# Those of any form: the two that say what sessions kept are gone since form 6.
 TABLES = ("entry", "connection", "sent", "outgoing", "session", "seal", "checkpoint")
 # What the tables of form 2 lacked: the stored day is of form 1, which has the same columns.
 TO_FORM_2 = (
     """DROP TABLE connection; DROP TABLE seal; DROP TABLE checkpoint; ALTER TABLE entry DROP COLUMN received, DROP COLUMN connection;
     UPDATE form SET number = 2; """
+    + OLD_SENT
     + OLD_SESSIONS
 )
 # What somebody may put into a schema, and how the audit names it.
@@ -35,7 +37,7 @@ BEYOND: list[tuple[str, list[str]]] = [
     ("", []),
     ("CREATE TABLE more (x INTEGER)", ["table more"]),
     ("CREATE UNLOGGED TABLE more (x INTEGER)", ["table more", "unlogged table more"]),
-    ("ALTER TABLE sent ADD COLUMN told TEXT", ["column told of sent"]),
+    ("ALTER TABLE sent ADD COLUMN more TEXT", ["column more of sent"]),
     ("ALTER TABLE sent SET UNLOGGED", ["unlogged table sent"]),
     ("CREATE VIEW v AS SELECT * FROM entry", ["view v"]),
     ("CREATE MATERIALIZED VIEW m AS SELECT * FROM entry", ["materialized view m"]),
@@ -217,6 +219,29 @@ class Postgres(unittest.TestCase):
         self.assertEqual(ran.status, 1, ran.text)
         self.assertIn("entry %d: 1 entry follows the last checkpoint" % place, ran.out)
         self.assertIn("entry %d: it is not sealed" % place, ran.out)
+
+    def test_a_cut_day(self) -> None:
+        """Each table ends at the first checkpoint, and all that is left is right: only the day's end is missing."""
+        schema = "cut"
+        make_tables(self.connection, schema)
+        fill(self.connection, schema, self.day)
+        last = "SELECT number, place, event FROM %s.checkpoint ORDER BY number LIMIT 1" % schema
+        ((number, place, event),) = rows(self.connection, last)
+        for statement in (
+            "checkpoint WHERE number > %d" % number,
+            "seal WHERE place > %d" % place,
+            "entry WHERE place > %d" % place,
+            "connection WHERE place > %d" % event,
+            "sent WHERE place > %d" % place,
+        ):
+            words = (schema, statement)
+            execute(self.connection, "SET search_path TO %s; DELETE FROM %s" % words)
+        key = self.place / "gateway.pub"
+        key.write_bytes(public_key())
+        here = "postgres:" + self.connection
+        ran = audit("check", here, "--schema", schema, "--gateway-key", str(key))
+        self.assertEqual(ran.status, 1, ran.text)
+        self.assertIn("its end may have been cut off", ran.out)
 
 
 def run(words: list[str]) -> None:

@@ -25,7 +25,7 @@ from mireseason_audit.streams import Growing
 from mireseason_audit.venue import Run, Venue
 
 from tests.audit.common import IS_SHORT, REMEMBERED, Folder, audit, folder, keys, venue_words
-from tests.audit.tamper import KINDS, Kind, Tamperer
+from tests.audit.tamper import KINDS, SESSION_KINDS, Kind, Tamperer
 from tests.audit.tamper_door import DOOR_KINDS
 from tests.audit.tamper_told import TOLD_KINDS
 from tests.harness.options import SECOND
@@ -163,6 +163,7 @@ class Sealed:
 class Tampered(unittest.TestCase):
     words: tuple[str, ...] = tuple(venue_words())
     changes = CHANGES
+    form = 6  # of the log
     kept: Folder
     sealed: Sealed
 
@@ -170,7 +171,7 @@ class Tampered(unittest.TestCase):
     def setUpClass(cls) -> None:
         cls.kept = folder()
         cls.sealed = cls.sealed_in(Path(cls.kept.name))
-        draw_day(cls.sealed.log, cls.words)
+        draw_day(cls.sealed.log, cls.words, cls.form)
         private, _ = keys(cls.sealed.place)
         (cls.sealed.place / "kept").mkdir()
         (cls.sealed.place / "parties.toml").touch()
@@ -200,6 +201,17 @@ class Tampered(unittest.TestCase):
         self.assertEqual(missed, [], "%d of %d:\n%s" % (len(missed), self.changes, some))
 
 
+class KeptOtherwise(Tampered):
+    """A day of a log before form 6: what its sessions kept is changed."""
+
+    changes = 9 if IS_SHORT else 100
+    form = 5
+
+    @classmethod
+    def sealed_in(cls, place: Path) -> Sealed:
+        return Sealed(place, cls.words, tuple(SESSION_KINDS))
+
+
 class ToldOtherwise(Tampered):
     """A day with reasons and names of trades, of the program that has the flag whichever is chosen:
     what its firms were told beside the venue's messages is changed.
@@ -213,9 +225,10 @@ class ToldOtherwise(Tampered):
         return Sealed(place, cls.words, tuple(TOLD_KINDS))
 
 
-def draw_day(path: Path, venue: tuple[str, ...]) -> None:
+def draw_day(path: Path, venue: tuple[str, ...], form: int) -> None:
     words = ["/usr/bin/python3", "-m", "tests.audit.draw_day", str(path), "--requests", "7"]
-    words += ["--seed", "4", "--dealers", "2", "--investors", "1", "--", *venue]
+    words += ["--seed", "4", "--dealers", "2", "--investors", "1", "--form", str(form)]
+    words += ["--", *venue]
     subprocess.run(words, check=True)
 
 

@@ -6,11 +6,12 @@ from dataclasses import dataclass
 from pathlib import Path
 from typing import Any
 
+from tests.gateway.noted import noted
 from tests.model.frames import SOH, read_frame
 
 
 TEXT, TRADE_ID = 58, 1003
-EXPECTED = "SELECT firm, expected FROM session"
+NOTES = "SELECT notes FROM seal ORDER BY number"
 Told = dict[
     int, tuple[int, bytes]
 ]  # by the venue's number of a message, the field that tells what is noted beside it
@@ -50,7 +51,18 @@ class Ledger:
 
     entries: tuple[Entry, ...]
     sent: dict[str, list[tuple[int, bytes]]]  # of each firm, the venue's number and its frame
-    expected: dict[str, int]  # of each firm, the number that its session expects next
+    notes: tuple[bytes, ...]  # of each seal its session notes
+
+    @property
+    def expected(self) -> dict[str, int]:
+        """Of each firm, the number that its session expects next: behind its last note, and behind each message that came."""
+        sessions = noted(self.notes)
+        found = {firm: session.expected for firm, session in sessions.items()}
+        for entry in self.entries:
+            if entry.firm in found and entry.number is not None:
+                if entry.place > sessions[entry.firm].since:
+                    found[entry.firm] = max(found[entry.firm], entry.number + 1)
+        return found
 
     @property
     def configuration(self) -> bytes:
@@ -97,6 +109,11 @@ def rows(database: Path, query: str) -> list[tuple[Any, ...]]:
         connection.close()
 
 
+def as_bytes(value: bytes | str) -> bytes:
+    """What somebody has put there may be a text."""
+    return value.encode() if isinstance(value, str) else value
+
+
 def read_ledger(database: Path | PostgresLog) -> Ledger:
     if isinstance(database, PostgresLog):
         return read_postgres(database)
@@ -109,7 +126,7 @@ def read_ledger(database: Path | PostgresLog) -> Ledger:
     return Ledger(
         tuple(Entry(place, firm, number, bytes(line)) for place, firm, number, line in entries),
         sent,
-        {str(firm): int(number) for firm, number in rows(database, EXPECTED)},
+        tuple(as_bytes(notes) for notes, in rows(database, NOTES)),
     )
 
 
@@ -131,8 +148,8 @@ def read_postgres(log: PostgresLog) -> Ledger:
         "SELECT firm, number, encode(bytes, 'hex') FROM sent ORDER BY firm, number"
     ):
         sent.setdefault(firm, []).append((int(number), bytes.fromhex(data)))
-    expected = {firm: int(number) for firm, number in log.rows(EXPECTED)}
-    return Ledger(tuple(entries), sent, expected)
+    notes = log.rows("SELECT encode(notes, 'hex') FROM seal ORDER BY number")
+    return Ledger(tuple(entries), sent, tuple(bytes.fromhex(line) for line, in notes))
 
 
 def answers(program: list[str], day: bytes) -> dict[str, list[bytes]]:

@@ -18,7 +18,7 @@ CLOSED = (
 )
 STILL = 0.2  # seconds without a change after which strangers are taken to have changed nothing
 CALM = 2.0  # the same after what firms did, so that nothing of theirs is taken for a stranger's
-TABLES = ("entry", "sent", "outgoing", "session")
+TABLES = ("entry", "sent")
 COUNTED = (
     "entries_total",
     "sent_total",

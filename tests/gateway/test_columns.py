@@ -1,18 +1,24 @@
 """Somebody who may write to the log's database, and has no key, changes each column of each table, one at a time. If a seal or
-a signature covers it, the next start ends and says so; the rest is a copy that no gateway reads."""
+a signature covers it, the next start ends and says so; the rest is a copy that no gateway reads. `speaker`, of PostgreSQL alone,
+is neither: it says who speaks. Whoever changes it can end a gateway, and changes nothing that a firm is told."""
 
-from collections.abc import Iterator
+from collections.abc import Callable, Iterator
 from contextlib import contextmanager
 from dataclasses import dataclass
+from pathlib import Path
 
 import pytest
 
 from tests.admin.operator import did
 from tests.admin.test_orders import GONE, quoted
-from tests.gateway.stage import DEALER, INVESTOR, Stage, check
+from tests.gateway.door import today
+from tests.gateway.ledger import PostgresLog
+from tests.gateway.midnight import wait_for_room
+from tests.gateway.stage import DEALER, INVESTOR, Stage, Tools, check
 from tests.gateway.test_copy import Day
 from tests.gateway.test_second_attack import asked
 from tests.gateway.test_seals import Intruder
+from tests.gateway.wait import LONG, until
 from tests.limits.flood import logged_on
 
 # Of each table the columns by which its row is known, and which row is changed.
@@ -24,12 +30,10 @@ SEALED: Rows = {
     "seal": (["number"], "number = (SELECT max(number) FROM seal)"),
     "checkpoint": (["number"], "number = (SELECT max(number) FROM checkpoint)"),
 }
-OF_DEALER = "firm = 'DLR1' AND number = (SELECT max(number) FROM %s WHERE firm = 'DLR1')"
-COPIES: Rows = {
-    "sent": (["firm", "number"], OF_DEALER % "sent"),
-    "outgoing": (["firm", "epoch", "number"], OF_DEALER % "outgoing"),
-    "session": (["firm"], "firm = 'DLR1'"),
-}
+# The dealer's notice of its trade, beside which the trade's name is told.
+OF_DEALER = "firm = 'DLR1' AND told LIKE '1003=%%'"
+COPIES: Rows = {"sent": (["firm", "number"], OF_DEALER)}
+SPEAKER: Rows = {"speaker": (["one"], "TRUE")}
 TABLES = SEALED | COPIES
 NOT_ACCEPTED = 3  # a status: an operator has to decide
 
@@ -67,7 +71,7 @@ def names_and_types(intruder: Intruder, table: str) -> list[tuple[str, str]]:
 def columns(intruder: Intruder, table: str) -> list[Column]:
     """All of a table, in a row that stands there."""
     quoted = "quote(%s)" if intruder.door.postgres is None else "quote_nullable(%s::text)"
-    keys, where = TABLES[table]
+    keys, where = (TABLES | SPEAKER)[table]
     kinds = names_and_types(intruder, table)
     all_of_them = ", ".join(quoted % name for name, _ in kinds)
     (literals,) = intruder.rows("SELECT %s FROM %s WHERE %s" % (all_of_them, table, where))
@@ -84,6 +88,8 @@ def other(intruder: Intruder, kind: str, literal: str) -> str:
     if kind in ("INTEGER", "BIGINT"):
         number = literal.strip("'")
         return "%d" % (1000 if number == "NULL" else int(number) + 1000)
+    if kind.startswith("TIMESTAMP"):
+        return "'infinity'"
     return "'x'" if kind == "TEXT" else intruder.literal(b"x")
 
 
@@ -162,3 +168,64 @@ def test_who_sent_a_quote(stage_of_log: Stage) -> None:
         intruder.rows("UPDATE entry SET line = %s WHERE place = %d" % row)
         did(stage, "cancel", "DLR1", "--trader", "T1", "--because", "they called")
         dealer.got_until(lambda message: message.value(117) == b"q1" and message.value(297) == GONE)
+
+
+# ------------------------------------------------------------ who speaks
+
+
+@pytest.fixture
+def stage_in_postgres(
+    tools: Tools, place: Path, postgres_database: str, request: pytest.FixtureRequest
+) -> Iterator[Stage]:
+    wait_for_room(request.node.name)
+    made = Stage(tools, place, PostgresLog(postgres_database, "day_" + today()))
+    yield made
+    made.close()
+
+
+def changes_of_speaker(intruder: Intruder) -> Iterator[tuple[str, str]]:
+    """Words for each change of it, and the statement. A constraint keeps `one`; an older term is another thing than a later one."""
+    for name in [column.name for column in columns(intruder, "speaker")]:
+        (column,) = [each for each in columns(intruder, "speaker") if each.name == name]
+        if name != "one":
+            yield name, column.statement(column.other, column.was)
+    yield "an older term", "UPDATE speaker SET term = term - 1"
+
+
+def is_heard(intruder: Intruder) -> Callable[[], bool]:
+    """Whether the gateway that speaks has said since now that it is there, or has ended: it says so each second."""
+    looked = "SELECT seen FROM speaker"
+    before = intruder.rows(looked)
+    return lambda: intruder.door.has_ended() or intruder.rows(looked) != before
+
+
+def test_who_speaks_while_it_runs(stage_in_postgres: Stage) -> None:
+    """It goes on, or ends with status 1 and says why; then the next start goes on."""
+    stage = stage_in_postgres
+    day = Day(stage)
+    intruder, ended = Intruder(stage.door), []
+    for words, statement in changes_of_speaker(intruder):
+        check(intruder.rows(statement + " RETURNING one") == [["1"]], "%s: no change" % words)
+        until("it goes on or ends", LONG, is_heard(intruder))
+        if stage.door.has_ended():
+            ended.append(words)
+            check(stage.door.wait_end() == 1, "%s: it ends otherwise" % words)
+            check("is over" in stage.door.last_words(), stage.door.last_words())
+            stage.door.start()
+            stage.door.wait_open()
+        day.check(words)
+    check(set(ended) == {"term", "an older term"}, "it ended with %r" % ended)
+
+
+def test_who_spoke_at_rest(stage_in_postgres: Stage) -> None:
+    """The next start takes a term of its own behind it."""
+    stage = stage_in_postgres
+    day = Day(stage)
+    intruder = Intruder(stage.door)
+    check(stage.door.stop() == 0, "the gateway does not end well")
+    for words, statement in changes_of_speaker(intruder):
+        check(intruder.rows(statement + " RETURNING one") == [["1"]], "%s: no change" % words)
+        stage.door.start()
+        stage.door.wait_open()
+        day.check(words)
+        check(stage.door.stop() == 0, "%s: the gateway does not end well" % words)

@@ -1,5 +1,5 @@
-"""The tables `sent`, `outgoing` and `session` are a copy for readers. Somebody who may write to the database, and has no key,
-changes them. No gateway reads them: each firm is sent again what it was sent, under the same numbers."""
+"""The table `sent` is a copy for readers. Somebody who may write to the database, and has no key, changes it. No gateway
+reads it: each firm is sent again what it was sent, under the same numbers."""
 
 import re
 
@@ -27,8 +27,14 @@ def rejected(wire: Wire) -> None:
     wire.got(b"3")
 
 
+def denied(wire: Wire) -> None:
+    """A message that the gateway does not take: no firm may send its type."""
+    assert wire.raw(wire.message(b"D", wire.name, []))
+    wire.got(b"j")
+
+
 class Day:
-    """A day with a trade and a Reject: what each firm was sent, and the number of its next Logon."""
+    """A day with a trade, a Reject and a BusinessMessageReject: what each firm was sent, and the number of its next Logon."""
 
     def __init__(self, stage: Stage) -> None:
         self.stage = stage
@@ -39,6 +45,7 @@ class Day:
             hit(investor, b"h1", investor.got(b"S").given(117))
             dealer.got_until(lambda message: message.value(694) == b"1")
             rejected(investor)
+            denied(dealer)
             self.has = {wire.name: kept(wire) for wire in (dealer, investor)}
             self.numbers = {wire.name: wire.number for wire in (dealer, investor)}
         trades = [message for message in self.has[b"DLR1"] if b"\x01694=1\x01" in message]
@@ -58,24 +65,16 @@ class Day:
         check(again == had, "%s: %s has %r, and had %r" % (what, who.name, again, had))
 
 
-def changes(trade: str) -> dict[str, list[str]]:
+def changes(trade: str) -> dict[str, str]:
     """What somebody does, one after the other. `trade` is a trade's notice that never was, as it stands in a statement."""
-    last = "firm = 'DLR1' AND %s = (SELECT max(number) FROM sent WHERE firm = 'DLR1')"
-    session = "UPDATE session SET %s"
+    last = "firm = 'DLR1' AND number = (SELECT max(number) FROM sent WHERE firm = 'DLR1')"
     return {
-        "the last message is taken out": [
-            "DELETE FROM outgoing WHERE " + last % "sent",
-            "DELETE FROM sent WHERE " + last % "number",
-        ],
-        "bodies are others": [
-            "UPDATE outgoing SET type = 'AI', bytes = %s WHERE firm = 'DLR1'" % trade,
-            "UPDATE sent SET bytes = %s" % trade,
-        ],
-        "Rejects are dropped": ["UPDATE outgoing SET dropped = 1, copy = 1"],
-        "numbers are higher": [session % "next = next + 5, had = 0, last_kept = 1000, epoch = 2"],
-        "numbers are lower": [session % "expected = 2, next = 2, entries_from = 1000000"],
-        "firms are locked": [session % "is_locked = 1, is_suspended = 1, is_reset = 1"],
-        "all is taken out": ["DELETE FROM sent", "DELETE FROM outgoing", "DELETE FROM session"],
+        "the last message is taken out": "DELETE FROM sent WHERE " + last,
+        "bodies are others": "UPDATE sent SET bytes = %s" % trade,
+        "what was told is another": "UPDATE sent SET told = '1003=20261128-INV1-DLR1-9'",
+        "numbers are higher": "UPDATE sent SET number = number + 1000",
+        "places are others": "UPDATE sent SET place = place + 1000000",
+        "all is taken out": "DELETE FROM sent",
     }
 
 
@@ -85,9 +84,8 @@ def test_what_a_start_does_not_read(stage_of_log: Stage) -> None:
     day = Day(stage)
     check(stage.door.stop() == 0, "the gateway does not end well")
     intruder = Intruder(stage.door)
-    for what, statements in changes(intruder.literal(TRADE)).items():
-        for statement in statements:
-            intruder.rows(statement)
+    for what, statement in changes(intruder.literal(TRADE)).items():
+        intruder.rows(statement)
         stage.door.start()
         stage.door.wait_open()
         day.check(what)
@@ -102,9 +100,8 @@ def test_what_a_gateway_does_not_read(stage_of_log: Stage) -> None:
     stage = stage_of_log
     day = Day(stage)
     intruder = Intruder(stage.door)
-    for what, statements in changes(intruder.literal(TRADE)).items():
-        for statement in statements:
-            intruder.rows(statement)
+    for what, statement in changes(intruder.literal(TRADE)).items():
+        intruder.rows(statement)
         day.check(what)
 
 
@@ -119,19 +116,18 @@ def test_copies_of_a_reset(stage_of_log: Stage) -> None:
     check(any(b"\x01694=1\x01" in each for each in day.has[b"DLR1"]), "the trade has no copy")
     check(stage.door.stop() == 0, "the gateway does not end well")
     intruder = Intruder(stage.door)
-    intruder.rows("UPDATE outgoing SET bytes = %s, copy = 0" % intruder.literal(TRADE))
-    intruder.rows("UPDATE session SET epoch = 0, entries_from = 0, next = 50")
+    intruder.rows("UPDATE sent SET bytes = %s, told = NULL" % intruder.literal(TRADE))
     stage.door.start()
     stage.door.wait_open()
     day.check("after a reset")
 
 
 def test_a_trade_put_in(stage_of_log: Stage) -> None:
-    """It has the session's next number: whether the gateway goes on or ends, no firm is told it."""
+    """It has the venue's next number for the firm: whether the gateway goes on or ends, no firm is told it."""
     stage = stage_of_log
     day = Day(stage)
     intruder = Intruder(stage.door)
-    intruder.rows(PUT_IN % (0, intruder.literal(TRADE)))
+    intruder.rows(PUT_IN % intruder.literal(TRADE))
     day.check("a trade is put in")
     check(stage.door.stop() == 0, "the gateway does not end well")
     stage.door.start()

@@ -12,6 +12,7 @@ from parts.site import Folders, Site
 
 from tests.gateway.door import Door, today
 from tests.gateway.ledger import PostgresLog
+from tests.gateway.noted import noted
 from tests.gateway.stage import DEALER, INVESTOR, OTHER
 from tests.gateway.wait import LONG
 from tests.gateway.wire import Fields, Wire
@@ -127,8 +128,7 @@ def test_what_sessions_put_into_a_day(owned: Owned, make_gateway: MakeGateway) -
         assert wire.got(b"3").value(371) == b"112"
     with logged_on(door, [(141, b"Y")]):
         pass
-    dropped = "SELECT count(*) FROM %s.outgoing WHERE type = '3' AND dropped = 1" % owned.schema
-    assert said(owned.superuser, dropped).stdout.strip() == "1"
+    assert list(noted(door.ledger().notes)[DEALER.name].rejects.values()) == [False]
     program = door.programs.gateway.parent / "mireseason-admin"
     words = [str(program), "--socket", str(door.folder / "admin.sock"), "reset-session"]
     subprocess.run([*words, DEALER.name], check=True, timeout=LONG)
@@ -147,11 +147,9 @@ GATEWAY_MAY_NOT = [
     "UPDATE seal SET mac = mac",
     "UPDATE checkpoint SET signature = signature",
     "UPDATE sent SET bytes = bytes",
-    "UPDATE outgoing SET bytes = bytes",
-    "UPDATE outgoing SET sent = NULL",
-    "DELETE FROM outgoing",
+    "UPDATE sent SET told = NULL",
+    "DELETE FROM sent",
     "UPDATE connection SET why = why",
-    "DELETE FROM session",
     "DELETE FROM speaker",
     "UPDATE form SET number = 3",
     "INSERT INTO form VALUES (3)",

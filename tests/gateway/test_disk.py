@@ -10,8 +10,9 @@ from pathlib import Path
 import pytest
 
 from tests.gateway.firm import Received
-from tests.gateway.ledger import Ledger, marks, read_ledger, rows
+from tests.gateway.ledger import NOTES, Ledger, marks, read_ledger, rows
 from tests.gateway.market import Act, Market
+from tests.gateway.noted import Noted, noted
 from tests.gateway.settle import settled, wait_all_on
 from tests.gateway.stage import DEALER, Stage, check
 from tests.gateway.wait import LONG, until, within
@@ -173,7 +174,7 @@ def left(folder: Path, state: dict[str, Path]) -> Path | None:
         (folder / name).write_bytes(state[kind].read_bytes() if kind in state else b"")
     connection = sqlite3.connect(folder / "day.db")
     tables = connection.execute(
-        "SELECT count(*) FROM sqlite_master WHERE name IN ('entry', 'sent', 'outgoing')"
+        "SELECT count(*) FROM sqlite_master WHERE name IN ('entry', 'sent', 'seal')"
     ).fetchone()[0]
     check(
         connection.execute("PRAGMA integrity_check").fetchone()[0] == "ok",
@@ -219,17 +220,11 @@ class Numbers:
     """
 
     def __init__(self, database: Path, firm: str) -> None:
-        stored = rows(
-            database, "SELECT number, sent FROM outgoing WHERE firm = '%s' ORDER BY number" % firm
-        )
-        self.known = {sent: number for number, sent in stored if sent is not None}
-        self.last_sent = max(self.known, default=0)
-        following = rows(database, "SELECT next FROM session WHERE firm = '%s'" % firm)
-        # 1 is left for the answer to the day's first Logon.
-        self.next: int = following[0][0] if following else 2
+        session = noted(notes for notes, in rows(database, NOTES)).get(firm, Noted())
+        self.known, self.next, self.given = session.numbers, session.next, session.given
 
     def of(self, venue_number: int) -> int:
-        return self.known.get(venue_number, self.next + venue_number - self.last_sent - 1)
+        return self.known.get(venue_number, self.next + venue_number - self.given - 1)
 
 
 def test_power_cuts(stage: Stage) -> None:

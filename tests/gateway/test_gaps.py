@@ -132,6 +132,7 @@ def check_sent_again(wire: Wire, first: list[Received]) -> None:
             message.value(122) == was.value(60) and was.given(60) <= was.given(52),
             "122 of %r is not the 60 of %r" % (message.raw, was.raw),
         )
+        check(message.given(122) <= message.given(52), "52 is before 122: %r" % message.raw)
 
 
 def test_resent_as_it_was(stage: Stage) -> None:

@@ -8,8 +8,9 @@ from collections.abc import Callable
 
 from tests.gateway.firm import Received
 from tests.gateway.held import milliseconds
-from tests.gateway.ledger import rows
+from tests.gateway.ledger import NOTES, rows
 from tests.gateway.market import moment_in
+from tests.gateway.noted import noted
 from tests.gateway.stage import DEALER, Stage, check
 from tests.gateway.wait import LONG, until, within
 from tests.gateway.wire import Wire
@@ -106,10 +107,9 @@ def test_own_messages_are_on_disk_before_they_leave(stage: Stage) -> None:
     with Wire(stage.door.port) as wire:
         wire.logon(NAME, PASSWORD)
         check(wire.read_kind(b"A") is not None, "the Logon is not answered")
-        stored = rows(
-            stage.door.database, "SELECT expected, is_one_free FROM session WHERE firm = 'DLR1'"
-        )
-        check(stored == [(2, 0)], "it left before its number was on disk: %r" % stored)
+        stored = noted(notes for notes, in rows(stage.door.database, NOTES)).get("DLR1")
+        is_stored = stored is not None and stored.expected == 2 and not stored.is_one_free
+        check(is_stored, "it left before its number was on disk: %r" % stored)
 
 
 def test_entries_are_on_disk_before_they_are_answered(stage: Stage) -> None:

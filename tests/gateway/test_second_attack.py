@@ -188,8 +188,8 @@ TRADE = framed(
     b"60=20261128-01:00:00.000\x01297=0\x011003=20261128-INV1-DLR1-9\x01"
 )
 PUT_IN = (
-    "INSERT INTO outgoing (firm, epoch, number, sent, copy, dropped, type, moment, bytes) "
-    "SELECT 'INV1', 0, next, NULL, %d, 0, 'AI', '01:00:00.000', %s FROM session WHERE firm = 'INV1'"
+    "INSERT INTO sent (firm, number, place, bytes) "
+    "SELECT 'INV1', max(number) + 1, max(place), %s FROM sent WHERE firm = 'INV1'"
 )
 TRADE_NAME = b"1003=20261128-INV1-DLR1-9"
 
@@ -222,15 +222,18 @@ def test_a_resend_asks_no_database(stage_of_log: Stage) -> None:
         check(done.value(1181) in before, "the trade is not sent again: %r" % before)
         intruder = Intruder(stage.door)
         trade = intruder.literal(TRADE)
-        intruder.rows("UPDATE outgoing SET type = 'AI', bytes = %s WHERE firm = 'DLR1'" % trade)
-        intruder.rows(PUT_IN % (0, trade))
-        intruder.rows("DELETE FROM outgoing WHERE firm = 'INV1' AND sent IS NOT NULL")
+        given = {
+            wire.name: [number for number, _ in stage.door.ledger().sent[wire.name.decode()]]
+            for wire in (dealer, investor)
+        }
+        intruder.rows("UPDATE sent SET bytes = %s, told = NULL WHERE firm = 'DLR1'" % trade)
+        intruder.rows("DELETE FROM sent WHERE firm = 'INV1' AND number > 1")
+        intruder.rows(PUT_IN % trade)
         for wire in (dealer, investor):
             again = sent_again(wire)
             check(all(TRADE_NAME not in message.raw for message in again), "%r" % again)
-            own = [entry for entry in stage.door.ledger().sent[wire.name.decode()]]
             numbers = [int(message.given(1181)) for message in again]
-            check(numbers == [number for number, _ in own], "again came %r" % numbers)
+            check(numbers == given[wire.name], "again came %r" % numbers)
         check(
             [message.value(1181) for message in sent_again(dealer)] == before,
             "the dealer is sent something else",
@@ -238,8 +241,7 @@ def test_a_resend_asks_no_database(stage_of_log: Stage) -> None:
 
 
 def test_what_was_not_taken_is_not_asked_for(stage: Stage) -> None:
-    """A hit is not taken during a halt, and the firm is told so. Somebody sets the session's number back while no gateway runs: the
-    hit is not asked for again, and trades at no later start."""
+    """A hit is not taken during a halt, and the firm is told so: after a start it is not asked for again, and trades at no later one."""
     stage.door.operators = ""
     stage.open()
     with logged_on(stage, DEALER) as dealer, logged_on(stage, INVESTOR) as investor:
@@ -252,7 +254,6 @@ def test_what_was_not_taken_is_not_asked_for(stage: Stage) -> None:
         number = investor.number
         did(stage, "resume")
     check(stage.door.stop() == 0, "the gateway does not end well")
-    Intruder(stage.door).rows("UPDATE session SET expected = 3 WHERE firm = 'INV1'")
     stage.door.start()
     stage.door.wait_open()
     with logged_on(stage, INVESTOR, number=number) as investor:

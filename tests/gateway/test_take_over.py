@@ -1,26 +1,35 @@
-"""Another gateway takes over, while somebody changes the log's copy for readers, and after the first was killed at any call. It
-goes on with what is sealed."""
+"""Another gateway takes over: while somebody changes the log's copy for readers, after the first was killed at any call, with a
+clock that is behind the first one's. It goes on with what is sealed."""
 
 import random
 from collections.abc import Iterator
 from contextlib import contextmanager
 
+from tests.admin.test_orders import request_fields
 from tests.gateway.door import Door, is_running
+from tests.gateway.firm import Received
+from tests.gateway.market import moment_in
 from tests.gateway.settle import wait_all_on
-from tests.gateway.stage import Stage, check
-from tests.gateway.test_copy import Day, changes
+from tests.gateway.stage import INVESTOR, OTHER, Stage, check
+from tests.gateway.test_copy import Day, changes, rejected
 from tests.gateway.test_disk import shim
 from tests.gateway.test_each_call import REST
+from tests.gateway.test_gaps import answered_messages, check_sent_again
+from tests.gateway.test_messages import answered, cancel, on_a_wire
 from tests.gateway.test_reasons import (  # noqa: F401, the fixtures are called by their names
     follow,
     followed,
     keeps_checkpoints,
     noting,
 )
-from tests.gateway.test_second_attack import TRADE
+from tests.gateway.test_second_attack import TRADE, sent_again
 from tests.gateway.test_seals import Intruder, audited
 from tests.gateway.wait import LONG, until, within
+from tests.gateway.wire import Wire, now
 from tests.harness.options import Form
+from tests.limits.flood import logged_on
+
+AHEAD = 100  # seconds: a firm's 52 may be two minutes off
 
 
 def test_one_that_follows_reads_no_copy(followed: tuple[Stage, Door]) -> None:  # noqa: F811
@@ -31,9 +40,8 @@ def test_one_that_follows_reads_no_copy(followed: tuple[Stage, Door]) -> None:  
     follow(stage, second)
     keeps_checkpoints(second)
     intruder = Intruder(first)
-    for statements in changes(intruder.literal(TRADE)).values():
-        for statement in statements:
-            intruder.rows(statement)
+    for statement in changes(intruder.literal(TRADE)).values():
+        intruder.rows(statement)
     first.kill()
     second.wait_open()
     stage.door = second
@@ -139,3 +147,51 @@ def test_killed_while_it_takes_over(
     check(killed.ended > 0, "it was never ended")
     print("ended %d times at a call" % killed.ended)
     is_whole(stage)
+
+
+def check_is_not_before(message: Received, tag: int) -> None:
+    """A moment that was the first gateway's is still to come by the second's clock; 52 is not before it all the same."""
+    moment = message.given(tag)
+    check(moment > now(), "%d is no moment to come: %r" % (tag, message.raw))
+    check(moment <= message.given(52), "52 is before %d: %r" % (tag, message.raw))
+
+
+def ask_one_that_is_away(investor: Wire) -> None:
+    """A request to the other dealer alone, which it is shown later."""
+    dealer = [(448, b"DLR2"), (447, b"D"), (452, b"35")]
+    fields = [*request_fields(b"A1", moment_in(600))[: -len(dealer)], *dealer]
+    assert investor.raw(investor.message(b"R", b"INV1", fields))
+    investor.ask()
+
+
+def test_a_clock_that_is_behind(followed: tuple[Stage, Door]) -> None:  # noqa: F811
+    """The second gateway's clock is behind the first one's, by which the log has its entries. Of what the second sends (what a firm
+    had, what it was away for, and an answer of its own), no 52 is before 122, nor before the moment of the entry (60).
+    """
+    stage, second = followed
+    first = stage.door
+    first.environment = {"LD_PRELOAD": str(stage.tools.shim), "CLOCK_AHEAD": "%d" % AHEAD}
+    stage.open()
+    follow(stage, second)
+    with logged_on(stage, INVESTOR) as investor, on_a_wire(stage) as dealer:
+        ask_one_that_is_away(investor)
+        said = answered_messages(dealer)
+        rejected(dealer)
+        number = dealer.number
+    keeps_checkpoints(second)
+    first.kill()
+    second.wait_open()
+    stage.door = second
+    with logged_on(stage, OTHER) as other:
+        (request,) = sent_again(other)
+        check(request.kind == b"R", "it is sent %r" % request.raw)
+        check_is_not_before(request, 122)
+    with on_a_wire(stage, number) as dealer:
+        dealer.raw(dealer.message(b"Z", b"DLR1", cancel(b"new")))
+        check_is_not_before(answered(dealer, b"new"), 60)
+        again = sent_again(dealer)
+        of_session = [message for message in again if message.value(1181) is None]
+        check(len(again) == len(said) + 2 and len(of_session) == 1, "again come %r" % again)
+        for message in again:
+            check_is_not_before(message, 122)
+        check_sent_again(dealer, said)

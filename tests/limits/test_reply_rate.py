@@ -8,6 +8,7 @@ from concurrent.futures import ThreadPoolExecutor
 import pytest
 
 from tests.gateway.ledger import rows
+from tests.gateway.noted import noted as sessions_by
 from tests.gateway.stage import DEALER, Stage
 from tests.gateway.test_gaps import again, asked_from
 from tests.gateway.wait import LONG
@@ -26,9 +27,7 @@ IN_TIME = 5.0  # seconds, on a machine that has much else to do
 
 
 def kept(stage: Stage) -> int:
-    found = rows(stage.door.database, "SELECT count(*) FROM outgoing WHERE type = '3'")
-    count: int = found[0][0]
-    return count
+    return len(sessions_by(stage.door.ledger().notes)["DLR1"].rejects)
 
 
 def test_rejects_without_end(stage: Stage) -> None:
@@ -182,10 +181,10 @@ def begun_again(stage: Stage) -> Wire:
     return wire
 
 
-def rejects(stage: Stage, is_dropped: int) -> int:
-    words = "SELECT count(*) FROM outgoing WHERE type = '3' AND dropped = %d" % is_dropped
-    found: int = rows(stage.door.database, words)[0][0]
-    return found
+def rejects(stage: Stage) -> tuple[int, int]:
+    """How many were dropped, and how many are kept."""
+    are_kept = list(sessions_by(stage.door.ledger().notes)["DLR1"].rejects.values())
+    return are_kept.count(False), are_kept.count(True)
 
 
 def test_rejects_are_dropped_whenever_numbers_begin_again(stage: Stage) -> None:
@@ -193,11 +192,11 @@ def test_rejects_are_dropped_whenever_numbers_begin_again(stage: Stage) -> None:
     stage.open()
     for before in range(4):
         with begun_again(stage) as wire:
-            assert (rejects(stage, 1), rejects(stage, 0)) == (before, 0)
+            assert rejects(stage) == (before, 0)
             assert wire.raw(wire.message(b"1", b"DLR1", []))  # without 112
             assert wire.got(b"3").value(371) == b"112"
         if before == 1:
             stage.door.kill()
             stage.door.start()
             stage.door.wait_open()
-    assert (rejects(stage, 1), rejects(stage, 0)) == (3, 1)
+    assert rejects(stage) == (3, 1)

@@ -40,7 +40,7 @@ def read_ledger(machine: Machine, schema: str) -> Ledger:
         "SELECT firm, number, encode(bytes, 'hex') " "FROM %s.sent ORDER BY firm, number" % schema,
     ):
         sent.setdefault(firm, []).append((int(number), bytes.fromhex(data)))
-    return Ledger(entries, sent, {})
+    return Ledger(entries, sent, ())
 
 
 def last_place(machine: Machine, schema: str) -> int:

@@ -17,7 +17,6 @@ CREATE OR REPLACE FUNCTION take_over(name TEXT)
 ALTER TABLE entry DROP CONSTRAINT entry_pkey;
 ALTER TABLE connection DROP CONSTRAINT connection_pkey;
 ALTER TABLE sent DROP CONSTRAINT sent_pkey;
-ALTER TABLE outgoing DROP CONSTRAINT outgoing_pkey;
 """
 
 SET_UPS = ("local", "terms")

@@ -14,7 +14,7 @@ class GrowingLog:
     path: Path
 
     def begin(self) -> None:
-        """The tables, and what each session expects in the end."""
+        """The tables."""
         with closing(sqlite3.connect(self.whole)) as log:
             query = (
                 "SELECT sql FROM sqlite_master WHERE sql IS NOT NULL AND name NOT LIKE 'sqlite_%'"
@@ -25,7 +25,6 @@ class GrowingLog:
             for sql in tables:
                 log.execute(sql)
             log.execute("INSERT INTO form SELECT * FROM whole.form")
-            log.execute("INSERT INTO session SELECT * FROM whole.session")
 
     def last(self) -> int:
         with closing(sqlite3.connect(self.whole)) as log:
@@ -51,12 +50,6 @@ class GrowingLog:
                 query = "INSERT INTO %s SELECT * FROM whole.%s WHERE %s <= ? AND %s NOT IN"
                 query += " (SELECT %s FROM %s)"
                 log.execute(query % (table, table, of, key, key, table), (last,))
-            log.execute(
-                "INSERT INTO outgoing SELECT * FROM whole.outgoing o WHERE o.number <= ("
-                " SELECT max(p.number) FROM whole.outgoing p JOIN sent s ON s.firm = p.firm"
-                " AND s.number = p.sent WHERE p.firm = o.firm) AND NOT EXISTS (SELECT 1 FROM"
-                " outgoing q WHERE q.firm = o.firm AND q.number = o.number)"
-            )
             log.execute("COMMIT")
         return int(place)
 
@@ -64,7 +57,6 @@ class GrowingLog:
         """What is left: the ends of the sessions, and what seals them."""
         with self.open_log() as log:
             for table, key in (
-                ("outgoing", "firm || ' ' || number"),
                 ("connection", "place"),
                 ("seal", "number"),
                 ("checkpoint", "number"),

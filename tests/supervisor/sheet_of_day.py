@@ -56,7 +56,7 @@ class DaySheet:
     """Reads one log."""
 
     witness: Witness
-    carried: dict[tuple[str, int], Message]  # what left a session, by firm and number of `sent`
+    told: dict[tuple[str, int], Message]  # beside a message, by firm and number of `sent`
     date: str
     sheet: Sheet = field(default_factory=Sheet)
     stands: list[Stand] = field(default_factory=list)
@@ -241,7 +241,7 @@ class DaySheet:
         if not refusing:
             return what, "none", ""
         message = refusing[0].message
-        on_wire = self.carried.get((came.firm, refusing[0].number), {})
+        on_wire = self.told.get((came.firm, refusing[0].number), {})
         return what, code_in(message), message.get("58", "") or on_wire.get("58", "")
 
     def amounts(self) -> dict[tuple[str, str, str], tuple[int, int, int]]:
@@ -278,9 +278,12 @@ def code_in(message: Message) -> str:
 
 def read_day(path: Path, date: str) -> DaySheet:
     with closing(sqlite3.connect(path)) as log:
-        query = "SELECT firm, sent, bytes FROM outgoing WHERE sent IS NOT NULL"
-        carried = {(firm, sent): message_of(data) for firm, sent, data in log.execute(query)}
-    day = DaySheet(Witness(path), carried, date)
+        columns = [name for _, name, *_ in log.execute("PRAGMA table_info(sent)")]
+        # In the first form nothing was told.
+        query = "SELECT firm, number, told FROM sent WHERE told IS NOT NULL"
+        rows = log.execute(query).fetchall() if "told" in columns else []
+        told = {(firm, at): message_of(field.encode()) for firm, at, field in rows}
+    day = DaySheet(Witness(path), told, date)
     day.read()
     return day
 

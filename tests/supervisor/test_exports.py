@@ -14,6 +14,7 @@ from hypothesis import strategies as st
 
 from mireseason_audit.tables import Column, Form, Table, cell_of, table_text, text_in
 from tests.audit.witness import Witness
+from tests.gateway.noted import noted
 from tests.supervisor.conftest import STORED, Audit, exported
 from tests.supervisor.exported import Exported, read_csv
 from tests.supervisor.sheet import Sheet
@@ -128,7 +129,8 @@ def test_each_message_of_the_log_is_there_once(drawn: Exported, drawn_log: Path)
             " WHERE firm IS NOT NULL"
         ).fetchall()
         messages = log.execute("SELECT firm, number, place, bytes FROM sent").fetchall()
-        targets = dict(log.execute("SELECT firm, expected FROM session"))
+        notes = [notes for notes, in log.execute("SELECT notes FROM seal ORDER BY number")]
+        targets = {firm: session.expected for firm, session in noted(notes).items()}
         doors = log.execute("SELECT place, moment, event, address FROM connection").fetchall()
     assert (len(came), len(sent)) == (len(entries), len(messages))
     for place, moment, firm, received, connection, line in entries:

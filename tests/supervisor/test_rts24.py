@@ -149,8 +149,9 @@ def test_a_message_that_has_no_entry(run: Audit, short_log: Path, tmp_path: Path
     moments = [row["09_date_and_time"] for row in rows]
     assert moments == sorted(moments)
     with closing(sqlite3.connect("file:%s?mode=ro" % short_log, uri=True)) as log:
-        query = "SELECT moment, firm FROM outgoing WHERE sent IS NULL AND type IN ('3', 'j')"
-        expected = log.execute(query).fetchall()
+        notes = b"".join(notes for notes, in log.execute("SELECT notes FROM seal"))
+        lines = [line.split(" ") for line in notes.decode().splitlines()]
+        expected = [(line[8], line[0]) for line in lines if line[2] in ("3", "j")]
         came = log.execute("SELECT moment, firm FROM entry WHERE firm IS NOT NULL").fetchall()
     refused = read_csv(tmp_path / "out" / "rts24-refusals.csv")
     not_taken = [row for row in refused if not row["entry"]]

@@ -2,6 +2,7 @@
 
 #include <cerrno>
 #include <cstdlib>
+#include <stdexcept>
 #include <string>
 #include <system_error>
 
@@ -15,6 +16,9 @@ namespace {
 [[noreturn]] void fail(const std::string &what) {
     throw std::system_error(errno, std::generic_category(), what);
 }
+
+// Bytes of a TextFile that are written together.
+constexpr std::size_t chunk = 1 << 16;
 
 } // namespace
 
@@ -53,6 +57,34 @@ void write_at(const Descriptor &file, std::uint64_t place, const void *bytes, st
         }
         done += some > 0 ? static_cast<std::size_t>(some) : 0;
     }
+}
+
+std::uint64_t TextFile::append(std::string_view text) {
+    const std::lock_guard lock(mutex_);
+    const std::uint64_t begin = written_ + waiting_.size();
+    waiting_.append(text);
+    if (waiting_.size() >= chunk) {
+        write_at(file_, written_, waiting_.data(), waiting_.size());
+        written_ += waiting_.size();
+        waiting_.clear();
+    }
+    return begin;
+}
+
+std::string TextFile::at(std::uint64_t begin, std::size_t length) const {
+    const std::lock_guard lock(mutex_);
+    std::string text(length, '\0');
+    std::size_t found = 0;
+    if (begin >= written_) {
+        const std::uint64_t from = std::min<std::uint64_t>(begin - written_, waiting_.size());
+        found = waiting_.copy(text.data(), length, static_cast<std::size_t>(from));
+    } else {
+        found = read_at(file_, begin, text.data(), length);
+    }
+    if (found != length) {
+        throw std::runtime_error("the spool was cut off");
+    }
+    return text;
 }
 
 } // namespace gateway

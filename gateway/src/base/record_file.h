@@ -1,12 +1,16 @@
-// Files without a name in their folder, and records of one size in such a file.
+// Files without a name in their folder: bytes, or records of one size, in such a file.
 #ifndef GATEWAY_BASE_RECORD_FILE_H
 #define GATEWAY_BASE_RECORD_FILE_H
 
 #include "common/descriptor.h"
 
+#include <algorithm>
 #include <cstddef>
 #include <cstdint>
 #include <filesystem>
+#include <mutex>
+#include <string>
+#include <string_view>
 #include <type_traits>
 #include <vector>
 
@@ -21,7 +25,26 @@ std::size_t read_at(const Descriptor &file, std::uint64_t place, void *bytes, st
 // Writes all of them. Throws std::system_error.
 void write_at(const Descriptor &file, std::uint64_t place, const void *bytes, std::size_t length);
 
+// Texts, each behind the one before; any thread. The last of them are kept in memory, and written
+// together: a call of the system for each would take longer than what it is for.
+class TextFile {
+  public:
+    explicit TextFile(const std::filesystem::path &folder) : file_(open_unnamed(folder)) {}
+
+    // Where it begins.
+    std::uint64_t append(std::string_view text);
+    // Throws std::runtime_error if there are fewer bytes.
+    std::string at(std::uint64_t begin, std::size_t length) const;
+
+  private:
+    const Descriptor file_;
+    mutable std::mutex mutex_;
+    std::uint64_t written_ = 0;
+    std::string waiting_; // behind what is written
+};
+
 // Records of one size by their numbers. One that was never put is a Record{}. One thread at a time.
+// Those that were put last, one behind the other, are kept in memory likewise.
 template <typename Record> class RecordFile {
     static_assert(std::is_trivially_copyable_v<Record>);
 
@@ -29,26 +52,55 @@ template <typename Record> class RecordFile {
     explicit RecordFile(const std::filesystem::path &folder) : file_(open_unnamed(folder)) {}
 
     void put(std::uint32_t number, const Record &record) {
-        write_at(file_, place_of(number), &record, sizeof record);
+        if (is_waiting(number)) {
+            waiting_[number - written_] = record;
+        } else if (number < written_) {
+            write_at(file_, place_of(number), &record, sizeof record);
+        } else {
+            if (number != written_ + waiting_.size() || waiting_.size() == most_waiting) {
+                write();
+                written_ = number;
+            }
+            waiting_.push_back(record);
+        }
     }
     Record at(std::uint32_t number) const {
+        if (is_waiting(number)) {
+            return waiting_[number - written_];
+        }
         Record record{};
         read_at(file_, place_of(number), &record, sizeof record);
         return record;
     }
     // Those from a number on, `count` at most: fewer at the end of the file.
     std::vector<Record> some(std::uint32_t from, std::size_t count) const {
-        std::vector<Record> records(count);
-        const std::size_t read =
-            read_at(file_, place_of(from), records.data(), count * sizeof(Record));
-        records.resize(read / sizeof(Record));
+        const std::size_t written = from < written_ ? std::min(count, written_ - from) : 0;
+        // What was never put may stand behind the end of the file.
+        std::vector<Record> records(written);
+        read_at(file_, place_of(from), records.data(), written * sizeof(Record));
+        while (records.size() < count && is_waiting(from + records.size())) {
+            records.push_back(waiting_[from + records.size() - written_]);
+        }
         return records;
     }
 
   private:
+    static constexpr std::size_t most_waiting = 64;
+
     static std::uint64_t place_of(std::uint32_t number) { return number * sizeof(Record); }
+    bool is_waiting(std::size_t number) const {
+        return number >= written_ && number - written_ < waiting_.size();
+    }
+    void write() {
+        write_at(file_, place_of(static_cast<std::uint32_t>(written_)), waiting_.data(),
+                 waiting_.size() * sizeof(Record));
+        written_ += waiting_.size();
+        waiting_.clear();
+    }
 
     Descriptor file_;
+    std::size_t written_ = 0; // all in front of this number that were put
+    std::vector<Record> waiting_;
 };
 
 } // namespace gateway

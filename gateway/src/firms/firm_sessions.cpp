@@ -16,7 +16,7 @@ namespace {
 
 // Else it was refused before the day opened, and perhaps the venue has it no more.
 bool has_begun(const FirmState &state) {
-    const SessionNumbers &numbers = state.session.numbers;
+    const SessionNumbers &numbers = state.numbers;
     return state.entries > 0 || state.given > 0 || numbers.last_kept > 0 || numbers.last_logon > 0;
 }
 
@@ -47,9 +47,8 @@ void FirmSessions::open_firms(const States &states) {
                          .first->second;
         firm.cancel_on_disconnect = own.cancel_on_disconnect;
         firm.entries = found.entries;
-        firm.numbers = found.session.numbers;
-        firm.epoch = found.session.epoch;
-        firm.entries_from = found.session.entries_from;
+        firm.numbers = found.numbers;
+        firm.epoch = found.epoch;
         firm.given = found.given;
         firm.given_hash = day_.spool.hash_of_given(name, found.given);
         if (firm.numbers.last_kept > 0) {
@@ -91,7 +90,6 @@ void FirmSessions::end_lost(const std::vector<ConnectionEvent> &connections) {
         const auto left = firms_.find(logon.firm.value_or(""));
         if (left != firms_.end()) {
             cancel_all_of(left->first, left->second);
-            put_not_left(left->first, left->second);
         }
         rows_.put_end(logon, "its gateway was gone");
     }

@@ -132,7 +132,6 @@ class FirmSessions final : private SessionHost {
         // Of its session, one event at a time.
         SessionNumbers numbers;
         std::atomic<std::uint32_t> epoch{0};
-        std::uint32_t entries_from = 0;
         std::uint32_t given = 0; // messages of the venue that it was given,
         Digest given_hash{};     // and their running hash
         ReplyRate reply_rate;
@@ -143,9 +142,8 @@ class FirmSessions final : private SessionHost {
         std::atomic<std::uint32_t> entries{
             0}; // messages of the firm in the log, with a number each
 
-        // `mutex` and `row_mutex` may be held as long as the log is waited for, whose own lock is
-        // taken under each; neither is taken under the other. `seen_mutex` is held for a moment,
-        // under `mutex` too.
+        // `mutex` may be held as long as the log is waited for, whose own lock is taken under it.
+        // `seen_mutex` is held for a moment, under `mutex` too.
 
         // Who is there, for the operator.
         void see(const std::string &logon, const std::string &peer) {
@@ -156,9 +154,6 @@ class FirmSessions final : private SessionHost {
         std::mutex seen_mutex;
         std::string since;
         std::string address;
-
-        // Over its numbers and their way into the log: the last row there has the last ones.
-        std::mutex row_mutex;
 
         std::mutex mutex;                 // of what follows, and over changes of entries
         RateAtLimit rate_at_limit;        // while there is no other room
@@ -185,7 +180,6 @@ class FirmSessions final : private SessionHost {
     void count_said(const std::string &name, Firm &firm, const std::vector<std::string> &frames);
     void tell_bytes_used_up(const std::string &name, Firm &firm);
     void tell_spare_used_up(const std::string &name, Firm &firm);
-    static SessionRow row_of(const std::string &name, Firm &firm, const SessionEvent &event);
     static SessionNoteLine line_of(const std::string &name, const Firm &firm,
                                    const SessionNote &said);
     static std::vector<std::string> lines_of(const std::string &name, const Firm &firm,
@@ -195,7 +189,6 @@ class FirmSessions final : private SessionHost {
     void spooled(const std::function<void()> &put);
     void spool(const std::string &name, const SessionEvent &event,
                std::optional<std::uint32_t> drops_rejects_from);
-    void put_not_left(const std::string &name, Firm &firm);
     void cancel_all_of(const std::string &name, Firm &firm);
 
     // SessionHost

@@ -30,11 +30,6 @@ std::uint64_t bytes_of_line(const std::string &firm, const std::string &frame) {
 
 } // namespace
 
-SessionRow FirmSessions::row_of(const std::string &name, Firm &firm, const SessionEvent &event) {
-    firm.numbers = event.numbers;
-    return {name, firm.epoch, firm.entries_from, event.is_logged_on, event.numbers};
-}
-
 // Of a turn whose numbers the firm has by now.
 SessionNoteLine FirmSessions::line_of(const std::string &name, const Firm &firm,
                                       const SessionNote &said) {
@@ -66,16 +61,8 @@ void FirmSessions::put_notes(const std::string &name, Firm &firm, const SessionE
     if (event.notes.empty() && (has_more || ends)) {
         SessionNote mark;
         mark.moment = event.moment;
-        change.mark = text_of(line_of(name, firm, mark));
+        change.mark = line_of(name, firm, mark);
     }
-}
-
-// For readers. The venue may have answered the cancel of its quotes by now, on another thread.
-void FirmSessions::put_not_left(const std::string &name, Firm &firm) {
-    const std::lock_guard lock(firm.row_mutex);
-    Log::SessionChange change;
-    change.row = {name, firm.epoch, firm.entries_from, false, firm.numbers};
-    log_.put(std::move(change));
 }
 
 // What can't be put into the spool ends the gateway, as what can't be committed does.
@@ -104,26 +91,14 @@ void FirmSessions::spool(const std::string &name, const SessionEvent &event,
 
 std::uint64_t FirmSessions::put(const std::string &name, const SessionEvent &event) {
     Firm &firm = firm_of(name);
-    const std::lock_guard lock(firm.row_mutex);
-    Log::SessionChange change;
-    const SessionNumbers before = firm.numbers;
-    change.row = row_of(name, firm, event);
+    const SessionNumbers before = std::exchange(firm.numbers, event.numbers);
+    Log::SessionChange change{name};
     put_notes(name, firm, event, before, change);
+    std::optional<std::uint32_t> drops_rejects_from;
     if (event.drops_rejects) {
-        change.drops_rejects_from = std::exchange(firm.rejects_from, std::nullopt);
+        drops_rejects_from = std::exchange(firm.rejects_from, std::nullopt);
     }
-    spool(name, event, change.drops_rejects_from);
-    if (event.kept) {
-        const KeptMessage &kept = *event.kept;
-        Outgoing &row = change.kept.emplace();
-        row.firm = name;
-        row.epoch = firm.epoch;
-        row.number = kept.number;
-        row.is_copy = kept.is_copy;
-        row.type = kept.type;
-        row.moment = text_of(Moment{static_cast<int>(kept.first)});
-        row.bytes = kept.frame;
-    }
+    spool(name, event, drops_rejects_from);
     if (event.replies > 0) {
         firm.reply_rate.add(event.replies);
     }
@@ -131,10 +106,7 @@ std::uint64_t FirmSessions::put(const std::string &name, const SessionEvent &eve
         firm.rejects_from = firm.rejects_from.value_or(event.kept->number);
     }
     if (const Delivery *const given = event.given) {
-        change.carried = Sent{name, given->number, given->place, given->frame};
-        if (change.kept) {
-            change.kept->sent = given->number;
-        }
+        change.given = Sent{name, given->number, given->place, given->frame, given->told};
         day_.metrics.delivered();
         firm.metrics.was_given(*given);
     }
@@ -186,10 +158,10 @@ Taken FirmSessions::take(const std::string &name, const SessionInput &input,
     // On one connection nothing comes before what came before it, also where the clock is set back.
     firm.last_receipt = std::max(firm.last_receipt, input.receipt.at);
     const Log::Came came{input.number, input.receipt.connection, firm.last_receipt};
-    if (!log_.append_at_once(name, came, *frame, row_of(name, firm, event),
-                             std::exchange(firm.turn, Log::Turn()))) {
+    if (!log_.append_at_once(name, came, *frame, std::exchange(firm.turn, Log::Turn()))) {
         return {Taken::Verdict::waits, 0, {}, {}};
     }
+    firm.numbers = event.numbers;
     firm.metrics.came(value_in(*frame, "35"), is_hit(*frame));
     if (lacks_room(firm)) {
         firm.rate_at_limit.add(bytes_of_line(name, *frame));
@@ -198,7 +170,7 @@ Taken FirmSessions::take(const std::string &name, const SessionInput &input,
     ++firm.entries;
     if (!event.notes.empty()) {
         // Its number was the last one: what the venue gives from now on has none.
-        log_.put({row_of(name, firm, event), {}, {}, {}, {}, lines_of(name, firm, event), {}});
+        log_.put({name, {}, lines_of(name, firm, event)});
     }
     return {};
 }
@@ -300,17 +272,13 @@ std::uint64_t FirmSessions::count_kept(const std::string &name, std::uint32_t be
 void FirmSessions::put_reset(const std::string &name, std::uint32_t behind,
                              const SessionEvent &event) {
     Firm &firm = firm_of(name);
-    Log::SessionChange change;
-    change.reset = SessionReset{name, firm.epoch, behind};
-    firm.entries_from = log_.fence();
     SessionNoteLine note = line_of(name, firm, event.notes.at(0));
-    note.last = firm.entries_from;
-    change.notes.push_back(text_of(note));
+    note.last = log_.fence();
     ++firm.epoch;
+    firm.numbers = event.numbers;
     firm.rejects_from.reset();
-    change.row = row_of(name, firm, event);
     spooled([&] { day_.spool.reset(name, behind); });
-    log_.put(std::move(change));
+    log_.put({name, {}, {text_of(note)}});
 }
 
 } // namespace gateway

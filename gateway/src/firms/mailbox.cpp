@@ -5,6 +5,13 @@
 
 namespace gateway {
 
+namespace {
+
+// So many messages that wait leave with the one behind them, in one call of the system.
+constexpr std::size_t most_held = 32;
+
+} // namespace
+
 Mailbox::Mailbox(std::string session, Engine &engine, std::size_t limit,
                  std::function<void(const std::string &)> failed)
     : session_(std::move(session)), engine_(engine), limit_(limit), failed_(std::move(failed)),
@@ -40,15 +47,16 @@ void Mailbox::wait_until_empty() {
 
 void Mailbox::run(const std::stop_token &stop) {
     std::unique_lock lock(mutex_);
-    while (!broken_) {
+    for (std::size_t held = 0; !broken_;) {
         came_.wait(lock, stop, [&] { return !waiting_.empty() && !handing_over_; });
         if (stop.stop_requested()) {
             return;
         }
         const Delivery delivery = std::move(waiting_.front());
         waiting_.pop_front();
+        held = waiting_.empty() || held == most_held ? 0 : held + 1;
         hand_over(lock, [&] {
-            engine_.deliver(delivery);
+            engine_.deliver(delivery, held > 0);
             return true;
         });
     }

@@ -238,6 +238,10 @@ void Metrics::committed(std::size_t entries, std::size_t messages, Duration took
     parts_->commit.Observe(in_seconds(took));
 }
 
+void Metrics::copied(std::size_t messages) {
+    parts_->sent.Increment(static_cast<double>(messages));
+}
+
 void Metrics::sealed(Duration took) {
     parts_->seal.Observe(in_seconds(took));
 }

@@ -26,6 +26,8 @@ class Metrics {
 
     // A transaction of the log, what it had and how long it took.
     void committed(std::size_t entries, std::size_t messages, Duration took);
+    // A transaction of messages that were sent alone, for readers.
+    void copied(std::size_t messages);
     // The sealing of one: its hashes and its seal.
     void sealed(Duration took);
     // An entry, from the receipt of its message to its commit, and to the venue's mark after it.

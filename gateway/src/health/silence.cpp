@@ -9,8 +9,8 @@ constexpr auto longest = std::chrono::seconds(5);
 
 } // namespace
 
-Silence::Clock::duration Silence::look(std::optional<std::uint32_t> answered, std::uint32_t last) {
-    const Clock::time_point now = Clock::now();
+Silence::Clock::duration Silence::look(std::optional<std::uint32_t> answered, std::uint32_t last,
+                                       Clock::time_point now) {
     if (answered != answered_ || answered == last) {
         if (told_ && answered) {
             events_->info("venue answers again{} place={}", of_venue_, *answered);
@@ -27,8 +27,8 @@ Silence::Clock::duration Silence::look(std::optional<std::uint32_t> answered, st
     return now - since_;
 }
 
-void Stall::look(std::optional<std::chrono::steady_clock::time_point> since) {
-    const bool waits = since && std::chrono::steady_clock::now() - *since >= longest;
+void Stall::look(std::optional<Silence::Clock::time_point> since, Silence::Clock::time_point now) {
+    const bool waits = since && now - *since >= longest;
     if (waits && !told_) {
         events_->warn("log does not answer{}", of_venue_);
     } else if (told_ && !waits) {

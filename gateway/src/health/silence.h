@@ -16,18 +16,18 @@ namespace gateway {
 // seconds, and once when it goes on. One thread.
 class Silence {
   public:
+    using Clock = std::chrono::steady_clock;
+
     // of_venue is what events say of which venue it is.
     Silence(std::shared_ptr<spdlog::logger> events, std::string of_venue)
         : events_(std::move(events)), of_venue_(std::move(of_venue)) {}
 
     // To be called each second, with the last entry that is answered (0 once the configuration was
     // read, nothing before that) and the last one of the log. How long it has been silent.
-    std::chrono::steady_clock::duration look(std::optional<std::uint32_t> answered,
-                                             std::uint32_t last);
+    Clock::duration look(std::optional<std::uint32_t> answered, std::uint32_t last,
+                         Clock::time_point now = Clock::now());
 
   private:
-    using Clock = std::chrono::steady_clock;
-
     std::shared_ptr<spdlog::logger> events_;
     const std::string of_venue_;
     std::optional<std::uint32_t> answered_;
@@ -42,7 +42,8 @@ class Stall {
         : events_(std::move(events)), of_venue_(std::move(of_venue)) {}
 
     // To be called each second, with the moment at which the commit of now began, if there is one.
-    void look(std::optional<std::chrono::steady_clock::time_point> since);
+    void look(std::optional<Silence::Clock::time_point> since,
+              Silence::Clock::time_point now = Silence::Clock::now());
 
   private:
     std::shared_ptr<spdlog::logger> events_;

@@ -4,7 +4,6 @@
 
 #include "log/records.h"
 
-#include <map>
 #include <memory>
 #include <stdexcept>
 #include <vector>
@@ -13,24 +12,19 @@
 
 namespace gateway {
 
-// Rows that are put into the log by one transaction. A session's row takes the place of its old
-// one. Those of `sent`, `outgoing` and `session` are a copy for readers: no gateway reads them.
+// Rows that are put into the log by one transaction. Those of `sent` are a copy for readers: no
+// gateway reads them.
 struct Batch {
     std::vector<ConnectionEvent> connections;
     std::vector<Entry> entries;
     std::vector<Sent> sent;
-    std::vector<Outgoing> outgoing;
-    bool is_repeated = false; // the gateway before may have put some of these two there
-    std::map<std::string, SessionRow> sessions;
-    std::vector<DroppedRejects> dropped; // of what was there before
-    std::vector<SessionReset> resets;    // of what is there with this batch
-    std::vector<std::string> notes;      // lines of session notes, in order
-    std::optional<Seal> seal;            // of what connections, entries and notes end with
+    bool is_repeated = false;       // the gateway before may have put some of these there
+    std::vector<std::string> notes; // lines of session notes, in order
+    std::optional<Seal> seal;       // of what connections, entries and notes end with
     std::vector<Checkpoint> checkpoints;
 
     bool empty() const {
-        return connections.empty() && entries.empty() && sent.empty() && outgoing.empty() &&
-               sessions.empty() && dropped.empty() && resets.empty() && notes.empty() &&
+        return connections.empty() && entries.empty() && sent.empty() && notes.empty() &&
                checkpoints.empty();
     }
 };
@@ -90,6 +84,9 @@ class LogWriter {
     // rows may then be there or not, and nothing more is written. Throws too where the term of this
     // gateway is over: then none of them is there.
     virtual void commit(const Batch &batch) = 0;
+    // Puts rows of the copy for readers there, which a cut of power may take away again, but no row
+    // without those behind it: a start puts them there again.
+    virtual void commit_copies(const Batch &batch) { commit(batch); }
     // Says that this gateway is there. To be called each second; a commit says it too.
     virtual void be_seen() = 0;
 
@@ -139,13 +136,7 @@ constexpr std::string_view entry_columns =
 constexpr std::string_view connection_columns =
     "place, term, moment, event, entry, number, firm, address, certificate, why, left_out, before, "
     "hash";
-constexpr std::string_view sent_columns = "firm, number, place, bytes";
-constexpr std::string_view outgoing_columns =
-    "firm, epoch, number, sent, copy, dropped, type, moment, bytes";
-constexpr std::string_view session_columns =
-    "firm, epoch, entries_from, logged_on, expected, next, had, first_given, last_given, "
-    "last_kept, "
-    "is_one_free, was_taken, is_reset, reset_at, is_locked, last_logon, is_suspended";
+constexpr std::string_view sent_columns = "firm, number, place, bytes, told";
 inline std::string select_entry(std::string_view rest) {
     return fmt::format("SELECT {} FROM entry {}", entry_columns, rest);
 }
@@ -174,24 +165,6 @@ inline std::string select_checkpoint(std::string_view nothing, std::string_view 
         "checkpoint.place LEFT JOIN connection ON connection.place = checkpoint.event LEFT JOIN "
         "seal ON seal.number = checkpoint.seal {}",
         nothing, rest);
-}
-
-// Drops the Rejects of a session, by its parameters firm, epoch and first number.
-inline std::string drop_rejects(std::string_view firm, std::string_view epoch,
-                                std::string_view from) {
-    return fmt::format("UPDATE outgoing SET dropped = 1 WHERE firm = {} AND epoch = {} AND number "
-                       ">= {} AND sent IS NULL AND type IN ('3', 'j')",
-                       firm, epoch, from);
-}
-
-// Copies what a session keeps of the venue's, by its parameters firm, old epoch and number.
-inline std::string copy_kept(std::string_view firm, std::string_view epoch,
-                             std::string_view behind) {
-    return fmt::format(
-        "INSERT INTO outgoing ({0}) SELECT firm, epoch + 1, row_number() OVER (ORDER "
-        "BY number) + 1, sent, 1, 0, type, moment, bytes FROM outgoing WHERE firm = "
-        "{1} AND epoch = {2} AND number > {3} AND sent IS NOT NULL",
-        outgoing_columns, firm, epoch, behind);
 }
 
 // The texts of schema.sql and of terms.sql.

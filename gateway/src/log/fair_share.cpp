@@ -1,18 +1,6 @@
 #include "log/fair_share.h"
 
-#include <numeric>
-
 namespace gateway {
-
-namespace {
-
-// Of all firms.
-std::size_t sum_of(const std::map<std::string, std::size_t> &counts) {
-    return std::accumulate(counts.begin(), counts.end(), std::size_t{0},
-                           [](std::size_t sum, const auto &each) { return sum + each.second; });
-}
-
-} // namespace
 
 std::size_t FairShare::count_in(const std::map<std::string, std::size_t> &counts,
                                 const std::string &firm) {
@@ -23,11 +11,12 @@ std::size_t FairShare::count_in(const std::map<std::string, std::size_t> &counts
 bool FairShare::has_room(const std::string &firm) const {
     const std::size_t next = count_in(in_batch_, firm);
     return next < limits_.batch && next + count_in(unanswered_of_, firm) < limits_.unanswered &&
-           sum_of(in_batch_) + unanswered_.size() < limits_.all_unanswered;
+           all_in_batch_ + unanswered_.size() < limits_.all_unanswered;
 }
 
 void FairShare::put(const std::string &firm) {
     ++in_batch_[firm];
+    ++all_in_batch_;
 }
 
 void FairShare::committed(const std::string &firm, std::uint32_t place) {

@@ -32,7 +32,10 @@ class FairShare {
     // It has one more.
     void put(const std::string &firm);
     // The batch is committed, and nothing is in the next one.
-    void batch_taken() { in_batch_.clear(); }
+    void batch_taken() {
+        in_batch_.clear();
+        all_in_batch_ = 0;
+    }
     // The entry at this place is that firm's. In the order of places.
     void committed(const std::string &firm, std::uint32_t place);
     // The venue has answered all up to this place. What was answered before, by a process that has
@@ -45,6 +48,7 @@ class FairShare {
 
     const ShareLimits limits_;
     std::map<std::string, std::size_t> in_batch_;
+    std::size_t all_in_batch_ = 0;                                 // of all firms together
     std::deque<std::pair<std::uint32_t, std::string>> unanswered_; // places and firms
     std::map<std::string, std::size_t> unanswered_of_;
 };

@@ -1,5 +1,6 @@
 #include "log/log.h"
 
+#include <algorithm>
 #include <stdexcept>
 #include <utility>
 
@@ -11,17 +12,11 @@ namespace {
 
 using namespace std::chrono_literals;
 
-// How long rows wait that nobody waits for, where no entry is committed, and how many of them are
-// no longer let wait.
+// How long rows wait that nobody waits for, if nothing else is committed.
 constexpr auto patience = 20ms;
+
+// Rows that nobody waits for, and that are so many, are no longer let wait.
 constexpr std::size_t many = 512;
-
-// Rows are committed with an entry once for so long: each such commit has few of them, and keeps
-// its entry waiting for little.
-constexpr auto whole_at_least = 5ms;
-
-// Of one firm's marks, from one to the next.
-constexpr auto between_marks = 5ms;
 
 // Bytes of entries that may wait, however few these are.
 constexpr std::size_t many_bytes = 4 << 20;
@@ -48,8 +43,8 @@ Log::Log(Database &database, EntryFeed &feed, DayClock &clock, Metrics &metrics,
          std::function<void(const std::string &)> failed)
     : entries_(feed), clock_(clock), metrics_(metrics), failed_(std::move(failed)),
       noted_(std::move(start.noted)), stored_(std::move(start.stored)), writer_(database.writer()),
-      limit_(start.waiting), fair_share_(start.shares), next_place_(start.last.place + 1),
-      taken_place_(start.last.place),
+      limit_(start.waiting), many_(std::min(many, limit_)), fair_share_(start.shares),
+      next_place_(start.last.place + 1), taken_place_(start.last.place),
       taken_moment_(ExactMoment::end_of(moment_of(start.last.moment).value_or(Moment{}))),
       committed_place_(start.last.place),
       last_event_(start.connections.last ? start.connections.last->place : 0),
@@ -64,6 +59,7 @@ void Log::commit() {
         std::unique_lock lock(mutex_);
         if (!writing_ && failure_.empty() && is_pressing()) {
             commit_some(lock, false);
+            commit_copies(lock);
         }
     } catch (const std::exception &fault) {
         fail(fault.what());
@@ -87,70 +83,6 @@ std::uint32_t Log::put_connection(ConnectionEvent event) {
     ++last_event_;
     ++filling_.size;
     return is_logon ? ++last_connection_ : 0;
-}
-
-Log::Ticket Log::put(SessionChange change) {
-    std::unique_lock lock(mutex_);
-    if (change.kept) {
-        wait_for_room(lock);
-    }
-    throw_if_failed();
-    if (change.drops_rejects_from) {
-        drop({change.row.firm, change.row.epoch, *change.drops_rejects_from});
-    }
-    if (change.carried) {
-        filling_.rows.sent.push_back(std::move(*change.carried));
-    }
-    if (change.kept) {
-        filling_.has_own = filling_.has_own || !change.kept->sent;
-        filling_.rows.outgoing.push_back(std::move(*change.kept));
-        ++filling_.size;
-    }
-    if (change.reset) {
-        filling_.rows.resets.push_back(std::move(*change.reset));
-    }
-    put_notes(change.row.firm, std::move(change.notes), std::move(change.mark));
-    filling_.rows.sessions[change.row.firm] = std::move(change.row);
-    if (filling_.size == many) {
-        work_.notify_one();
-    }
-    return filling_ticket_;
-}
-
-// The lock is held in both.
-void Log::put_notes(const std::string &firm, std::vector<std::string> notes,
-                    std::optional<std::string> mark) {
-    if (notes.empty()) {
-        if (mark) {
-            marks_[firm].line = std::move(*mark);
-        }
-        return;
-    }
-    marks_[firm].line.clear();
-    filling_.has_own = true;
-    for (std::string &note : notes) {
-        filling_.rows.notes.push_back(std::move(note));
-    }
-}
-
-void Log::put_marks(Filling &filling, std::chrono::steady_clock::time_point now, bool all) {
-    for (auto &[firm, mark] : marks_) {
-        if (!mark.line.empty() && (all || now - mark.put_at >= between_marks)) {
-            filling.rows.notes.push_back(std::exchange(mark.line, {}));
-            mark.put_at = now;
-        }
-    }
-}
-
-// Those that were put before, here and in the database. The lock is held.
-void Log::drop(DroppedRejects rejects) {
-    for (Outgoing &row : filling_.rows.outgoing) {
-        const bool is_reject = !row.sent && (row.type == "3" || row.type == "j");
-        if (is_reject && row.firm == rejects.firm && row.epoch == rejects.epoch) {
-            row.is_dropped = true;
-        }
-    }
-    filling_.rows.dropped.push_back(std::move(rejects));
 }
 
 Log::Ticket Log::put_checkpoint(const Checkpoint &checkpoint) {
@@ -237,7 +169,7 @@ std::string Log::failure() {
 }
 
 bool Log::is_empty() const {
-    return filling_.rows.empty() && arrivals_.empty();
+    return filling_.rows.empty() && arrivals_.empty() && ready_marks_.empty() && due_marks_ == 0;
 }
 
 bool Log::has_room() const {
@@ -267,11 +199,12 @@ void Log::write_all(const std::stop_token &stop) {
     std::unique_lock lock(mutex_);
     while (wait_for_work(lock, stop)) {
         commit_some(lock, stop.stop_requested());
+        commit_copies(lock);
     }
 }
 
 bool Log::is_pressing() const {
-    return urgent_ || !arrivals_.empty() || filling_.size >= many;
+    return urgent_ || !arrivals_.empty() || filling_.size >= many_;
 }
 
 bool Log::wait_for_work(std::unique_lock<std::mutex> &lock, const std::stop_token &stop) {
@@ -279,11 +212,15 @@ bool Log::wait_for_work(std::unique_lock<std::mutex> &lock, const std::stop_toke
         // Rows that nobody waits for wake nobody: they are found when it looks again.
         const bool pressing =
             work_.wait_for(lock, stop, patience, [&] { return !writing_ && is_pressing(); });
-        if (pressing || (!writing_ && !is_empty())) {
+        const bool is_lull =
+            !writing_ && std::chrono::steady_clock::now() - committed_at_ >= patience;
+        if (pressing || (is_lull && !is_empty())) {
             return true;
         }
-        if (!writing_) {
+        if (is_lull) {
             use_lull(lock, looks);
+        } else {
+            looks = 0;
         }
     }
     return failure_.empty() && !is_empty();
@@ -308,19 +245,17 @@ void Log::use_lull(std::unique_lock<std::mutex> &lock, int looks) {
 }
 
 Log::Filling Log::take(bool all) {
-    const auto now = std::chrono::steady_clock::now();
-    if (all || urgent_ || filling_.has_own || now - whole_at_ >= whole_at_least ||
-        filling_.size >= many) {
+    if (all || urgent_ || arrivals_.empty() || filling_.has_own || filling_.size >= many_) {
         urgent_ = false;
-        whole_at_ = now;
         ++filling_ticket_;
         Filling whole = std::exchange(filling_, Filling{});
         place_arrivals(whole);
-        put_marks(whole, now, all);
+        put_marks(whole, all);
         return whole;
     }
     Filling entries;
     entries.is_whole = false;
+    entries.rows.notes.swap(ready_marks_);
     // An entry names its connection.
     entries.rows.connections.swap(filling_.rows.connections);
     place_arrivals(entries);
@@ -344,6 +279,11 @@ void Log::commit_some(std::unique_lock<std::mutex> &lock, bool all) {
     if (is_pressing()) {
         work_.notify_one();
     }
+    if (!filling.rows.entries.empty()) {
+        lock.unlock();
+        stored_();
+        lock.lock();
+    }
 }
 
 void Log::write_rows(Filling &filling) {
@@ -366,14 +306,12 @@ void Log::write_rows(Filling &filling) {
     }
 }
 
-// Answers first: firms wait for them.
 void Log::tell_stored(const Filling &filling) {
     if (filling.rows.entries.empty()) {
         return;
     }
     entries_.are_stored();
     committed_place_ = chain_.end().place;
-    stored_();
     for (const Entry &entry : filling.rows.entries) {
         if (!entry.firm && entry.line.starts_with('#')) {
             noted_(entry.place, entry.line);

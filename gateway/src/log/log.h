@@ -10,6 +10,7 @@
 #include "log/entry_feed.h"
 #include "log/fair_share.h"
 #include "log/seals.h"
+#include "log/session_note_line.h"
 
 #include <atomic>
 #include <chrono>
@@ -26,11 +27,11 @@ namespace gateway {
 // Rows are put into the batch that is being filled. It is committed as soon as the one before is
 // committed and there is an entry, or somebody waits for it: by the thread that put the entry, so
 // that it need not wait for another, or by a thread of the log, where more has come meanwhile. Rows
-// that nobody waits for stay in it for a few milliseconds, so that an entry is not kept waiting for
-// them. Any thread may put rows, and waits where too many are there. Of each firm a batch has no
-// more than its share, and of those that wait the one goes first that has waited longest. Within a
-// batch messages stand in the order of their receipt, and the moment of an entry is that of its
-// receipt, or the one before it if that is later.
+// that nobody waits for, the copy for readers, are committed behind the entries by themselves, so
+// that an entry is not kept waiting for them. Any thread may put rows, and waits where too many are
+// there. Of each firm a batch has no more than its share, and of those that wait the one goes first
+// that has waited longest. Within a batch messages stand in the order of their receipt, and the
+// moment of an entry is that of its receipt, or the one before it if that is later.
 //
 // Where a commit fails nothing is written any more: every call that needs the log throws, with the
 // cause, and `failed` is called once.
@@ -60,7 +61,7 @@ class Log {
         // committed it, which it keeps waiting for nothing.
         std::function<void(std::uint32_t place, const std::string &line)> noted =
             [](std::uint32_t, const std::string &) {};
-        // Is called once more entries are on disk, likewise.
+        // Is called once more entries are on disk, by any thread, also by several at once.
         std::function<void()> stored = [] {};
     };
 
@@ -107,10 +108,10 @@ class Log {
     // gateway speaks for the firm: that waits for no share.
     Ticket append_message(const std::string &firm, const std::optional<Came> &came,
                           std::string_view frame, Committer committer = Committer::thread);
-    // The same of a message that its caller commits, with the row of its session; but nothing, and
-    // nothing was done, where it would have to wait: then wait_for_turn(), and come with the turn.
+    // The same of a message that its caller commits; but nothing, and nothing was done, where it
+    // would have to wait: then wait_for_turn(), and come with the turn.
     std::optional<Ticket> append_at_once(const std::string &firm, const Came &came,
-                                         std::string_view frame, SessionRow session, Turn turn);
+                                         std::string_view frame, Turn turn);
     // Waits until a message that was received then may be put there.
     Turn wait_for_turn(const std::string &firm, std::chrono::system_clock::time_point received);
     // Commits the entries that wait; where another thread is committing they are left to the log's.
@@ -143,20 +144,17 @@ class Log {
     // one whose Logon was accepted its number is given, too, and returned: it is on disk no later
     // than the first entry that names it. Waits for nothing.
     std::uint32_t put_connection(ConnectionEvent event);
-    // What an event of a session changes, in one transaction: its row; what it keeps, with the
-    // venue's message that this carries; the Rejects that it drops first, those from a number on;
-    // and the lines of its session notes, in their order.
+    // What an event of a session puts there, in one transaction: the venue's message that it was
+    // given, and the lines of its session notes, in their order.
     struct SessionChange {
-        SessionRow row;
-        std::optional<Outgoing> kept;
-        std::optional<Sent> carried;
-        std::optional<std::uint32_t> drops_rejects_from;
-        std::optional<SessionReset> reset;
+        std::string firm;
+        std::optional<Sent> given{};
         std::vector<std::string> notes{};
-        // The line of a session note that is put with a batch, as long as no other of the firm is:
-        // at most one in some milliseconds.
-        std::optional<std::string> mark{};
+        // The session note that is put with a batch, as long as no other of the firm is: at most
+        // one in some milliseconds.
+        std::optional<SessionNoteLine> mark{};
     };
+    // Returns the batch behind which all is on disk that the session has put so far.
     Ticket put(SessionChange change);
 
     // A signature of what is committed.
@@ -197,8 +195,8 @@ class Log {
         std::vector<std::chrono::steady_clock::time_point> received;
         std::size_t size = 0;
         bool is_whole = true; // not its entries alone
-        // A session keeps something of its own, or a session note says something: no entry is
-        // committed without that, since it may be the answer to a message before.
+        // A session note says something: no entry is committed without that, since it may be of the
+        // answer to a message before.
         bool has_own = false;
     };
     using Waiters = std::list<Waiter>;
@@ -211,11 +209,12 @@ class Log {
     // Waits for its turn, which ends with this; the lock is held before and after.
     void wait_until_it_may(std::unique_lock<std::mutex> &lock, Waiters::iterator own);
     void leave(Waiters::iterator own);
-    void drop(DroppedRejects rejects);
     void put_notes(const std::string &firm, std::vector<std::string> notes,
-                   std::optional<std::string> mark);
-    // The marks that are due, or all, behind the other session notes.
-    void put_marks(Filling &filling, std::chrono::steady_clock::time_point now, bool all);
+                   std::optional<SessionNoteLine> mark);
+    void take_due_marks(std::vector<std::string> &marks, bool all);
+    // The marks that are ready in front of the other session notes, and those that are due, or all,
+    // behind them.
+    void put_marks(Filling &filling, bool all);
     bool may_go(Waiters::const_iterator waiter) const;
     bool has_share(const Waiter &waiter) const;
     bool is_held(const Waiter &waiter) const;
@@ -237,10 +236,16 @@ class Log {
     bool is_pressing() const;
     // What is to be committed now. The lock is held.
     Filling take(bool all);
-    // Commits what is to be committed now. The lock is held before and after; nobody else writes.
+    // Commits what is to be committed now. The lock is held before and after; nobody else writes,
+    // but while it is told that entries are on disk: many answers leave then.
     void commit_some(std::unique_lock<std::mutex> &lock, bool all);
     void write_rows(Filling &filling);
-    // Tells that entries are on disk, and of the notes among them.
+    // Commits what was put for readers, if it is some, and nothing else waits: so no entry waits
+    // for it, as it would in one transaction with it. The lock is held before and after.
+    void commit_copies(std::unique_lock<std::mutex> &lock);
+    bool has_copies_alone() const;
+    Filling take_copies();
+    // Notes that entries are on disk, and tells the notes among them.
     void tell_stored(const Filling &filling);
     // While they are committed the venue answers them: what it says of an entry leaves only once
     // that is on disk.
@@ -255,6 +260,7 @@ class Log {
     std::function<void()> stored_;
     std::unique_ptr<LogWriter> writer_;
     const std::size_t limit_;
+    const std::size_t many_; // rows that nobody waits for are no longer let wait
 
     // Over all that follows up to `committed_end_`. The clock's is the one lock that is taken under
     // it; a commit, the venue and the listeners have none of it.
@@ -267,12 +273,13 @@ class Log {
     FairShare fair_share_;
     Waiters waiters_; // the first that came first
     bool urgent_ = false;
-    std::chrono::steady_clock::time_point whole_at_; // when a whole batch was taken last
     struct Mark {
-        std::string line; // that is due; empty where none is
+        std::optional<SessionNoteLine> note; // that is due
         std::chrono::steady_clock::time_point put_at{};
     };
-    std::map<std::string, Mark> marks_; // by firm
+    std::map<std::string, Mark> marks_;    // by firm
+    std::size_t due_marks_ = 0;            // of these, those with a note
+    std::vector<std::string> ready_marks_; // that go with the next batch
     std::optional<ExactMoment> held_from_;
     bool writing_ = false; // some thread has the writer
     std::chrono::steady_clock::time_point writing_since_;

@@ -59,8 +59,7 @@ Log::Ticket Log::append_message(const std::string &firm, const std::optional<Cam
 }
 
 std::optional<Log::Ticket> Log::append_at_once(const std::string &firm, const Came &came,
-                                               std::string_view frame, SessionRow session,
-                                               Turn turn) {
+                                               std::string_view frame, Turn turn) {
     Arrival arrival = arrival_of(firm, came, frame);
     const std::lock_guard lock(mutex_);
     throw_if_failed();
@@ -77,7 +76,6 @@ std::optional<Log::Ticket> Log::append_at_once(const std::string &firm, const Ca
     turn.log_ = nullptr;
     leave(own);
     fair_share_.put(firm);
-    filling_.rows.sessions[firm] = std::move(session);
     return append_here(std::move(arrival), Committer::caller);
 }
 

@@ -69,40 +69,78 @@ class WritingConnection {
         return term_;
     }
 
-    void commit(const Batch &batch) {
+    // `first` is a statement in front of the rows, if there is one.
+    void commit(const Batch &batch, std::string_view first = {}) {
+        if (Statements::has_room_for(batch)) {
+            commit_at_once(batch, first);
+            return;
+        }
         pqxx::work work(*connection_);
         check_connection();
+        Statements rest(work);
+        if (!first.empty()) {
+            work.exec(std::string(first));
+        }
         put_rows(work, batch);
         for (const Checkpoint &row : batch.checkpoints) {
             work.exec_prepared("checkpoint", row.number, row.at.term, column_of_place(row.at.place),
                                row.at.event, row.at.seal, static_cast<int>(row.is_end),
                                bytea(row.signature));
         }
-        end_with_words(work, batch.seal);
+        end_with_words(rest, batch);
+        rest.run();
         commit(work);
     }
 
   private:
-    // The seal goes with the words that each transaction ends with: a round trip of its own would
-    // keep every answer waiting.
-    void end_with_words(pqxx::work &work, const std::optional<Seal> &seal) {
+    // In one way to the server and back. Another session than that of now, if the connection is
+    // lost meanwhile, has no such statements.
+    void commit_at_once(const Batch &batch, std::string_view first) {
+        pqxx::nontransaction work(*connection_);
+        check_connection();
+        Statements all(work);
+        all.add("BEGIN");
+        if (!first.empty()) {
+            all.add(first);
+        }
+        all.put(batch);
+        end_with_words(all, batch);
+        all.add("COMMIT");
+        warnings_.listen();
+        try {
+            all.run();
+        } catch (const pqxx::sql_error &) {
+            // Nothing of it is there, and the transaction does not stay open.
+            work.exec("ROLLBACK");
+            throw;
+        }
+        heed_warnings();
+    }
+
+    // The words that each transaction ends with, with its seal if it has one.
+    void end_with_words(Statements &statements, const Batch &batch) {
         const auto now = std::chrono::steady_clock::now();
         if (now - seen_ >= seen_each) {
-            work.exec_prepared("speak and be seen", term_);
+            statements.add(fmt::format("SELECT speak_and_be_seen({})", term_));
             seen_ = now;
-        } else if (!seal) {
-            work.exec_prepared("speak", term_);
+        } else if (!batch.seal) {
+            statements.call("speak", term_);
         }
-        if (seal) {
-            const Position &at = seal->at;
-            work.exec_prepared("seal and speak", term_, at.seal, at.term, column_of_place(at.place),
-                               at.event, bytea(seal->notes), bytea(at.notes), bytea(seal->mac));
+        if (batch.seal) {
+            const Seal &seal = *batch.seal;
+            statements.call("seal_and_speak", term_, seal.at.seal, seal.at.term,
+                            column_of_place(seal.at.place), seal.at.event, bytea(seal.notes),
+                            bytea(seal.at.notes), bytea(seal.mac));
         }
     }
 
     void commit(pqxx::work &work) {
         warnings_.listen();
         work.commit();
+        heed_warnings();
+    }
+
+    void heed_warnings() const {
         const std::string warning = warnings_.heard();
         if (!warning.empty()) {
             throw std::runtime_error(fmt::format(
@@ -123,15 +161,14 @@ class WritingConnection {
             throw std::runtime_error(
                 another_form(schema, form.empty() ? 0 : number_of(form[0][0])));
         }
-        prepare_rows(*connection_);
+        prepare_rows(work, *connection_);
         connection_->prepare("checkpoint",
                              "INSERT INTO checkpoint (number, term, place, event, seal, is_end, "
                              "signature) VALUES ($1, $2, $3, $4, $5, $6, $7)");
-        connection_->prepare("seal and speak",
-                             "WITH sealed AS (INSERT INTO seal (number, term, place, event, notes, "
-                             "hash, mac) VALUES ($2, $3, $4, $5, $6, $7, $8)) SELECT speak($1)");
-        connection_->prepare("speak", "SELECT speak($1)");
-        connection_->prepare("speak and be seen", "SELECT speak_and_be_seen($1)");
+        work.exec("PREPARE seal_and_speak AS WITH sealed AS (INSERT INTO seal (number, term, "
+                  "place, event, notes, hash, mac) VALUES ($2, $3, $4, $5, $6, $7, $8)) SELECT "
+                  "speak($1)");
+        work.exec("PREPARE speak AS SELECT speak($1)");
     }
 
     // Of two gateways that begin at once the second waits for the first by the schema's name, which
@@ -203,6 +240,10 @@ class PostgresWriter final : public LogWriter {
 
     void commit(const Batch &batch) override {
         told("commit", [&] { connection_->commit(batch); });
+    }
+    // The transaction waits for no disk.
+    void commit_copies(const Batch &batch) override {
+        told("commit", [&] { connection_->commit(batch, "SET LOCAL synchronous_commit TO off"); });
     }
     void be_seen() override { commit(Batch{}); }
 

@@ -83,78 +83,21 @@ void add_sent(pqxx::work &work, const std::vector<Sent> &sent) {
     if (sent.empty()) {
         return;
     }
-    Rows rows(work, "sent", {"firm", "number", "place", "bytes"});
+    Rows rows(work, "sent", {"firm", "number", "place", "bytes", "told"});
     for (const Sent &row : sent) {
-        rows.add(row.firm, row.number, row.place, bytea(row.bytes));
-    }
-    rows.end();
-}
-
-void add_outgoing(pqxx::work &work, const std::vector<Outgoing> &outgoing) {
-    if (outgoing.empty()) {
-        return;
-    }
-    Rows rows(work, "outgoing",
-              {"firm", "epoch", "number", "sent", "copy", "dropped", "type", "moment", "bytes"});
-    for (const Outgoing &row : outgoing) {
-        const Nullable sent(row.sent);
-        rows.add(row.firm, row.epoch, row.number, sent.text(), row.is_copy ? 1 : 0,
-                 row.is_dropped ? 1 : 0, row.type, row.moment, bytea(row.bytes));
+        const Nullable told(row.told);
+        rows.add(row.firm, row.number, row.place, bytea(row.bytes), told.text());
     }
     rows.end();
 }
 
 // What is there stays.
-void repeat_copy(pqxx::work &work, const Batch &batch) {
-    for (const Sent &row : batch.sent) {
-        work.exec_prepared("sent again", row.firm, row.number, row.place, bytea(row.bytes));
+void add_sent_again(pqxx::work &work, const std::vector<Sent> &sent) {
+    for (const Sent &row : sent) {
+        const Nullable told(row.told);
+        work.exec_prepared("sent again", row.firm, row.number, row.place, bytea(row.bytes),
+                           told.text());
     }
-    for (const Outgoing &row : batch.outgoing) {
-        const Nullable sent(row.sent);
-        work.exec_prepared("outgoing again", row.firm, row.epoch, row.number, sent.text(),
-                           row.is_copy ? 1 : 0, row.is_dropped ? 1 : 0, row.type, row.moment,
-                           bytea(row.bytes));
-    }
-}
-
-void put_session(pqxx::work &work, const SessionRow &row) {
-    const SessionNumbers &numbers = row.numbers;
-    const auto mark = [](bool is_set) { return is_set ? 1 : 0; };
-    work.exec_prepared("session", row.firm, row.epoch, row.entries_from, mark(row.logged_on),
-                       numbers.expected, numbers.next, numbers.had, numbers.first_given,
-                       numbers.last_given, numbers.last_kept, mark(numbers.is_one_free),
-                       mark(numbers.was_taken), mark(numbers.is_reset), numbers.reset_at,
-                       mark(numbers.is_locked), numbers.last_logon, mark(numbers.is_suspended));
-}
-
-void put_copy(pqxx::work &work, const Batch &batch) {
-    for (const DroppedRejects &row : batch.dropped) {
-        work.exec_prepared("drop", row.firm, row.epoch, row.from);
-    }
-    if (batch.is_repeated) {
-        repeat_copy(work, batch);
-    } else {
-        add_sent(work, batch.sent);
-        add_outgoing(work, batch.outgoing);
-    }
-    for (const SessionReset &row : batch.resets) {
-        work.exec_prepared("reset", row.firm, row.epoch, row.behind);
-    }
-    for (const auto &[firm, row] : batch.sessions) {
-        put_session(work, row);
-    }
-}
-
-// `COLUMN = excluded.COLUMN` of each but the first.
-std::string set_session() {
-    std::string set;
-    std::string_view columns = session_columns;
-    while (columns.find(", ") != std::string_view::npos) {
-        columns.remove_prefix(columns.find(", ") + 2);
-        const std::string_view column = columns.substr(0, columns.find(','));
-        set += fmt::format("{}{} = excluded.{}", set.empty() ? "" : ", ", column, column);
-    }
-    return set;
 }
 
 } // namespace
@@ -165,27 +108,45 @@ std::string bytea(std::string_view bytes) {
     return text;
 }
 
-void prepare_rows(pqxx::connection_base &connection) {
-    connection.prepare(
-        "session",
-        fmt::format("INSERT INTO session ({}) VALUES ($1, $2, $3, $4, $5, $6, $7, $8, $9, $10, "
-                    "$11, $12, $13, $14, $15, $16, $17) ON CONFLICT (firm) DO UPDATE SET {}",
-                    session_columns, set_session()));
-    connection.prepare("sent again", fmt::format("INSERT INTO sent ({}) VALUES ($1, $2, $3, $4) ON "
-                                                 "CONFLICT DO NOTHING",
-                                                 sent_columns));
-    connection.prepare("outgoing again",
-                       fmt::format("INSERT INTO outgoing ({}) VALUES ($1, $2, $3, $4, $5, "
-                                   "$6, $7, $8, $9) ON CONFLICT DO NOTHING",
-                                   outgoing_columns));
-    connection.prepare("drop", drop_rejects("$1", "$2", "$3"));
-    connection.prepare("reset", copy_kept("$1", "$2", "$3"));
+void prepare_rows(pqxx::nontransaction &work, pqxx::connection_base &connection) {
+    // By a statement of their own, so that a statement of SQL may name them.
+    work.exec(fmt::format("PREPARE put_entry AS INSERT INTO entry ({}) VALUES ($1, $2, $3, $4, $5, "
+                          "$6, $7, $8, $9, $10)",
+                          entry_columns));
+    work.exec(fmt::format("PREPARE put_sent AS INSERT INTO sent ({}) VALUES ($1, $2, $3, $4, $5)",
+                          sent_columns));
+    connection.prepare("sent again",
+                       fmt::format("INSERT INTO sent ({}) VALUES ($1, $2, $3, $4, $5) ON CONFLICT "
+                                   "DO NOTHING",
+                                   sent_columns));
+}
+
+bool Statements::has_room_for(const Batch &batch) {
+    constexpr std::size_t most_entries = 4;
+    constexpr std::size_t most_rows = 32;
+    return batch.entries.size() <= most_entries && batch.sent.size() <= most_rows &&
+           !batch.is_repeated && batch.connections.empty() && batch.checkpoints.empty();
+}
+
+void Statements::put(const Batch &batch) {
+    for (const Entry &entry : batch.entries) {
+        call("put_entry", entry.place, entry.term, entry.moment, entry.received, entry.firm,
+             entry.number, entry.connection, bytea(entry.line), bytea(entry.before),
+             bytea(entry.hash));
+    }
+    for (const Sent &row : batch.sent) {
+        call("put_sent", row.firm, row.number, row.place, bytea(row.bytes), row.told);
+    }
 }
 
 void put_rows(pqxx::work &work, const Batch &batch) {
     add_connections(work, batch.connections);
     add_entries(work, batch.entries);
-    put_copy(work, batch);
+    if (batch.is_repeated) {
+        add_sent_again(work, batch.sent);
+    } else {
+        add_sent(work, batch.sent);
+    }
 }
 
 } // namespace gateway

@@ -118,14 +118,14 @@ std::string told_by(const VenueNote &note, std::string_view firm, std::uint32_t 
             throw std::runtime_error(
                 fmt::format("the venue named a trade that is none of {}'s: {}", firm, note.name));
         }
-        return fmt::format("1003={}{}", note.name, soh);
+        return fmt::format("1003={}", note.name);
     }
     const auto found = reasons.find(note.name);
     if (found == reasons.end()) {
         throw std::runtime_error(
             fmt::format("the venue refuses {} for a reason that has no text: {}", firm, note.name));
     }
-    return fmt::format("58={}{}", found->second, soh);
+    return fmt::format("58={}", found->second);
 }
 
 std::vector<std::string> with_notes(std::vector<std::string> command, bool notes) {

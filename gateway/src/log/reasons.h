@@ -42,8 +42,8 @@ bool is_venue_note(std::string_view line);
 // Reads one. Throws std::runtime_error where it is of another form.
 VenueNote read_venue_note(std::string_view line);
 
-// The field, with its tag and an SOH at its end, that tells a firm of a note beside the message of
-// this number: Text (58), or TradeID (1003). Throws std::runtime_error where the note is that of
+// The field that tells a firm of a note beside the message of this number, as TAG=VALUE: Text (58),
+// or TradeID (1003). Throws std::runtime_error where the note is that of
 // another message, where the day has no such reason, and where the trade is none of this firm's on
 // this date (eight digits).
 std::string told_by(const VenueNote &note, std::string_view firm, std::uint32_t number,

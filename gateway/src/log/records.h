@@ -4,7 +4,6 @@
 
 #include "base/digest.h"
 #include "log/reasons.h"
-#include "session/session_numbers.h"
 
 #include <array>
 #include <cstdint>
@@ -56,48 +55,13 @@ constexpr const char *stranger = "stranger";
 constexpr const char *left_out = "left out";
 } // namespace connection_events
 
+// A message that the venue gave a firm.
 struct Sent {
     std::string firm;
     std::uint32_t number = 0;
     std::uint32_t place = 0;
     std::string bytes;
-};
-
-// What a session keeps under a number.
-struct Outgoing {
-    std::string firm;
-    std::uint32_t epoch = 0;
-    std::uint32_t number = 0;
-    std::optional<std::uint32_t> sent;
-    bool is_copy = false;
-    bool is_dropped = false;
-    std::string type;
-    std::string moment; // HH:MM:SS.sss
-    std::string bytes;
-};
-
-// A session's numbers, and since when they count.
-struct SessionRow {
-    std::string firm;
-    std::uint32_t epoch = 0;        // how often an operator has reset it
-    std::uint32_t entries_from = 0; // the last place of `entry` at the last reset
-    bool logged_on = false;
-    SessionNumbers numbers;
-};
-
-// The Rejects of a session that are kept no longer: those from a number on.
-struct DroppedRejects {
-    std::string firm;
-    std::uint32_t epoch = 0;
-    std::uint32_t from = 0;
-};
-
-// What a session keeps of the venue's behind a number of an epoch gets the numbers from 2 on of the
-// next one.
-struct SessionReset {
-    std::string firm;
-    std::uint32_t epoch = 0; // that ends
-    std::uint32_t behind = 0;
+    std::optional<std::string> told; // TAG=VALUE
 };
 
 // The place of a log that has session notes and no entry yet: its day has not opened.

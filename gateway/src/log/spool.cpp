@@ -28,7 +28,7 @@ bool is_reject(const std::string &type) {
 } // namespace
 
 Spool::Spool(const std::filesystem::path &folder, const std::vector<std::string> &firms)
-    : folder_(folder), bodies_(open_unnamed(folder)) {
+    : folder_(folder), bodies_(folder) {
     for (const std::string &name : firms) {
         firms_.try_emplace(name, folder);
     }
@@ -59,20 +59,10 @@ Spool::Body Spool::append(std::string_view type, std::string_view bytes, std::st
     if (type.size() >= sizeof body.type) {
         throw std::runtime_error(fmt::format("a message of the type {} is not kept", type));
     }
-    const std::string all = std::string(bytes).append(behind);
-    body.begin = end_.fetch_add(all.size());
+    body.begin = bodies_.append(std::string(bytes).append(behind));
     body.length = static_cast<std::uint32_t>(bytes.size());
     std::ranges::copy(type, body.type);
-    write_at(bodies_, body.begin, all.data(), all.size());
     return body;
-}
-
-std::string Spool::bytes_at(std::uint64_t begin, std::uint32_t length) const {
-    std::string bytes(length, '\0');
-    if (read_at(bodies_, begin, bytes.data(), bytes.size()) != bytes.size()) {
-        throw std::runtime_error("the spool was cut off");
-    }
-    return bytes;
 }
 
 bool Spool::is_same(const Given &is, const GivenMessage &message) const {
@@ -96,8 +86,10 @@ std::optional<Digest> Spool::give(const std::string &name, const GivenMessage &m
                                              number, firm.last_given + 1));
     }
     const auto frame = static_cast<std::uint32_t>(message.frame.size());
-    firm.given.put(number, {append(message.type, message.wire, message.frame), frame, message.place,
-                            message.moment, 0});
+    const std::string told = message.told.value_or("");
+    firm.given.put(number,
+                   {append(message.type, message.wire, message.frame + told), frame,
+                    static_cast<std::uint32_t>(told.size()), message.place, message.moment});
     const Digest hash = hash_of_message(firm.hashes.at(firm.last_given), message.wire);
     firm.hashes.put(number, hash);
     firm.last_given = number;
@@ -124,12 +116,17 @@ GivenMessage Spool::given(const std::string &name, std::uint32_t number) const {
         throw std::runtime_error(
             fmt::format("the venue did not give {} its message {}", name, number));
     }
-    return {number,
-            found.place,
-            found.moment,
-            type_of(found.body.type),
-            bytes_of(found.body),
-            bytes_at(found.body.begin + found.body.length, found.frame)};
+    const std::uint64_t behind = found.body.begin + found.body.length;
+    GivenMessage message{number,
+                         found.place,
+                         found.moment,
+                         type_of(found.body.type),
+                         bytes_of(found.body),
+                         bodies_.at(behind, found.frame)};
+    if (found.told > 0) {
+        message.told = bodies_.at(behind + found.frame, found.told);
+    }
+    return message;
 }
 
 void Spool::keep(const std::string &name, const KeptMessage &message) {

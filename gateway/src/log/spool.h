@@ -6,7 +6,6 @@
 #include "base/record_file.h"
 #include "session/session_event.h"
 
-#include <atomic>
 #include <cstddef>
 #include <cstdint>
 #include <filesystem>
@@ -21,12 +20,13 @@ namespace gateway {
 
 // A message that the venue gave a firm.
 struct GivenMessage {
-    std::uint32_t number = 0; // the venue's
-    std::uint32_t place = 0;  // of the entry that it answers,
-    std::uint32_t moment = 0; // and its moment, in milliseconds of the day
-    std::string type{};       // 35
-    std::string wire{};       // what a session keeps of it
-    std::string frame{};      // the venue's; empty where it was not put
+    std::uint32_t number = 0;          // the venue's
+    std::uint32_t place = 0;           // of the entry that it answers,
+    std::uint32_t moment = 0;          // and its moment, in milliseconds of the day
+    std::string type{};                // 35
+    std::string wire{};                // what a session keeps of it
+    std::string frame{};               // the venue's; empty where it was not put
+    std::optional<std::string> told{}; // the field that tells what is noted beside it, likewise
 };
 
 // The venue's messages as sessions keep them, and what each session keeps under its numbers. A
@@ -76,13 +76,14 @@ class Spool {
         std::uint32_t length = 0; // 0: there is none
         char type[4] = {};
     };
-    // The same of one that the venue gave. Its own frame stands behind what is kept of it.
+    // The same of one that the venue gave. Its own frame, and what is told beside it, stand behind
+    // what is kept of it.
     struct Given {
         Body body;
-        std::uint32_t frame = 0; // bytes of that
+        std::uint32_t frame = 0; // bytes of the one,
+        std::uint32_t told = 0;  // and of the other
         std::uint32_t place = 0;
         std::uint32_t moment = 0;
-        std::uint32_t unused = 0; // so that a record has no gap
     };
     // What a session keeps, as KeptMessage has it.
     struct Kept {
@@ -119,13 +120,11 @@ class Spool {
     const Firm &firm_of(const std::string &name) const;
     Firm &firm_of(const std::string &name);
     Body append(std::string_view type, std::string_view bytes, std::string_view behind = {});
-    std::string bytes_at(std::uint64_t begin, std::uint32_t length) const;
-    std::string bytes_of(const Body &body) const { return bytes_at(body.begin, body.length); }
+    std::string bytes_of(const Body &body) const { return bodies_.at(body.begin, body.length); }
     bool is_same(const Given &is, const GivenMessage &message) const;
 
     const std::filesystem::path folder_;
-    const Descriptor bodies_;
-    std::atomic<std::uint64_t> end_{0}; // of the bodies
+    TextFile bodies_;
     std::map<std::string, Firm> firms_;
 };
 

@@ -56,32 +56,6 @@ void lengthen(const std::string &log) {
     ::fsync(file.number());
 }
 
-// Puts rows into `sent` and `outgoing`.
-class Copy {
-  public:
-    // verb is INSERT, or what leaves the row that is there.
-    Copy(sqlite3 *connection, std::string_view verb)
-        : sent_(connection,
-                fmt::format("{} INTO sent ({}) VALUES (?, ?, ?, ?)", verb, sent_columns)),
-          outgoing_(connection,
-                    fmt::format("{} INTO outgoing ({}) VALUES (?, ?, ?, ?, ?, ?, ?, ?, ?)", verb,
-                                outgoing_columns)) {}
-
-    void put(const Sent &row) {
-        sent_.bind(row.firm).bind(std::int64_t{row.number}).bind(std::int64_t{row.place});
-        sent_.bind_bytes(row.bytes).run();
-    }
-    void put(const Outgoing &row) {
-        outgoing_.bind(row.firm).bind(std::int64_t{row.epoch}).bind(std::int64_t{row.number});
-        outgoing_.bind(row.sent).bind(std::int64_t{row.is_copy}).bind(std::int64_t{row.is_dropped});
-        outgoing_.bind(row.type).bind(row.moment).bind_bytes(row.bytes).run();
-    }
-
-  private:
-    Statement sent_;
-    Statement outgoing_;
-};
-
 class SqliteWriter final : public LogWriter {
   public:
     explicit SqliteWriter(const std::string &path)
@@ -93,13 +67,8 @@ class SqliteWriter final : public LogWriter {
           event_(connection_.get(), fmt::format("INSERT INTO connection ({}) VALUES (?, ?, ?, ?, "
                                                 "?, ?, ?, ?, ?, ?, ?, ?, ?)",
                                                 connection_columns)),
-          copy_(connection_.get(), "INSERT"), copy_again_(connection_.get(), "INSERT OR IGNORE"),
-          session_(connection_.get(),
-                   fmt::format("INSERT OR REPLACE INTO session ({}) VALUES (?, ?, ?, ?, ?, ?, ?, "
-                               "?, ?, ?, ?, ?, ?, ?, ?, ?, ?)",
-                               session_columns)),
-          dropped_(connection_.get(), drop_rejects("?", "?", "?")),
-          reset_(connection_.get(), copy_kept("?", "?", "?")),
+          sent_(connection_.get(), put_sent("INSERT")),
+          sent_again_(connection_.get(), put_sent("INSERT OR IGNORE")),
           seal_(connection_.get(),
                 "INSERT INTO seal (number, term, place, event, notes, hash, mac) VALUES (?, ?, ?, "
                 "?, ?, ?, ?)"),
@@ -114,11 +83,9 @@ class SqliteWriter final : public LogWriter {
         for (const Entry &entry : batch.entries) {
             put(entry);
         }
-        Copy &copy = batch.is_repeated ? copy_again_ : copy_;
         for (const Sent &row : batch.sent) {
-            copy.put(row);
+            put(batch.is_repeated ? sent_again_ : sent_, row);
         }
-        put_sessions(batch, copy);
         if (batch.seal) {
             put_place(seal_, batch.seal->at.seal, batch.seal->at);
             seal_.bind_bytes(batch.seal->notes).bind_bytes(batch.seal->at.notes);
@@ -131,6 +98,13 @@ class SqliteWriter final : public LogWriter {
         }
         commit_.run();
         ++commits_;
+    }
+
+    // Without its own synchronisation, which is that of the next commit.
+    void commit_copies(const Batch &batch) override {
+        execute(connection_.get(), "PRAGMA synchronous = NORMAL");
+        commit(batch);
+        execute(connection_.get(), "PRAGMA synchronous = FULL");
     }
 
     // Pages go from the write-ahead log into the file at such a time, so that no commit waits for
@@ -151,34 +125,13 @@ class SqliteWriter final : public LogWriter {
         row.bind(std::int64_t{number}).bind(std::int64_t{at.term});
         row.bind(std::int64_t{column_of_place(at.place)}).bind(std::int64_t{at.event});
     }
-    void put_sessions(const Batch &batch, Copy &copy) {
-        for (const DroppedRejects &row : batch.dropped) {
-            dropped_.bind(row.firm).bind(std::int64_t{row.epoch}).bind(std::int64_t{row.from});
-            dropped_.run();
-        }
-        for (const Outgoing &row : batch.outgoing) {
-            copy.put(row);
-        }
-        for (const SessionReset &row : batch.resets) {
-            reset_.bind(row.firm).bind(std::int64_t{row.epoch}).bind(std::int64_t{row.behind});
-            reset_.run();
-        }
-        for (const auto &[firm, row] : batch.sessions) {
-            put(row);
-        }
+    // verb is INSERT, or what leaves the row that is there.
+    static std::string put_sent(std::string_view verb) {
+        return fmt::format("{} INTO sent ({}) VALUES (?, ?, ?, ?, ?)", verb, sent_columns);
     }
-    void put(const SessionRow &row) {
-        const SessionNumbers &numbers = row.numbers;
-        session_.bind(row.firm).bind(std::int64_t{row.epoch}).bind(std::int64_t{row.entries_from});
-        session_.bind(std::int64_t{row.logged_on}).bind(std::int64_t{numbers.expected});
-        session_.bind(std::int64_t{numbers.next}).bind(std::int64_t{numbers.had});
-        session_.bind(std::int64_t{numbers.first_given}).bind(std::int64_t{numbers.last_given});
-        session_.bind(std::int64_t{numbers.last_kept}).bind(std::int64_t{numbers.is_one_free});
-        session_.bind(std::int64_t{numbers.was_taken}).bind(std::int64_t{numbers.is_reset});
-        session_.bind(static_cast<std::int64_t>(numbers.reset_at));
-        session_.bind(std::int64_t{numbers.is_locked});
-        session_.bind(static_cast<std::int64_t>(numbers.last_logon));
-        session_.bind(std::int64_t{numbers.is_suspended}).run();
+    static void put(Statement &statement, const Sent &row) {
+        statement.bind(row.firm).bind(std::int64_t{row.number}).bind(std::int64_t{row.place});
+        statement.bind_bytes(row.bytes).bind(row.told).run();
     }
     void put(const Entry &entry) {
         entry_.bind(std::int64_t{entry.place}).bind(std::int64_t{entry.term}).bind(entry.moment);
@@ -211,11 +164,8 @@ class SqliteWriter final : public LogWriter {
     Statement commit_;
     Statement entry_;
     Statement event_;
-    Copy copy_;
-    Copy copy_again_;
-    Statement session_;
-    Statement dropped_;
-    Statement reset_;
+    Statement sent_;
+    Statement sent_again_;
     Statement seal_;
     Statement checkpoint_;
 };

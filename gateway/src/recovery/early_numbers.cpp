@@ -96,7 +96,6 @@ void EarlyNumbers::put(const std::string &firm, const SessionEvent &event) {
     try {
         open();
         Batch batch;
-        batch.sessions[firm] = {firm, 0, 0, false, event.numbers};
         for (const SessionNote &note : event.notes) {
             batch.notes.push_back(text_of(SessionNoteLine{
                 firm, 0, note, event.numbers.expected, event.numbers.had, 0, {}, 0}));

@@ -27,6 +27,16 @@ constexpr auto sign_of_life = 500ms;
 // How long a venue may be silent until a gateway that is to write for it no longer says so.
 constexpr auto longest_silence = 3s;
 
+// Of TAG=VALUE, for as long as that lives.
+ToldField told_field(const std::optional<std::string> &told) {
+    if (!told) {
+        return {};
+    }
+    const std::string_view field = *told;
+    const std::size_t equals = field.find('=');
+    return {number_of(field.substr(0, equals)).value_or(0), field.substr(equals + 1)};
+}
+
 } // namespace
 
 Follower::Follower(VenueDay &day, std::optional<std::uint32_t> term)
@@ -188,16 +198,18 @@ void Follower::venue_gave(const AnsweredEntry &entry, std::string name, std::str
         throw std::runtime_error(fmt::format("the venue gave {} message {} where {} was due", name,
                                              number, given_[name]));
     }
-    GivenMessage message{number,
-                         entry.place,
-                         static_cast<std::uint32_t>(entry.moment.milliseconds),
+    std::optional<std::string> told;
+    if (note) {
+        told = told_by(*note, name, number, reasons_, day_.config.firms.date);
+    }
+    GivenMessage message{number, entry.place, static_cast<std::uint32_t>(entry.moment.milliseconds),
                          std::string(value_in(frame, "35")),
-                         on_the_wire(name, number, entry.number, frame, note),
-                         {}};
+                         for_wire(frame, number, entry.number, told_field(told))};
     MessageSink *const sink = sink_;
     if (sink == nullptr && number > day_.session_notes.noted(name)) {
         // The gateway before may not have put it where readers look.
         message.frame = frame;
+        message.told = told;
     }
     const auto hash = day_.spool.give(name, message);
     if (!hash || sink == nullptr) {
@@ -212,24 +224,10 @@ void Follower::venue_gave(const AnsweredEntry &entry, std::string name, std::str
     delivery.frame = std::move(frame);
     delivery.type = std::move(message.type);
     delivery.wire = std::move(message.wire);
+    delivery.told = std::move(told);
     delivery.hash = *hash;
     delivery.given = std::chrono::steady_clock::now();
     sink->take(std::move(delivery));
-}
-
-// A message of the venue as its session keeps it, which answers the session's message `refers_to`.
-std::string Follower::on_the_wire(const std::string &firm, std::uint32_t number,
-                                  std::uint32_t refers_to, const std::string &frame,
-                                  const std::optional<VenueNote> &note) const {
-    if (!note) {
-        return for_wire(frame, number, refers_to, {});
-    }
-    const std::string field = told_by(*note, firm, number, reasons_, day_.config.firms.date);
-    const std::size_t equals = field.find('=');
-    const std::string_view value = std::string_view(field).substr(equals + 1);
-    return for_wire(
-        frame, number, refers_to,
-        {number_of(field.substr(0, equals)).value_or(0), value.substr(0, value.find(soh))});
 }
 
 void Follower::venue_pauses() {

@@ -76,8 +76,6 @@ class Follower final : private VenueListener {
     bool read_on(LogReader &log);
     std::optional<ReplaySummary> all_answered(LogWriter &writer);
     void check_given(std::uint32_t place) const;
-    std::string on_the_wire(const std::string &firm, std::uint32_t number, std::uint32_t refers_to,
-                            const std::string &frame, const std::optional<VenueNote> &note) const;
 
     // VenueListener
     void venue_starts() override;

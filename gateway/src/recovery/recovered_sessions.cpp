@@ -109,17 +109,15 @@ void RecoveredSessions::keep(const std::string &name, const SessionNoteLine &lin
     }
 }
 
-// The venue's next message. Returns the number under which it is kept, or 0.
-std::uint32_t RecoveredSessions::give(const std::string &name, Firm &firm) {
+// The venue's next message.
+void RecoveredSessions::give(const std::string &name, Firm &firm) {
     const auto given = static_cast<std::uint32_t>(firm.session.given + 1);
     const std::uint64_t next = firm.session.day.next;
     take_message(firm.session, spool_.hash_of_given(name, given));
-    if (firm.session.day.last_given != next) {
-        return 0; // its numbers are used up
+    // If its numbers are used up, nothing is kept.
+    if (firm.session.day.last_given == next) {
+        spool_.keep_given(name, static_cast<std::uint32_t>(next), given);
     }
-    const auto number = static_cast<std::uint32_t>(next);
-    spool_.keep_given(name, number, given);
-    return number;
 }
 
 void RecoveredSessions::give_up_to(const std::string &name, Firm &firm, std::uint32_t number) {
@@ -147,22 +145,17 @@ std::map<std::string, FirmState> RecoveredSessions::finished(const ReplaySummary
 FirmState RecoveredSessions::state_of(const std::string &name, Firm &firm,
                                       const ReplaySummary &fed) {
     FirmState state;
-    const std::uint32_t last = spool_.has(name) ? spool_.last_given(name) : 0;
-    while (firm.session.given < last) {
-        const std::uint32_t number = give(name, firm);
-        state.unnoted.push_back({static_cast<std::uint32_t>(firm.session.given), number});
-    }
+    state.noted = static_cast<std::uint32_t>(firm.session.given);
+    state.given = spool_.has(name) ? spool_.last_given(name) : 0;
+    give_up_to(name, firm, state.given);
     if (const auto came = fed.came().find(name); came != fed.came().end()) {
         count(name, firm.session, came->second);
         state.entries = came->second.entries;
         state.bytes = came->second.bytes;
     }
-    state.session.firm = name;
-    state.session.epoch = static_cast<std::uint32_t>(firm.session.epoch);
-    state.session.entries_from = static_cast<std::uint32_t>(firm.session.since);
-    state.session.numbers = numbers_of(firm.session);
-    state.session.numbers.is_suspended = is_suspended(name, fed);
-    state.given = last;
+    state.epoch = static_cast<std::uint32_t>(firm.session.epoch);
+    state.numbers = numbers_of(firm.session);
+    state.numbers.is_suspended = is_suspended(name, fed);
     state.act = static_cast<std::uint32_t>(firm.session.act);
     return state;
 }

@@ -1,7 +1,5 @@
 #include "recovery/unnoted_rows.h"
 
-#include "common/moment.h"
-
 #include <utility>
 
 namespace gateway {
@@ -11,16 +9,8 @@ namespace {
 // Rows of one transaction.
 constexpr std::size_t chunk = 512;
 
-Outgoing row_of(const SessionRow &session, const UnnotedMessage &message, GivenMessage given) {
-    Outgoing row;
-    row.firm = session.firm;
-    row.epoch = session.epoch;
-    row.number = message.number;
-    row.sent = message.given;
-    row.type = std::move(given.type);
-    row.moment = text_of(Moment{static_cast<int>(given.moment)});
-    row.bytes = std::move(given.wire);
-    return row;
+Sent row_of(const std::string &firm, GivenMessage given) {
+    return {firm, given.number, given.place, std::move(given.frame), std::move(given.told)};
 }
 
 void commit(LogWriter &writer, Batch &batch) {
@@ -37,13 +27,8 @@ void put_unnoted(LogWriter &writer, const std::map<std::string, FirmState> &stat
                  const Spool &spool) {
     Batch batch;
     for (const auto &[firm, state] : states) {
-        for (const UnnotedMessage &message : state.unnoted) {
-            GivenMessage given = spool.given(firm, message.given);
-            batch.sent.push_back({firm, message.given, given.place, std::move(given.frame)});
-            if (message.number > 0) {
-                batch.outgoing.push_back(row_of(state.session, message, std::move(given)));
-            }
-            batch.sessions[firm] = state.session;
+        for (std::uint32_t number = state.noted + 1; number <= state.given; ++number) {
+            batch.sent.push_back(row_of(firm, spool.given(firm, number)));
             if (batch.sent.size() == chunk) {
                 commit(writer, batch);
             }

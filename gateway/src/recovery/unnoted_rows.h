@@ -11,9 +11,9 @@
 
 namespace gateway {
 
-// A message of the venue comes into `sent` and `outgoing` no later than the note that names it. So
-// the gateway before may not have put those there that no note names: they are put there, unless
-// they are. No gateway reads them.
+// A message of the venue comes into `sent` no later than the note that names it. So the gateway
+// before may not have put those there that no note names: they are put there, unless they are. No
+// gateway reads them.
 void put_unnoted(LogWriter &writer, const std::map<std::string, FirmState> &states,
                  const Spool &spool);
 

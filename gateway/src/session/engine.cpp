@@ -300,8 +300,8 @@ ListeningPort Engine::give_port() {
     return parts_->give_port();
 }
 
-void Engine::deliver(const Delivery &delivery) {
-    parts_->sessions().deliver(delivery);
+void Engine::deliver(const Delivery &delivery, bool more_follow) {
+    parts_->sessions().deliver(delivery, more_follow);
     parts_->events().delivered(delivery);
 }
 

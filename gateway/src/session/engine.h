@@ -36,9 +36,9 @@ class Engine {
     ListeningPort give_port();
 
     // Gives a message to its session: it is kept under the session's next number, and sent if the
-    // firm is there and has all before it. One thread at a time for one firm. Throws what the host
-    // throws.
-    void deliver(const Delivery &delivery);
+    // firm is there and has all before it, or with those that follow at once. One thread at a time
+    // for one firm. Throws what the host throws.
+    void deliver(const Delivery &delivery, bool more_follow = false);
     // The same, but where that had to wait for another event of the session: then false, and
     // nothing was done.
     bool deliver_at_once(const Delivery &delivery);

@@ -221,7 +221,9 @@ void FirmSession::post(const MachineTurn &turn, std::uint64_t ticket) {
     const std::string_view bytes(turn.first.data(), turn.first.size() + turn.second.size());
     to->unsent.push_back({ticket, given_for_, std::string(bytes)});
     to->last_ticket = std::max(to->last_ticket, ticket);
-    send_what_may_leave(*to);
+    if (!more_follow_) {
+        send_what_may_leave(*to);
+    }
     if (to->last_ticket > stored_ticket_) {
         to->transport->wake();
     }
@@ -284,9 +286,11 @@ void FirmSession::tick(Received now) {
     end_parted();
 }
 
-void FirmSession::deliver(const Delivery &delivery) {
+void FirmSession::deliver(const Delivery &delivery, bool more_follow) {
     const std::lock_guard lock(mutex_);
+    more_follow_ = more_follow;
     deliver_here(delivery);
+    more_follow_ = false;
 }
 
 bool FirmSession::deliver_at_once(const Delivery &delivery) {

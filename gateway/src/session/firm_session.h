@@ -78,7 +78,8 @@ class FirmSession final {
     };
     Work serve(std::uint64_t connection);
 
-    void deliver(const Delivery &delivery);
+    // Where more follow at once, its bytes leave with theirs.
+    void deliver(const Delivery &delivery, bool more_follow = false);
     // False where another event is at work: then nothing was done.
     bool deliver_at_once(const Delivery &delivery);
     // More entries are on disk. Where another event is at work the connection's thread is woken.
@@ -194,6 +195,7 @@ class FirmSession final {
     std::uint64_t stored_ticket_ = 0; // the last one that is known to be committed
     std::uint32_t given_for_ = 0;     // the last entry for which the venue has given something
     bool has_received_ = false;       // what the host was not told the end of
+    bool more_follow_ = false;        // with whose bytes those of now leave
     std::map<std::uint64_t, Visitor> visitors_;
 
     // Over the transport of the connection that has the session: whoever shuts it waits for no

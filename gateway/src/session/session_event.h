@@ -20,13 +20,14 @@ namespace gateway {
 struct Delivery {
     std::string session; // its name
     std::string firm;
-    std::uint32_t number = 0; // the venue's
-    std::uint32_t place = 0;  // of the entry that it answers,
-    std::uint32_t moment = 0; // and its moment, in milliseconds of the day
-    std::string frame;        // the venue's
-    std::string type;         // 35
-    std::string wire;         // what is kept of it: 35, and all behind the
-                              // session's header, as a frame
+    std::uint32_t number = 0;          // the venue's
+    std::uint32_t place = 0;           // of the entry that it answers,
+    std::uint32_t moment = 0;          // and its moment, in milliseconds of the day
+    std::string frame;                 // the venue's
+    std::string type;                  // 35
+    std::string wire;                  // what is kept of it: 35, and all behind the
+                                       // session's header, as a frame
+    std::optional<std::string> told{}; // TAG=VALUE: the field that tells what is noted beside it
     Digest hash{}; // the running hash of the firm's messages with this one (docs/RECOVERY.md)
     std::chrono::steady_clock::time_point given{}; // when the venue gave it
 };

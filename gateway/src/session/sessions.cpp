@@ -65,8 +65,8 @@ FirmSession &Sessions::of(const std::string &name) const {
     return *found->second;
 }
 
-void Sessions::deliver(const Delivery &delivery) const {
-    of(delivery.session).deliver(delivery);
+void Sessions::deliver(const Delivery &delivery, bool more_follow) const {
+    of(delivery.session).deliver(delivery, more_follow);
 }
 
 void Sessions::log_out(const std::string &reason) const {

@@ -43,7 +43,7 @@ class Sessions {
     FirmSession &of(const std::string &name) const;
 
     // Gives a message to its session, as Engine::deliver().
-    void deliver(const Delivery &delivery) const;
+    void deliver(const Delivery &delivery, bool more_follow = false) const;
     // Logs all out that are logged on.
     void log_out(const std::string &reason) const;
 

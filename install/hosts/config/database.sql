@@ -56,9 +56,8 @@ CREATE SCHEMA IF NOT EXISTS mireseason AUTHORIZATION log_owner;
 GRANT USAGE ON SCHEMA mireseason TO gateway, keeper;
 
 -- Makes the schema of a day with its tables, which belong to the owner, and says what the others may: a gateway puts rows
--- there, changes where a session stands and who speaks, and marks what a session keeps no longer (each Logon with 141=Y
--- does, whether there is a Reject or not); a reader and the keeper read. Two gateways that begin at once: the second waits
--- for the first by the schema's name, and fails then. No lock of others holds this up: only the owner may make the name.
+-- there, and changes who speaks; a reader and the keeper read. Two gateways that begin at once: the second waits for the
+-- first by the schema's name, and fails then. No lock of others holds this up: only the owner may make the name.
 CREATE OR REPLACE FUNCTION mireseason.make_log(name TEXT) RETURNS VOID
 LANGUAGE plpgsql SECURITY DEFINER SET search_path = pg_catalog, pg_temp AS $make_log$
 BEGIN
@@ -71,9 +70,8 @@ BEGIN
     EXECUTE $tables$@TERMS_SQL@$tables$;
     EXECUTE format('GRANT USAGE ON SCHEMA %I TO gateway, reader, keeper', name);
     EXECUTE format('GRANT SELECT ON ALL TABLES IN SCHEMA %I TO gateway, reader, keeper', name);
-    GRANT INSERT ON entry, connection, sent, outgoing, session, seal, checkpoint TO gateway;
-    GRANT UPDATE ON session, speaker TO gateway;
-    GRANT UPDATE (dropped) ON outgoing TO gateway;
+    GRANT INSERT ON entry, connection, sent, seal, checkpoint TO gateway;
+    GRANT UPDATE ON speaker TO gateway;
 END $make_log$;
 ALTER FUNCTION mireseason.make_log(TEXT) OWNER TO log_owner;
 REVOKE ALL ON FUNCTION mireseason.make_log(TEXT) FROM PUBLIC;

@@ -1,0 +1,188 @@
+// What an operator is told of a venue or a log that stands still, of a disk that is full, and of an
+// end; and days that are copied in a thread of their own.
+#define DOCTEST_CONFIG_IMPLEMENT_WITH_MAIN
+#include <doctest/doctest.h>
+
+#include "check.h"
+#include "health/disk_reserve.h"
+#include "health/silence.h"
+#include "health/status.h"
+#include "service/day_copying.h"
+
+#include <future>
+#include <memory>
+#include <sstream>
+#include <string>
+#include <vector>
+
+#include <spdlog/sinks/ostream_sink.h>
+
+namespace gateway::tests {
+
+using namespace std::chrono_literals;
+
+// Events, a line each, of which each is told once.
+class Events {
+  public:
+    Events() {
+        auto sink = std::make_shared<spdlog::sinks::ostream_sink_mt>(told_);
+        sink->set_pattern("%l %v");
+        sink->set_level(spdlog::level::trace);
+        logger_ = std::make_shared<spdlog::logger>("events", sink);
+    }
+    const std::shared_ptr<spdlog::logger> &logger() const { return logger_; }
+    std::string told() {
+        std::string text = told_.str();
+        told_.str("");
+        return text;
+    }
+
+  private:
+    std::ostringstream told_;
+    std::shared_ptr<spdlog::logger> logger_;
+};
+
+TEST_CASE("a venue that answers nothing is told once, and once when it goes on") {
+    Events events;
+    Silence silence(events.logger(), " venue=north");
+    const auto start = Silence::Clock::now() + 1h;
+    silence.look(std::nullopt, 4, start - 1h);
+    CHECK(silence.look(0, 4, start) == 0s); // it has read its configuration
+    CHECK(silence.look(2, 4, start + 3s) == 0s);
+    CHECK(silence.look(2, 5, start + 7s) == 4s);
+    CHECK(silence.look(2, 5, start + 8s - 1ms) == 5s - 1ms);
+    CHECK(events.told() == "");
+    CHECK(silence.look(2, 6, start + 8s) == 5s);
+    CHECK(events.told() == "warning venue does not answer venue=north place=3 entries=4\n");
+    CHECK(silence.look(2, 6, start + 9s) == 6s);
+    CHECK(events.told() == "");
+    CHECK(silence.look(3, 6, start + 10s) == 0s);
+    CHECK(events.told() == "info venue answers again venue=north place=3\n");
+    CHECK(silence.look(3, 6, start + 16s) == 6s);
+    CHECK(events.told() == "warning venue does not answer venue=north place=4 entries=3\n");
+}
+
+TEST_CASE("a venue that has nothing to answer is not silent") {
+    Events events;
+    Silence silence(events.logger(), "");
+    const auto start = Silence::Clock::now() + 1h;
+    silence.look(4, 4, start);
+    CHECK(silence.look(4, 4, start + 60s) == 0s);
+    CHECK(silence.look(4, 5, start + 64s) == 4s);
+    CHECK(events.told() == "");
+}
+
+TEST_CASE("a venue that has answered nothing yet is asked for all") {
+    Events events;
+    Silence silence(events.logger(), "");
+    const auto start = Silence::Clock::now();
+    silence.look(0, 4, start);
+    silence.look(std::nullopt, 4, start);
+    silence.look(std::nullopt, 4, start + 5s);
+    CHECK(events.told() == "warning venue does not answer place=0 entries=5\n");
+}
+
+TEST_CASE("a log that keeps a commit waiting is told once, and once when it goes on") {
+    Events events;
+    Stall stall(events.logger(), " venue=north");
+    const auto start = Silence::Clock::now();
+    stall.look(std::nullopt, start);
+    stall.look(start, start + 5s - 1ms);
+    CHECK(events.told() == "");
+    stall.look(start, start + 5s);
+    CHECK(events.told() == "warning log does not answer venue=north\n");
+    stall.look(start, start + 9s);
+    CHECK(events.told() == "");
+    stall.look(start + 9s, start + 9s);
+    CHECK(events.told() == "info log answers again venue=north\n");
+    stall.look(start + 9s, start + 14s);
+    CHECK(events.told() == "warning log does not answer venue=north\n");
+    stall.look(std::nullopt, start + 15s);
+    CHECK(events.told() == "info log answers again venue=north\n");
+    stall.look(std::nullopt, start + 16s);
+    CHECK(events.told() == "");
+}
+
+TEST_CASE("of failures the first is told, and none of the end") {
+    Events events;
+    Status status(events.logger());
+    CHECK(status.exit_status() == 0);
+    CHECK_FALSE(status.wait(0ms));
+    CHECK_FALSE(status.failure());
+    status.fail("the disk", 3);
+    status.fail("the venue");
+    CHECK(events.told() == "critical stop cause=\"the disk\"\n");
+    CHECK(status.failure() == "the disk");
+    CHECK(status.exit_status() == 3);
+    CHECK(status.why() == "the disk");
+    CHECK(status.wait(0ms));
+    CHECK(status.failed().stop_requested());
+    CHECK(status.stopping().stop_requested());
+    Status ended(events.logger());
+    ended.ask_to_stop("SIGTERM");
+    ended.ask_to_stop("again");
+    ended.end();
+    ended.fail("the venue");
+    CHECK(events.told() == "");
+    CHECK(ended.why() == "SIGTERM");
+    CHECK(ended.exit_status() == 0);
+    CHECK_FALSE(ended.failed().stop_requested());
+}
+
+TEST_CASE("room is held back until there is an eighth more") {
+    const Scratch folder("room");
+    const auto room = room_of(folder.path());
+    REQUIRE(room);
+    CHECK(room->free <= room->bytes);
+    CHECK_FALSE(room_of(folder.path() / "none"));
+    CHECK_FALSE(DiskReserve(folder.path(), 0).is_reached());
+    const DiskReserve huge(folder.path(), room->bytes + 1);
+    CHECK(huge.is_reached());
+    CHECK(huge.reserve() == room->bytes + 1);
+    CHECK(huge.free_bytes().value_or(0) > 0);
+    const DiskReserve none("", 1);
+    CHECK(none.reserve() == 0);
+    CHECK_FALSE(none.is_reached());
+    CHECK_FALSE(none.free_bytes());
+}
+
+// A copy that waits until it may end.
+struct Copying {
+    std::vector<std::string> asked;
+    std::promise<void> begun;
+    std::promise<void> may_end;
+    DayCopying copying{[this](const std::string &before, const std::stop_token &) {
+        asked.push_back(before);
+        if (asked.size() == 1) {
+            begun.set_value();
+            may_end.get_future().wait();
+        }
+    }};
+};
+
+TEST_CASE("of what is asked while a day is copied the last is done") {
+    Copying one;
+    CHECK(one.copying.ask("20261130"));
+    one.begun.get_future().wait();
+    CHECK_FALSE(one.copying.ask("20261201"));
+    CHECK_FALSE(one.copying.ask("20261202"));
+    CHECK_FALSE(one.copying.ends_within(1ms));
+    one.may_end.set_value();
+    CHECK(one.copying.ends_within(60s));
+    CHECK(one.asked.front() == "20261130");
+    CHECK(one.asked.size() == 1); // it was to end before
+}
+
+TEST_CASE("days are copied one after the other") {
+    std::promise<void> first, second;
+    DayCopying copying([&](const std::string &before, const std::stop_token &) {
+        (before == "a" ? first : second).set_value();
+    });
+    copying.ask("a");
+    first.get_future().wait();
+    copying.ask("b");
+    CHECK(second.get_future().wait_for(60s) == std::future_status::ready);
+    CHECK(copying.ends_within(60s));
+}
+
+} // namespace gateway::tests
