@@ -337,7 +337,7 @@ class Run:
 
     def _bytes(self) -> int:
         if self.log is not None:
-            tables = ("entry", "sent", "outgoing", "session", "seal", "checkpoint", "connection")
+            tables = ("entry", "sent", "seal", "checkpoint", "connection")
             return sum(
                 int(self._asked("SELECT pg_total_relation_size('%s')" % name)) for name in tables
             )

@@ -1,17 +1,21 @@
 #!/usr/bin/env python3
-"""The time from a quote to its 297=0 through TCP, the gateway's log and the venue, beside a bare QuickFIX echo.
+"""The time from a quote to its 297=0 through TCP, the gateway's log and the venue, beside the least that it could be.
 
-usage: gateway.py GATEWAY LOAD [--one-by-one N] [--burst N] [--rounds N] -- VENUE WORDS ..
+usage: gateway.py GATEWAY LOAD [--bare BARE] [--one-by-one N] [--burst N] [--rounds N] -- VENUE WORDS ..
 
-The echo puts each message into a file, with an fdatasync, and answers it; the gateway commits it to SQLite and has
-the venue answer it. Both take turns; of each figure the best round is printed, and the ratio of the two. Behind them
-stands what a quote's way is made up of, by the gateway's own histograms in one more round: medians, in microseconds,
-each read off between two bounds. The venue answers while the quote is committed: what it takes stands beside the parts,
-and is one of them only as far as it is longer than sealing and commit.
+The least is a bare QuickFIX echo, which puts each message into a file, with an fdatasync, and answers it; the gateway
+commits it to SQLite and has the venue answer it. With BARE, made of bare.cpp, the log is in PostgreSQL with one
+synchronous standby on this machine, and the least is a bare INSERT with its commit there. Both take turns. Of each round
+the two are printed, and behind all the median of each figure and of the rounds' ratios. Then stands what a quote's way is
+made up of, by the gateway's own histograms in one more round: medians, in microseconds, each read off between two bounds;
+and how many bytes the gateway had the disk write for a quote. The venue answers while the quote is committed: what it takes
+stands beside the parts, and is one of them only as far as it is longer than sealing and commit.
 """
 
 import argparse
 import contextlib
+import os
+import statistics
 import subprocess
 import tempfile
 import urllib.request
@@ -19,9 +23,13 @@ from collections.abc import Iterator, Sequence
 from dataclasses import dataclass, replace
 from pathlib import Path
 
+from bench.replicated import replicated
+from bench.taken import written_bytes
 from tests.gateway.door import Door, Port, Programs, programs_of
 from tests.gateway.firm import Identity, Places, settings_text
+from tests.gateway.ledger import PostgresLog
 from tests.gateway.market import moment_in
+from tests.harness.postgres import Server
 
 ROOT = Path(__file__).resolve().parent.parent
 DEALER, INVESTOR = Identity("DLR1", "T1", "dealer-1-secret"), Identity(
@@ -43,6 +51,7 @@ class Bench:
     load: Path
     one_by_one: int
     burst: int
+    bare: Path | None = None
 
     def settings(self, folder: Path, who: Identity, port: int) -> Path:
         places = Places(self.load, folder, DICTIONARIES, port)
@@ -64,6 +73,15 @@ class Bench:
         )
         return Figures(*map(float, run.stdout.split()))
 
+    def least(self, server: Server | None) -> Figures:
+        return self.echo() if server is None else self.insert(server)
+
+    def insert(self, server: Server) -> Figures:
+        words = [str(self.bare), "insert", server.connection("postgres"), str(self.one_by_one)]
+        run = subprocess.run(words, stdout=subprocess.PIPE, text=True, check=True)
+        median, slowest = map(float, run.stdout.split())
+        return Figures(median, slowest, 0.0)
+
     def echo(self) -> Figures:
         with tempfile.TemporaryDirectory() as name:
             folder, port = Path(name), Port()
@@ -72,13 +90,14 @@ class Bench:
             with started([self.load, "echo", settings, folder / "echo.log"], "ready"):
                 return self.measured(folder, port.number, "R1")
 
-    def gateway(self) -> Figures:
-        return self.through_gateway().figures
+    def gateway(self, server: Server | None) -> Figures:
+        return self.through_gateway(server).figures
 
-    def through_gateway(self) -> "Way":
+    def through_gateway(self, server: Server | None) -> "Way":
         with tempfile.TemporaryDirectory() as name:
             folder = Path(name)
-            door = Door(self.programs, folder, [DEALER], [INVESTOR])
+            log = PostgresLog(server.fresh(), "log") if server else None
+            door = Door(self.programs, folder, [DEALER], [INVESTOR], postgres=log)
             door.write()
             door.start()
             try:
@@ -92,15 +111,17 @@ class Bench:
                     moment_in(3600).decode(),
                 ]
                 with started([self.load, *words], "asked"):
-                    before = counters(door)
+                    before, written = counters(door), written_bytes(door.running.pid)
                     figures = self.measured(folder, door.port)
-                    return Way(figures, Medians.between(before, counters(door)))
+                    written = written_bytes(door.running.pid) - written
+                    each = written / (self.one_by_one + self.burst)
+                    return Way(figures, Medians.between(before, counters(door)), each)
             finally:
                 door.close()
 
-    def way(self) -> "Way":
+    def way(self, server: Server | None) -> "Way":
         """Of quotes one by one: in a burst they wait for one another."""
-        return replace(self, burst=1).through_gateway()
+        return replace(self, burst=1).through_gateway(server)
 
 
 @dataclass(frozen=True)
@@ -137,6 +158,7 @@ class Way:
 
     figures: Figures
     medians: Medians
+    written: float  # bytes a message
 
     def parts(self) -> list[tuple[str, float]]:
         one = self.medians
@@ -204,37 +226,36 @@ def started(words: Sequence[str | Path], ready: str) -> Iterator[None]:
         process.stdout.close()
 
 
-def best(rounds: list[Figures]) -> Figures:
+def middle(rounds: list[Figures]) -> Figures:
     return Figures(
-        min(one.median for one in rounds),
-        min(one.slowest for one in rounds),
-        max(one.burst for one in rounds),
+        statistics.median(one.median for one in rounds),
+        statistics.median(one.slowest for one in rounds),
+        statistics.median(one.burst for one in rounds),
     )
 
 
-def main() -> None:
-    parser = argparse.ArgumentParser()
-    parser.add_argument("gateway", type=Path)
-    parser.add_argument("load", type=Path)
-    for name, usual in (("--one-by-one", 500), ("--burst", 3000), ("--rounds", 3)):
-        parser.add_argument(name, type=int, default=usual)
-    parser.add_argument("venue", nargs="+")
-    words = parser.parse_args()
-    bench = Bench(
-        programs_of(words.gateway, words.venue), words.load.resolve(), words.one_by_one, words.burst
-    )
-    pairs = [(bench.echo(), bench.gateway()) for _ in range(words.rounds)]
-    echo, gateway = best([pair[0] for pair in pairs]), best([pair[1] for pair in pairs])
-    for name, one in (("echo", echo), ("gateway", gateway)):
-        print(
-            "%-8s median %6.0f us, 99th percentile %6.0f us, burst %6.0f messages a second"
-            % (name, one.median, one.slowest, one.burst)
-        )
-    print(
-        "gateway / echo: median %.2f, 99th percentile %.2f"
-        % (gateway.median / echo.median, gateway.slowest / echo.slowest)
-    )
-    way = bench.way()
+def line_of(name: str, one: Figures) -> str:
+    text = "%-8s median %6.0f us, 99th percentile %6.0f us" % (name, one.median, one.slowest)
+    return text + (", burst %6.0f messages a second" % one.burst if one.burst else "")
+
+
+def tell(least: list[Figures], gateway: list[Figures]) -> None:
+    pairs = list(zip(least, gateway, strict=True))
+    for low, high in pairs:
+        print("%s\n%s" % (line_of("least", low), line_of("gateway", high)))
+    medians = sorted(high.median / low.median for low, high in pairs)
+    slowest = sorted(high.slowest / low.slowest for low, high in pairs)
+    print("of %d rounds, which took turns:" % len(pairs))
+    print("%s\n%s" % (line_of("least", middle(least)), line_of("gateway", middle(gateway))))
+    for name, ratios in (("median", medians), ("99th percentile", slowest)):
+        text = " ".join("%.2f" % ratio for ratio in ratios)
+        print("gateway / least, %s: %.2f (%s)" % (name, statistics.median(ratios), text))
+
+
+def measure(bench: Bench, rounds: int, server: Server | None) -> None:
+    pairs = [(bench.least(server), bench.gateway(server)) for _ in range(rounds)]
+    tell([pair[0] for pair in pairs], [pair[1] for pair in pairs])
+    way = bench.way(server)
     print("what a quote's way is made up of, whose median is %.0f us here:" % way.figures.median)
     for part, microseconds in way.parts():
         print("%8.1f us  %s" % (microseconds, part))
@@ -242,6 +263,28 @@ def main() -> None:
         "beside sealing and commit: %.1f us  the venue, and the session with its answer"
         % way.venue()
     )
+    if server is None:
+        print("%.0f bytes to the disk for a quote" % way.written)
+    print("load %.1f" % os.getloadavg()[0])
+
+
+def main() -> None:
+    parser = argparse.ArgumentParser()
+    parser.add_argument("gateway", type=Path)
+    parser.add_argument("load", type=Path)
+    parser.add_argument("--bare", type=Path)
+    for name, usual in (("--one-by-one", 500), ("--burst", 3000), ("--rounds", 5)):
+        parser.add_argument(name, type=int, default=usual)
+    parser.add_argument("venue", nargs="+")
+    words = parser.parse_args()
+    programs = programs_of(words.gateway, words.venue)
+    load, bare = words.load.resolve(), words.bare and words.bare.resolve()
+    bench = Bench(programs, load, words.one_by_one, words.burst, bare)
+    if bare is None:
+        measure(bench, words.rounds, None)
+        return
+    with tempfile.TemporaryDirectory() as name, replicated(Path(name)) as server:
+        measure(bench, words.rounds, server)
 
 
 if __name__ == "__main__":

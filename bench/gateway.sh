@@ -1,13 +1,13 @@
 #!/bin/sh
 # The time from a quote to its 297=0 through TCP, log and venue, beside a bare QuickFIX echo with an
-# fdatasync a message, and messages a second in a burst, both in one run; and what the quote's way is
-# made up of, the sealing of its batch on a line of its own. Needs what gateway/packages.sh
-# names.
+# fdatasync a message, and messages a second in a burst, both in one run; what the quote's way is
+# made up of, the sealing of its batch on a line of its own; and the bytes to the disk for a quote.
+# Needs what gateway/packages.sh names.
 #
 #     bench/gateway.sh [GATEWAY [VENUE WORDS ..]]
 #
 # The venue `-` is gateway_venue.cpp, which does nothing but answer: the gateway's own part.
-# @figure a quote from a stock initiator to its 297=0 through gateway, log and venue (or a stand-in that answers at once), beside a bare QuickFIX echo with an fdatasync; and a burst | 1.5 times the echo's median; 3,000 messages a second | met: [below](#the-gateways-latency)
+# @figure a quote from a stock initiator to its 297=0 through gateway, log (SQLite) and venue (or a stand-in that answers at once), beside a bare QuickFIX echo with an fdatasync, in five pairs that take turns: the median; the 99th percentile | 1.15 times; 1.5 times | load 10, the disk with other work: 1.71 times (1.15 to 2.83); 0.92 times (0.39 to 8.66). Before these changes on an idle machine 1.47 and 5.3 times
 set -eu
 here=$(cd "$(dirname "$0")" && pwd)
 root=$(cd "$here/.." && pwd)

@@ -99,9 +99,6 @@ class Firm : public End {
     void toAdmin(FIX::Message &message, const FIX::SessionID &) override {
         if (field(message.getHeader(), 35) != "A")
             return;
-        // Where a gateway has several venues, a Logon names one.
-        if (const char *venue = std::getenv("PLAYER_VENUE"))
-            message.getHeader().setField(57, venue);
         message.setField(553, m_username);
         message.setField(554, m_password);
     }

@@ -1,0 +1,28 @@
+#!/bin/sh
+# All that a day of a venue accepts, as fast as 64 firms in plain C++ get it answered (firms.py), beside the burst of one
+# firm's echo (gateway.py) and `live --marks` by pipes with the same lines; the same with the log replicated, beside one writer
+# that copies the same batches; and four venues behind one gateway, beside one. On a disk: the folder of temporary files, or
+# what TMPDIR says. Needs what gateway/packages.sh names, PostgreSQL and libpq-dev.
+#
+#     bench/firms.sh [GATEWAY [VENUE WORDS ..]]
+# @figure all that a day accepts (65,536 quotes, 4,096 requests, and a hit of each) from 64 firms, SQLite on a disk, beside one firm's burst at the echo | 4 times, the 99th percentile under 20 ms | load 9: 11,557 messages a second, 3.5 times; 36 ms. Before, at load 17: 7,076; 55 ms. `live --marks` by pipes 57,000. Of a message the firms take 19 us of a processor
+# @figure the same with the log in PostgreSQL and its standby, beside one writer that copies the same batches | 20,000 a second, under 50 ms | load 8: 7,508; 88 ms; the writer 37,560. Before, at load 16: 3,916; 103 ms; 19,832
+# @figure four venues behind one gateway, beside one, each with 64 firms on the same processors | 1.8 times | load 8: 1.13 times (15,142 and 14,821 messages a second, beside 12,372 and 14,274); before 1.33
+set -eu
+here=$(cd "$(dirname "$0")" && pwd)
+root=$(cd "$here/.." && pwd)
+gateway=${1:-$root/gateway/out/mireseason-gateway}
+[ $# = 0 ] || shift
+[ $# != 0 ] || set -- "$root/crates/rfq_venue/out/rfq_venue"
+make=$(mktemp -d)
+trap 'rm -rf "$make"' EXIT
+g++ -std=c++14 -O2 -Wall -Wextra -Werror -o "$make/load" "$here/gateway_load.cpp" -lquickfix -lpthread
+g++ -std=c++20 -O2 -Wall -Wextra -Werror -o "$make/firms" "$here/firms.cpp"
+g++ -std=c++20 -O2 -Wall -Wextra -Werror -I"$(pg_config --includedir)" -o "$make/bare" "$here/bare.cpp" -lpq
+export PYTHONPATH="$root"
+python3 -m bench.gateway "$gateway" "$make/load" --rounds 3 -- "$@"
+python3 -m bench.firms "$gateway" "$make" -- "$@"
+python3 -m bench.firms "$gateway" "$make" --log replicated -- "$@"
+for venues in 1 4; do
+    python3 -m bench.firms "$gateway" "$make" --venues "$venues" --part 4 -- "$@"
+done
