@@ -227,7 +227,7 @@ drawn_mutants() {
     [ "$(what_is_left)" -ge "$least" ] || return 0
     told=$work/drawn
     in_time 240 python3 -m tests.mutants.drawn --since "$since" --seed "$seed" --count 6 --jobs "$jobs" --below 15 --limit 60 \
-        --part audit keeper scripts --venue "$program" --gateway "$gateway" || tail -n 5 "$told"
+        --part audit certify install keeper scripts --venue "$program" --gateway "$gateway" || tail -n 5 "$told"
     sed -n '/^passed\|^unseen/,/^  + /s/^/drawn: /p' "$told"
     sed -n 's/^all  *\([0-9]*\) *\([0-9]*\) *\([0-9]*\) *\([0-9]*\)$/drawn: \1 mistakes, \2 refused, \4 not/p' "$told"
 }

@@ -1,11 +1,13 @@
-"""The programs that a certification needs."""
+"""The programs that a certification needs, and what stands for them."""
 
 import os
 from pathlib import Path
 
 import pytest
+from mireseason_certify import stage
 from mireseason_certify.own_venue import Programs
 
+from tests.certify.scripted import Script
 from tests.harness.build import built
 from tests.harness.options import Form
 
@@ -28,3 +30,11 @@ def is_long(form: Form) -> bool:
 def desk_program() -> Path:
     """The desk that DESK names, or that of desk/out, built as it stands there."""
     return Path(os.environ["DESK"]) if "DESK" in os.environ else built("desk", "mireseason-desk")
+
+
+@pytest.fixture
+def script(monkeypatch: pytest.MonkeyPatch) -> Script:
+    """A line that a test speaks for, on which nothing is waited for."""
+    for name in ("PROMPT", "LOOK", "UNTIL_READ", "SETTLED"):
+        monkeypatch.setattr(stage, name, 0.01)
+    return Script()

@@ -121,7 +121,8 @@ def answers_until_settings(port: int) -> list[tuple[int, tuple[str, ...]]]:
 
 def test_an_answer(page: Page, telling: Telling) -> None:
     telling.say("won", "Enter your position.", {"do": "position"}, asks=True)
-    assert asked(page, "POST", "/answer", "number=1&text=+1500000")[0] == 303
+    status, headers, _ = asked(page, "POST", "/answer", "number=1&text=+1500000")
+    assert (status, headers["Location"]) == (303, "/")
     assert telling.answer(0) == "1500000"
 
 

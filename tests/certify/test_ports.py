@@ -1,6 +1,7 @@
 """A certification has its ports alone: the venue's, while its gateway is ended and started, the relay's, and the page's."""
 
 import socket
+import time
 from collections.abc import Iterator
 from contextlib import closing
 from pathlib import Path
@@ -85,6 +86,22 @@ def test_a_gateway_that_takes_too_long(
     own_venue.start()
 
 
+def test_a_gateway_that_ends_at_once(tmp_path: Path) -> None:
+    """What it says is told, the last of it."""
+    program = tmp_path / "gateway"
+    program.write_text("#!/bin/sh\nprintf 'first%02000d' 7\nexit 3\n")
+    program.chmod(0o755)
+    programs = Programs(program, program, ["venue"])
+    cast = Draw(1).cast("TESTDESK", "dealer")
+    with closing(OwnVenue(programs, tmp_path, cast)) as venue:
+        began = time.monotonic()
+        with pytest.raises(NoVenue, match="^the gateway does not start: 0{999}7$"):
+            venue.start()
+        assert time.monotonic() - began < module.START / 2, "its end is seen"
+        with pytest.raises(NoVenue, match="an operator's halt is refused: first0"):
+            venue.order("halt")
+
+
 def test_ports_that_nobody_has_named() -> None:
     """Relay and page have none of those that the kernel gives, of which another's connection may be given the same next."""
     with closing(Port()) as gateway, closing(Relay(0, gateway.number)) as relay:
@@ -98,6 +115,34 @@ def test_a_port_that_is_named() -> None:
         assert relay.port == port.number
         with pytest.raises(OSError):
             Page(port.number, Telling())
+
+
+def test_a_port_that_somebody_has(monkeypatch: pytest.MonkeyPatch) -> None:
+    """Another one is drawn; where there is none, that is said."""
+    with closing(Port()) as taken:
+        with closing(Port()) as free:
+            number = free.number
+        monkeypatch.setattr(ports, "to_be_drawn", lambda: [taken.number, number])
+        for _ in range(10):
+            with closing(Port()) as drawn:
+                assert drawn.number == number
+        monkeypatch.setattr(ports, "to_be_drawn", lambda: [taken.number])
+        with pytest.raises(OSError, match="has no port that is free"):
+            Port()
+
+
+def test_what_each_program_says_of_itself(tmp_path: Path) -> None:
+    for name in ("gateway", "venue"):
+        (tmp_path / name).write_text(
+            "#!/bin/sh\n[ $1 = --version ] && echo '%s 1'; echo more\n" % name
+        )
+        (tmp_path / name).chmod(0o755)
+    programs = Programs(tmp_path / "gateway", tmp_path / "admin", [str(tmp_path / "venue")])
+    assert programs.versions() == {"gateway": "gateway 1", "program": "venue 1"}
+    (tmp_path / "silent").write_text("#!/bin/sh\n")
+    (tmp_path / "silent").chmod(0o755)
+    lame = Programs(tmp_path / "none", tmp_path / "none", [str(tmp_path / "silent")])
+    assert lame.versions() == {"gateway": "unknown", "program": "unknown"}
 
 
 def test_many_at_once() -> None:

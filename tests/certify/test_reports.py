@@ -10,10 +10,16 @@ from datetime import date, timedelta
 from pathlib import Path
 
 import pytest
+from cryptography.hazmat.primitives.asymmetric.ec import (
+    SECP256R1,
+    EllipticCurvePrivateKey,
+    generate_private_key,
+)
 from cryptography.hazmat.primitives.asymmetric.ed25519 import Ed25519PrivateKey
 from cryptography.hazmat.primitives.serialization import Encoding, NoEncryption, PrivateFormat
 from cryptography.hazmat.primitives.serialization import PublicFormat
-from mireseason_certify.report import Report, formats_of, verified
+from mireseason_certify.own_venue import NoVenue
+from mireseason_certify.report import Report, formats_of, read_key, read_public_key, verified
 from mireseason_certify.run import FAILED, PASSED, Outcome
 
 from tests.harness.options import ROOT
@@ -111,6 +117,43 @@ def test_what_is_no_report(
     path.write_text(text)
     assert verified(path, public_file(key, tmp_path)) == 1
     assert str(path) in capsys.readouterr().out
+
+
+def test_a_report_that_is_too_long(
+    key: Ed25519PrivateKey, tmp_path: Path, capsys: pytest.CaptureFixture[str]
+) -> None:
+    path = tmp_path / "certified-DLR1.json"
+    path.touch()
+    os.truncate(path, (64 << 20) + 1)
+    assert verified(path, public_file(key, tmp_path)) == 1
+    assert "has more than 67108864 bytes" in capsys.readouterr().out
+
+
+@pytest.mark.parametrize("is_private", [True, False])
+def test_a_key_that_is_none(is_private: bool, key: Ed25519PrivateKey, tmp_path: Path) -> None:
+    """One of Ed25519 alone, and nothing that is larger than a key."""
+    file, kind = tmp_path / "key.pem", "private" if is_private else "public"
+    read = read_key if is_private else read_public_key
+
+    def put(made: Ed25519PrivateKey | EllipticCurvePrivateKey) -> None:
+        if is_private:
+            text = made.private_bytes(Encoding.PEM, PrivateFormat.PKCS8, NoEncryption())
+        else:
+            text = made.public_key().public_bytes(Encoding.PEM, PublicFormat.SubjectPublicKeyInfo)
+        file.write_bytes(text)
+
+    put(key)
+    assert read(file)
+    put(generate_private_key(SECP256R1()))
+    with pytest.raises(NoVenue, match="key.pem is no %s key of Ed25519$" % kind):
+        read(file)
+    for text in ("", "x" * (1 << 16)):
+        file.write_text(text)
+        with pytest.raises(NoVenue, match="key.pem is no %s key$" % kind):
+            read(file)
+    file.write_text("x" * ((1 << 16) + 1))
+    with pytest.raises(NoVenue, match="key.pem has more than 65536 bytes"):
+        read(file)
 
 
 def test_the_command_lists_its_cases() -> None:

@@ -6,6 +6,7 @@ from pathlib import Path
 HERE = Path(__file__).resolve().parent
 ENDING = ".mutant"
 OLD, NEW = "old:\n", "new:\n"
+IN_NODE = "tests/desk/test_modules.py"  # takes the pages as they stand in the tree, and no desk that is built
 
 
 class Misfit(Exception):
@@ -37,9 +38,13 @@ class Mutant:
 
     @property
     def part(self) -> str | None:
-        """The part of the tree whose program has to be built anew, if one has."""
+        """The part of the tree whose program has to be built anew, if one has; of common that whose unit test it is."""
+        if self.test.startswith(IN_NODE):
+            return None
         folder = self.file.partition("/")[0]
-        return {"gateway": "gateway", "desk": "desk", "common": "desk"}.get(folder)
+        if folder == "common":
+            return "gateway" if self.test.startswith("gateway/unit/") else "desk"
+        return folder if folder in ("gateway", "desk") else None
 
     def planted_in(self, text: str) -> str:
         """The file's text with the wrong body in its place."""

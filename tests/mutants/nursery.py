@@ -35,7 +35,7 @@ class Nursery:
         """Copies each file of the tree that is another there, and takes away those that the tree has not."""
         names = files_of(ROOT)
         for name in names:
-            copy_if_other(ROOT / name, self.folder / name)
+            write_if_other(ROOT / name, self.folder / name)
         for name in set(files_below(self.folder)) - set(names):
             (self.folder / name).unlink()
 
@@ -139,7 +139,7 @@ def files_below(folder: Path) -> Iterator[str]:
             yield str(inner)
 
 
-def copy_if_other(source: Path, target: Path) -> None:
+def write_if_other(source: Path, target: Path) -> None:
     if target.exists() and target.read_bytes() == source.read_bytes():
         return
     target.parent.mkdir(parents=True, exist_ok=True)
@@ -147,11 +147,14 @@ def copy_if_other(source: Path, target: Path) -> None:
 
 
 @contextmanager
-def nursery(part: str, venue: tuple[str, ...], gateway: Path | None) -> Iterator[Nursery]:
-    """A part's own copy, for one process at a time."""
+def nursery(
+    part: str, venue: tuple[str, ...], gateway: Path | None, is_fresh: bool = True
+) -> Iterator[Nursery]:
+    """A part's own copy, for one process at a time; what is not fresh is as it was left."""
     with alone(FOLDER / part):
         made = Nursery(FOLDER / part / "tree", venue, gateway)
-        made.refresh()
+        if is_fresh:
+            made.refresh()
         try:
             yield made
         finally:

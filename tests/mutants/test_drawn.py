@@ -11,14 +11,16 @@ import pytest
 from tests.harness.options import ROOT
 from tests.mutants.drawn.__main__ import draw
 from tests.mutants.drawn.change import Change, Kind
-from tests.mutants.drawn.counters import FLAGS, Unit, run_unit
+from tests.mutants.drawn.cpp_bodies import bodies
 from tests.mutants.drawn.cpp_changes import cpp_changes
 from tests.mutants.drawn.javascript_changes import javascript_changes
+from tests.mutants.drawn.javascript_passes import lines_run, recorded
 from tests.mutants.drawn.left_out import FILE, read_left_out
 from tests.mutants.drawn.parts import PARTS, words_for_clang
-from tests.mutants.drawn.passes import Passes, of_counters, prepare, python_lines
+from tests.mutants.drawn.passes import Passes, prepare, python_lines
 from tests.mutants.drawn.python_changes import python_changes
 from tests.mutants.drawn.recorder import HERE as RECORDING
+from tests.mutants.drawn.recorder import NODE
 from tests.mutants.drawn.recorder import marks_name
 from tests.mutants.drawn.recording.sitecustomize import CURRENT, FOLDER
 from tests.mutants.drawn.remembered import (
@@ -30,6 +32,7 @@ from tests.mutants.drawn.remembered import (
     summed,
 )
 from tests.mutants.drawn.shell_changes import shell_changes
+from tests.mutants.drawn.together import ANY, NAMED, together
 
 # A text, a kind of mistake, and each text that it makes of it.
 PYTHON = [
@@ -81,6 +84,8 @@ CPP = [
     ),
     ("int g(A& a) { return a.b; }", Kind.MEMBER, ["a.c"]),
     ("int g(A& a) { return a.b + 2; }", Kind.BOUND, ["a.b + 3"]),
+    ("bool operator==(A, A); bool g(A a, A b) { return a == b; }", Kind.ARGUMENTS, []),
+    ("A operator-(A, A); A g(A a, A b) { return a - b; }", Kind.ARGUMENTS, ["b - a"]),
 ]
 JAVASCRIPT = [
     ("if (a) b();", Kind.NEGATED, ["if (!(a)) b();"]),
@@ -151,12 +156,45 @@ def test_what_nobody_sees_is_left_out(place: Path) -> None:
     assert [change.kind for change in changes if left_out.is_equal(change, text)] == [Kind.NEGATED]
 
 
+def test_what_is_equal_on_one_line_alone(place: Path) -> None:
+    """Where the same words stand on another line, too, an entry has a part of its own."""
+    file = place / "left_out.toml"
+    entry = (
+        "[[equal]]\nfile = 'x.py'\nold = '[0]'\nnew = '[-1]'\nline = 'same'\nwhy = 'it has one'\n"
+    )
+    file.write_text(entry)
+    text = b"a = same[0]\nb = other[0]\n"
+    left_out, changes = read_left_out(file), python_changes("x.py", text)
+    assert [change.line for change in changes if left_out.is_equal(change, text)] == [1]
+
+
 def test_each_entry_has_its_reason(place: Path) -> None:
     assert read_left_out(FILE).lines
     file = place / "left_out.toml"
     file.write_text("[[line]]\nhas = 'reserve'\nwhy = ''\n")
     with pytest.raises(AssertionError):
         read_left_out(file)
+
+
+SCRIPT = """export function f(a) {
+  if (a) {
+    return 1;
+  }
+  return 2;
+}
+export const g = () => {
+  f(1);
+};
+"""
+
+
+def test_lines_of_javascript(place: Path) -> None:
+    """As node records them: a block that did not run is none of the test's."""
+    (place / "x.mjs").write_text(SCRIPT)
+    words = ["node", "--input-type=module", "-e", "import {f} from '%s/x.mjs'; f(0);" % place]
+    subprocess.run(words, env={**os.environ, NODE: str(place / "ran")}, check=True)
+    ((_, ranges),) = (one for one in recorded(place / "ran") if one[0] == "x.mjs")
+    assert list(lines_run(SCRIPT, ranges)) == [1, 2, 5, 6, 7]
 
 
 def test_the_seed_decides() -> None:
@@ -173,19 +211,59 @@ def test_every_part_has_files_and_tests() -> None:
         assert part.paths() and part.modules(), part.name
 
 
-def test_lines_of_cpp_are_recorded_run_by_run(place: Path) -> None:
-    """A program with two ways: each run passes through one of them."""
-    source, program, counters = place / "x.cpp", place / "x", place / "counters"
-    source.write_text(
-        "int main(int n, char**) {\n    if (n > 1)\n        return 0;\n    return 0;\n}\n"
-    )
-    words = ["g++", *FLAGS.split(), "-o", str(program), str(source)]
-    subprocess.run(words, cwd=place, check=True, timeout=120)
-    for unit in (Unit("tests/a/test_b.py", [str(program), "x"]), Unit("unit c", [str(program)])):
-        assert run_unit(unit, place, counters) is not None
-    found = of_counters(counters, place)["x.cpp"]
-    assert found[2] == {"tests/a/test_b.py", "unit c"}
-    assert (found[3], found[4]) == ({"tests/a/test_b.py"}, {"unit c"})
+CPP_FUNCTIONS = """namespace a {
+#define B {
+struct C {
+    C() : d{1}, e([] { return 2; }()) {}
+    int f(int n = 1) const { return n; } // {
+    int d, e;
+    int j[sizeof(int)]{};
+};
+constexpr int g() { return 3; }
+const char *const h[] = {"{", "}"};
+template <typename T = int> T i(T n) {
+    return n > 1'000 ? '{' : n;
+}
+bool operator==(const C &, const C &) { return true; }
+} // namespace a
+"""
+
+
+def test_functions_of_cpp_are_found_by_their_brackets() -> None:
+    """None within another, none that a compiler calls, and no list of values."""
+    found = [(body.name, body.line, body.last) for body in bodies(CPP_FUNCTIONS.encode())]
+    wanted = [("C", 4, 4), ("f", 5, 5), ("i", 11, 13), ("operator", 14, 14)]
+    assert found == wanted
+
+
+def test_changes_of_cpp_are_compiled_together(place: Path) -> None:
+    """A program does the change that DRAWN names, or none, and marks its functions, also if it is killed."""
+    text = b"int f(int n) {\n    return n + 1;\n}\nint main() {\n    return f(2);\n}\n"
+    at, folder, current = text.index(b"+"), place / "recorded", place / "current"
+    changes = {
+        Change("x.cpp", 2, at, at + 1, new, Kind.BOUND): n for n, new in ((1, "-"), (2, "*"))
+    }
+    file, program = place / "x.cpp", place / "x"
+    file.write_bytes(together(str(file), text, 0, changes))
+    subprocess.run(["g++", "-Wall", "-Werror", "-o", program, file], check=True, timeout=120)
+    folder.mkdir()
+    prepare(folder, [])
+    (folder / "files").write_text("0 x.cpp\n")
+    (folder / "size").write_text("9")
+    own = {FOLDER: str(folder), CURRENT: str(current)}
+    for number, wanted in (("0", 3), ("1", 1), ("2", 2)):
+        current.write_text(marks_name(number))
+        words = os.environ | own | {"DRAWN": number}
+        assert subprocess.run([program], env=words, timeout=60, check=False).returncode == wanted
+        marks = (folder / "marks" / marks_name(number)).read_bytes()
+        assert [line for line, mark in enumerate(marks) if mark] == [1, 4]
+
+
+def test_a_change_that_is_no_program_is_the_compilers() -> None:
+    """Its lines have its number. What is said of a line of the file itself may be any change's of that function."""
+    said = "drawn-7:3:5: error: 'x'\n/tree/gateway/src/a.cpp:12:1: error: no return\n"
+    assert NAMED.findall(said) == ["7"]
+    assert ANY.findall(said) == [("/tree/gateway/src/a.cpp", "12")]
 
 
 def test_lines_of_python_are_recorded_test_by_test(place: Path) -> None:
@@ -213,7 +291,7 @@ def test_lines_of_python_are_recorded_test_by_test(place: Path) -> None:
 def test_what_the_tree_remembers_of_a_recording(place: Path) -> None:
     """Of each function its fastest tests, and those that pass through most of it; in a file that moved, too."""
     text = "a = 1\nclass B:\n    def c(self):\n        d()\n        e()\n"
-    assert functions(text.encode()) == {4: "B.c", 5: "B.c"}
+    assert functions("x.py", text.encode()) == {4: "B.c", 5: "B.c"}
     (place / "x.py").write_text(text)
     few = {"t.py::test_%d" % number for number in range(9)}
     slow = "t.py::test_slow"

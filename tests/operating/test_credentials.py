@@ -5,6 +5,7 @@ from __future__ import annotations
 import fcntl
 import os
 import re
+import resource
 import subprocess
 import tomllib
 from concurrent.futures import ThreadPoolExecutor
@@ -81,7 +82,7 @@ def password_of(settings: str) -> str:
 def test_a_new_firm_is_added_behind_the_others(office: Office) -> None:
     ran = office.call("DLR2")
     assert ran.returncode == 0, ran.stderr
-    assert office.file.read_text().startswith(KEPT)
+    assert office.file.read_text().startswith(KEPT + "\n[DLR2]\n")
     added = office.credentials()["DLR2"]
     assert added["username"] == "DLR2" and added["password"].startswith("$")
     assert password_of(ran.stdout) not in office.file.read_text()
@@ -176,8 +177,13 @@ def test_a_link_stays_one(office: Office) -> None:
 
 @pytest.mark.parametrize(
     "venue",
-    ['[[dealer]]\nname = ["DLR2"]\n', "dealer = 1\n", "a" + ".a" * 20000 + " = 1\n"],
-    ids=["list", "number", "dots"],
+    [
+        '[[dealer]]\nname = ["DLR2"]\n',
+        'dealer = ["DLR2"]\n',
+        "dealer = 1\n",
+        "a" + ".a" * 20000 + " = 1\n",
+    ],
+    ids=["list", "rows", "number", "dots"],
 )
 def test_a_venue_at_fault_is_told(office: Office, venue: str) -> None:
     (office.folder / "venue.toml").write_text(venue)
@@ -207,6 +213,19 @@ def test_a_lock_that_somebody_keeps(office: Office) -> None:
     assert office.file.read_text() == KEPT
 
 
+def test_a_gateway_that_hashes_nothing(office: Office, place: Path) -> None:
+    """One that is not there, or fails: its words are told, and nothing is written."""
+    (place / "bin").mkdir()
+    lame = Office(office.folder, place / "bin" / "mireseason-gateway")
+    ran = lame.call("DLR2")
+    assert ran.returncode == 1 and "mireseason-gateway: No such file" in ran.stderr
+    lame.gateway.write_text("#!/bin/sh\necho no entropy >&2\nexit 3\n")
+    lame.gateway.chmod(0o755)
+    ran = lame.call("--replace", "DLR1")
+    assert ran.returncode == 1 and "mireseason-gateway --hash: no entropy" in ran.stderr
+    assert office.file.read_text() == KEPT
+
+
 def test_a_username_of_two_lines(office: Office) -> None:
     """It would be another setting of the firm's session."""
     office.file.write_text(KEPT.replace('"desk-1"', '"desk-1\\nSenderCompID=DLR2"'))
@@ -228,6 +247,44 @@ def test_what_is_no_firm_of_the_venue_gets_none(office: Office, name: str) -> No
     ran = office.call(name)
     assert ran.returncode == 1 and f"has no firm {name}" in ran.stderr
     assert office.file.read_text() == KEPT
+
+
+def test_who_is_a_firm_of_one_of_several_venues(office: Office) -> None:
+    """Any of them will do; a file that is not there yet says nothing."""
+    parts = ('[venue.%s]\nconfiguration = "%s.toml"\n' % (name, name) for name in "abc")
+    (office.folder / "gateway.toml").write_text("".join(parts))
+    (office.folder / "venue.toml").rename(office.folder / "b.toml")
+    (office.folder / "a.toml").write_text(VENUE.replace("INV1", "INV2"))
+    for firm in ("INV1", "INV2"):
+        assert office.call(firm).returncode == 0
+    ran = office.call("INV3")
+    assert ran.returncode == 1 and "a.toml and " in ran.stderr and "b.toml has no" in ran.stderr
+    for name in "ab":
+        (office.folder / (name + ".toml")).unlink()
+    assert office.call("INV3").returncode == 0
+
+
+def test_a_disk_that_takes_no_more(office: Office) -> None:
+    """The file stays as it was, and nothing is left beside it."""
+    path = {**os.environ, "PATH": f"{office.gateway.parent}:/usr/bin:/bin"}
+    words: list[str | Path] = [
+        "/usr/bin/python3",
+        SCRIPT,
+        "--last",
+        "20261130",
+        "DLR1",
+        office.file,
+    ]
+
+    def full() -> None:
+        resource.setrlimit(resource.RLIMIT_FSIZE, (20, 20))
+
+    before = sorted(office.folder.iterdir())
+    ran = subprocess.run(
+        words, env=path, capture_output=True, text=True, timeout=LONG, preexec_fn=full
+    )
+    assert ran.returncode == 1 and "File too large" in ran.stderr
+    assert sorted(office.folder.iterdir()) == before and office.file.read_text() == KEPT
 
 
 @pytest.mark.parametrize("name", ["dlr1", "TOOLONG99", "D.1", ""])
@@ -253,6 +310,7 @@ def test_two_calls_at_once_lose_nothing(office: Office) -> None:
     with ThreadPoolExecutor() as pool:
         ran = list(pool.map(office.call, ["DLR1", "DLR2", "INV1"]))
     assert [one.returncode for one in ran] == [0, 0, 0]
+    assert office.file.read_text().startswith("[")
     assert set(office.credentials()) == {"DLR1", "DLR2", "INV1"}
 
 

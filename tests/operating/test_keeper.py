@@ -220,9 +220,9 @@ def test_days_in_postgres(keeper: Keeper) -> None:
     flip_last(copied)
     keeper.runs(1, 'log is not removed log=%s cause="its copy is another' % first)
     flip_last(copied)
-    database.did("UPDATE %s.session SET next = next + 1" % first)
+    database.did("UPDATE %s.sent SET place = place + 1" % first)
     keeper.runs(1, 'log is not removed log=%s cause="its copy is another"' % first)
-    database.did("UPDATE %s.session SET next = next - 1" % first)
+    database.did("UPDATE %s.sent SET place = place - 1" % first)
     keeper.wait_told("log removed log=" + first)
     assert first not in database.logs()
     keeper.check_copy(1)
@@ -337,7 +337,7 @@ def test_a_day_as_a_file(owned: OwnedLogs, day: Database, place: Path) -> None:
         assert digest_of_log(log) != digest
     with closing(sqlite3.connect(file)) as copy:
         tables = copy.execute("SELECT name FROM sqlite_schema WHERE type = 'table'").fetchall()
-        expected = "checkpoint connection entry form outgoing seal sent session"
+        expected = "checkpoint connection entry form seal sent"
         assert sorted(name for (name,) in tables) == expected.split()
         keys = 'SELECT name, type, "notnull", pk FROM pragma_table_info(?)'
         assert copy.execute(keys, ("sent",)).fetchall() == [
@@ -345,6 +345,7 @@ def test_a_day_as_a_file(owned: OwnedLogs, day: Database, place: Path) -> None:
             ("number", "INTEGER", 1, 2),
             ("place", "INTEGER", 1, 0),
             ("bytes", "BYTEA", 1, 0),
+            ("told", "TEXT", 0, 0),
         ]
         assert copy.execute(keys, ("entry",)).fetchall()[4] == ("firm", "TEXT", 0, 0)
         assert copy.execute("SELECT * FROM entry ORDER BY place").fetchall() == [

@@ -1,5 +1,7 @@
 """The signed repository: what apt takes from it, and what is never signed."""
 
+import fcntl
+import hashlib
 import os
 import shutil
 import subprocess
@@ -70,11 +72,16 @@ class Builder:
     def release(
         self, packages: Path, key: str = "builder", **more: str
     ) -> "subprocess.CompletedProcess[str]":
-        script = ROOT / "install" / "repository.sh"
-        words = [str(script), key, str(self.repository), str(packages)]
-        environment = {**self.environment, **more}
+        return self.call(key, str(self.repository), str(packages), **more)
+
+    def call(self, *words: str, **more: str) -> "subprocess.CompletedProcess[str]":
         return subprocess.run(
-            words, env=environment, capture_output=True, text=True, timeout=LONG, check=False
+            [str(ROOT / "install" / "repository.sh"), *words],
+            env={**self.environment, **more},
+            capture_output=True,
+            text=True,
+            timeout=LONG,
+            check=False,
         )
 
     def released(self, packages: Path, by: str = "builder", **more: str) -> None:
@@ -245,6 +252,62 @@ def test_sessions_that_are_not_proved_are_refused(builder: Builder) -> None:
     )
     done = builder.release(packages)
     assert done.returncode == 1 and "mireseason-gateway_1.0_amd64.deb is for trials" in done.stderr
+
+
+def test_how_it_is_called(builder: Builder) -> None:
+    """With a key and a folder, and perhaps the folder of the packages; else it says how, and does nothing."""
+    folder = str(builder.place / "new")
+    wrong: list[list[str]] = [["builder"], ["builder", folder, folder, folder], []]
+    for words in wrong:
+        done = builder.call(*words)
+        assert done.returncode == 2 and "install/repository.sh KEY DIR [PACKAGES]" in done.stderr
+        assert not Path(folder).exists()
+    done = builder.call("builder", folder, str(builder.place / "none"))
+    assert done.returncode == 1 and not Path(folder).exists()
+    done = builder.call("builder", folder)
+    assert done.returncode != 2 and "KEY DIR" not in done.stderr
+
+
+def test_an_address_with_a_blank(builder: Builder) -> None:
+    done = builder.release(builder.package("1.0"), URL="https://venue.example/a b")
+    assert done.returncode == 1 and "the address has a blank" in done.stderr
+
+
+def test_a_key_with_a_second_one(builder: Builder) -> None:
+    """The key is known by its own fingerprint, and not by that of a key that belongs to it."""
+    words = ["gpg", "--batch", "--with-colons", "--list-secret-keys", "builder"]
+    told = subprocess.run(words, env=builder.environment, capture_output=True, text=True)
+    own = next(line.split(":")[9] for line in told.stdout.splitlines() if line[:4] == "fpr:")
+    more = ["gpg", "--batch", "--quiet", "--passphrase", "", "--quick-add-key", own, "cv25519"]
+    subprocess.run([*more, "encr", "never"], env=builder.environment, check=True)
+    done = builder.release(builder.package("1.0"))
+    assert done.returncode == 0 and "is signed by %s;" % own in done.stdout
+
+
+def test_what_is_signed_stands_by_its_sum(builder: Builder, host: Host) -> None:
+    """Whoever reads while a release is made finds the index that was signed: that of each release stays."""
+    folder = builder.repository / "dists/stable/main/binary-amd64"
+    first = {path.name for path in (folder / "by-hash/SHA256").iterdir()}
+    builder.released(builder.package("1.1"))
+    release = (builder.repository / "dists/stable/InRelease").read_text()
+    for name in ("Packages", "Packages.xz"):
+        data = (folder / name).read_bytes()
+        kept = hashlib.sha256(data).hexdigest()
+        assert (folder / "by-hash/SHA256" / kept).read_bytes() == data
+        assert " %s " % kept in release and " main/binary-amd64/%s\n" % name in release
+    assert len(first) == 2 and first < {path.name for path in (folder / "by-hash/SHA256").iterdir()}
+
+
+def test_another_call_at_work(builder: Builder) -> None:
+    builder.repository.mkdir()
+    folder = os.open(builder.repository, os.O_RDONLY)
+    try:
+        fcntl.flock(folder, fcntl.LOCK_EX)
+        done = builder.release(builder.package("1.0"))
+    finally:
+        os.close(folder)
+    assert done.returncode == 1 and "another call works in" in done.stderr
+    assert list(builder.repository.iterdir()) == []
 
 
 def test_wrong_words(builder: Builder) -> None:

@@ -1,6 +1,7 @@
 """Finds the possible changes of a file in C++, by clang's syntax tree."""
 
 from collections.abc import Iterator, Sequence
+from pathlib import Path
 
 from clang.cindex import Cursor, CursorKind, Index, SourceRange, TokenKind, TranslationUnit
 
@@ -12,6 +13,7 @@ JUMPS = {CursorKind.BREAK_STMT, CursorKind.CONTINUE_STMT, CursorKind.CXX_THROW_E
 FUNCTIONS = {CursorKind.FUNCTION_DECL, CursorKind.CXX_METHOD, CursorKind.CONSTRUCTOR}
 WRAPPERS = {CursorKind.UNEXPOSED_EXPR, CursorKind.PAREN_EXPR}
 NAMED = {CursorKind.MEMBER_REF_EXPR, CursorKind.DECL_REF_EXPR}
+SYMMETRIC = {"operator==", "operator!="}  # whose sides nobody confuses
 BOTH = {"&&": "true", "||": "false"}
 
 
@@ -122,6 +124,8 @@ class Reader:
             self.drawing.add(Kind.BOUND, at, str(int(at.of(self.text)) + 1))
 
     def arguments(self, call: Cursor) -> None:
+        if call.spelling in SYMMETRIC:
+            return
         given = [each for each in call.get_arguments() if each is not None and self.is_here(each)]
         for first, second in zip(given, given[1:]):
             one, other = self.span(first.extent), self.span(second.extent)
@@ -187,3 +191,13 @@ def cpp_changes(file: str, path: str, words: Sequence[str]) -> list[Change]:
         reader = Reader(file, source.read(), path)
     reader.walk(unit.cursor)
     return sorted(reader.drawing, key=lambda change: (change.start, change.kind.name))
+
+
+def compiled_headers(header: Path, words: Sequence[str], ready: Path) -> None:
+    """Keeps what clang makes of a header, for `-include-pch`."""
+    plain = header.with_suffix(".only.hxx")
+    # What cmake writes is for gcc alone; clang would call it the file's own.
+    plain.write_text(header.read_text().replace("#pragma GCC system_header", ""))
+    options = TranslationUnit.PARSE_INCOMPLETE
+    unit = Index.create().parse(str(plain), args=["-x", "c++-header", *words], options=options)
+    unit.save(str(ready))

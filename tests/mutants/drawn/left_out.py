@@ -15,7 +15,8 @@ class LeftOut:
     """The two lists."""
 
     lines: list[re.Pattern[str]]
-    equal: frozenset[tuple[str, str, str]]  # a file, what stood there, and what stands there then
+    # a file, what stood there, and what stands there then; and a part of its line, where it stands elsewhere too
+    equal: frozenset[tuple[str, str, str, str]]
 
     def has(self, change: Change, text: bytes) -> bool:
         line = text.splitlines()[change.line - 1].decode(errors="replace")
@@ -23,7 +24,9 @@ class LeftOut:
 
     def is_equal(self, change: Change, text: bytes) -> bool:
         old = " ".join(text[change.start : change.end].decode().split())
-        return (change.file, old, " ".join(change.new.split())) in self.equal
+        own = (change.file, old, " ".join(change.new.split()))
+        line = text.splitlines()[change.line - 1].decode()
+        return any(one[:3] == own and one[3] in line for one in self.equal)
 
 
 def read_left_out(file: Path = FILE) -> LeftOut:
@@ -33,6 +36,7 @@ def read_left_out(file: Path = FILE) -> LeftOut:
         assert entry["why"], entry
     lines = [re.compile(entry["has"]) for entry in told.get("line", [])]
     equal = frozenset(
-        (entry["file"], entry["old"], entry["new"]) for entry in told.get("equal", [])
+        (entry["file"], entry["old"], entry["new"], entry.get("line", ""))
+        for entry in told.get("equal", [])
     )
     return LeftOut(lines, equal)

@@ -7,7 +7,7 @@ from pathlib import Path
 
 from tests.harness.options import ROOT
 from tests.mutants.drawn.change import Change
-from tests.mutants.drawn.cpp_changes import cpp_changes
+from tests.mutants.drawn.cpp_changes import compiled_headers, cpp_changes
 from tests.mutants.drawn.javascript_changes import javascript_changes
 from tests.mutants.drawn.python_changes import python_changes
 from tests.mutants.drawn.shell_changes import shell_changes
@@ -20,7 +20,7 @@ class Part:
     name: str
     files: tuple[str, ...]  # globs from the top of the tree
     tests: tuple[str, ...]  # globs of folders or files of pytest
-    build: str | None = None  # the folder that cmake builds
+    builds: tuple[str, ...] = ()  # the folders that cmake builds of these files
 
     def paths(self, root: Path = ROOT) -> list[str]:
         found = {path for glob in self.files for path in root.glob(glob) if path.is_file()}
@@ -28,8 +28,12 @@ class Part:
 
     def modules(self, root: Path = ROOT) -> list[str]:
         """The files of tests, by name."""
-        found = {path for glob in self.tests for path in root.glob(glob)}
-        return sorted(str(path.relative_to(root)) for path in found)
+        return modules_of(self.tests, root)
+
+
+def modules_of(globs: tuple[str, ...], root: Path = ROOT) -> list[str]:
+    found = {path for glob in globs for path in root.glob(glob)}
+    return sorted(str(path.relative_to(root)) for path in found)
 
 
 IN_GATEWAY = (
@@ -39,12 +43,19 @@ IN_GATEWAY = (
     "tests/operating/test_*.py",
     "tests/conformance/test_*.py",
 )
+IN_DESK = ("tests/desk/test_*.py",)
+OF_BUILD = {"gateway": IN_GATEWAY, "desk": IN_DESK}
 PARTS = (
-    Part("gateway", ("gateway/src/**/*.cpp",), IN_GATEWAY, "gateway"),
-    Part("session_model", ("gateway/session_model/*.cpp",), IN_GATEWAY, "gateway"),
-    Part("desk", ("desk/src/*.cpp",), ("tests/desk/test_*.py",), "desk"),
+    Part("gateway", ("gateway/src/**/*.cpp",), IN_GATEWAY, ("gateway",)),
+    Part("session_model", ("gateway/session_model/*.cpp",), IN_GATEWAY, ("gateway",)),
+    Part("desk", ("desk/src/*.cpp",), IN_DESK, ("desk",)),
     Part("page", ("desk/page/*.js",), ("tests/desk/test_*.py",)),
-    Part("common", ("common/*.cpp", "common/web/*.cpp"), ("tests/desk/test_*.py",), "desk"),
+    Part(
+        "common",
+        ("common/*.cpp", "common/web/*.cpp"),
+        (*IN_GATEWAY, *IN_DESK),
+        ("gateway", "desk"),
+    ),
     Part("audit", ("audit/**/*.py",), ("tests/audit/test_*.py", "tests/supervisor/test_*.py")),
     Part(
         "keeper",
@@ -59,9 +70,15 @@ PARTS = (
     Part("certify", ("certify/**/*.py",), ("tests/certify/test_*.py",)),
     Part(
         "install",
-        ("install/**/*.py", "install/packages/sbin/*", "install/*.sh"),
-        ("tests/operating/test_*.py",),
+        ("install/**/*.py", "install/packages/sbin/*"),
+        (
+            "tests/gateway/test_configuration.py",
+            "tests/gateway/test_database_roles.py",
+            "tests/gateway/test_readers.py",
+            "tests/operating/test_*.py",
+        ),
     ),
+    Part("repository", ("install/*.sh",), ("tests/operating/test_repository.py",)),
     Part(
         "scripts",
         ("debian/*.p*inst", "debian/*.p*rm", "debian/*.sh"),
@@ -77,13 +94,13 @@ PARTS = (
 )
 
 
-def changes_of(file: str, build: str | None, root: Path = ROOT) -> list[Change]:
-    """All changes of a file; of one in C++ its folder has been built, so that it is known how it is compiled."""
-    path = root / file
+def changes_of(file: str, out: Path | None) -> list[Change]:
+    """All changes of a file; one in C++ is read as it is compiled in `out`, a folder that a copy of the tree builds."""
+    path = ROOT / file
     text = path.read_bytes()
     if path.suffix == ".cpp":
-        assert build is not None
-        return cpp_changes(file, str(path), compiled_with(path, root / build / "out"))
+        assert out is not None
+        return cpp_changes(file, str(path), compiled_with(file, out))
     if path.suffix == ".js":
         return javascript_changes(file, str(path))
     if path.suffix == ".py" or text.startswith(b"#!/usr/bin/python3"):
@@ -103,12 +120,27 @@ UNKNOWN = (
 )
 
 
-def compiled_with(path: Path, out: Path) -> list[str]:
-    """The words with which a file is compiled, but for the compiler's own ones."""
+def compiled_with(file: str, out: Path) -> list[str]:
+    """The words with which a file is compiled, but for the compiler's own ones, and with the tree in the copy's place."""
+    copy = out.parents[1]
     for entry in json.loads((out / "compile_commands.json").read_text()):
-        if entry["file"] == str(path):
-            return list(words_for_clang(shlex.split(entry["command"])[1:], str(path)))
-    raise KeyError("%s is compiled by nothing in %s" % (path, out))
+        if entry["file"] == str(copy / file):
+            said = shlex.split(entry["command"])[1:]
+            words = list(words_for_clang(said, str(copy / file)))
+            words = [word.replace(str(copy), str(ROOT)) for word in words]
+            return words + read_once(said, words)
+    raise KeyError("%s is compiled by nothing in %s" % (file, out))
+
+
+def read_once(said: list[str], words: list[str]) -> list[str]:
+    """The words by which clang takes the headers that cmake compiles once, which it reads once, too."""
+    headers = [Path(word) for before, word in zip(said, said[1:]) if before == "-include"]
+    for header in headers:
+        ready = header.with_suffix(".clang")
+        if not ready.exists():
+            compiled_headers(header, words, ready)
+        return ["-include-pch", str(ready)]
+    return []
 
 
 def words_for_clang(words: list[str], path: str) -> list[str]:

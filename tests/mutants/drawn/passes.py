@@ -6,20 +6,21 @@ import shutil
 import subprocess
 import sys
 import xml.etree.ElementTree as xml
-from collections import defaultdict
-from collections.abc import Iterator
+from collections.abc import Callable, Iterator
 from dataclasses import dataclass, field
 from pathlib import Path
 
-from tests.harness.build import cmake
 from tests.harness.options import ROOT
 from tests.harness.reports import is_failed, without_group
-from tests.mutants.drawn.counters import COUNTERS, FLAGS, name_of, passed_lines, run_unit, units
+from tests.mutants.drawn.cpp_bodies import bodies
+from tests.mutants.drawn.javascript_passes import javascript_lines
 from tests.mutants.drawn.recorder import marks_name
+from tests.mutants.drawn.recording.sitecustomize import CURRENT
+from tests.mutants.drawn.recording.sitecustomize import FOLDER as RECORDED
+from tests.mutants.drawn.units import Unit
 
 FOLDER = ROOT / "tests" / "out" / "mutants" / "passes"
 LIMIT = 4 * 3600  # seconds of one run
-SETTINGS = ("-DCMAKE_BUILD_TYPE=Debug", "-DCMAKE_CXX_FLAGS=" + FLAGS)
 Lines = dict[str, dict[int, set[str]]]  # of a file, a line: the names of tests
 
 
@@ -54,36 +55,44 @@ def read_passes(path: Path) -> Passes:
 
 
 def record(name: str, files: list[str], modules: list[str], words: list[str]) -> Passes:
-    """Runs these files of tests, and reads what they passed through of these files of Python."""
-    folder, files = emptied(FOLDER / name), [file for file in files if is_python(ROOT / file)]
-    prepare(folder, files)
+    """Runs these files of tests, and reads what they passed through of these files of Python and JavaScript."""
+    folder, python = emptied(FOLDER / name), [file for file in files if is_python(ROOT / file)]
+    prepare(folder, python)
     seconds = dict(seconds_of(run_recorded(ROOT, folder, modules, words)))
-    return Passes(python_lines(folder, files), seconds)
+    scripts = javascript_lines(folder, [file for file in files if file.endswith(".js")], seconds)
+    return Passes(python_lines(folder, python) | scripts, seconds)
 
 
 def prepare(folder: Path, files: list[str]) -> None:
     """What `recording/sitecustomize.py` reads: the number of each file's first mark, and how many there are."""
+    firsts, first = {}, 0
+    for file in files:
+        firsts[file] = first
+        first += (ROOT / file).read_bytes().count(b"\n") + 2
+    prepare_marks(folder, firsts)
+
+
+def prepare_marks(folder: Path, firsts: dict[str, int]) -> None:
     for name in ("marks", "code"):
         (folder / name).mkdir()
         (folder / name).chmod(0o1777)
-    first, lines = 0, []
-    for file in files:
-        lines.append("%d %s\n" % (first, ROOT / file))
-        first += (ROOT / file).read_bytes().count(b"\n") + 2
+    lines = ["%d %s\n" % (first, ROOT / file) for file, first in firsts.items()]
+    ends = [first + (ROOT / file).read_bytes().count(b"\n") + 2 for file, first in firsts.items()]
     (folder / "files").write_text("".join(lines))
-    (folder / "size").write_text(str(first + 1))
+    (folder / "size").write_text(str(max(ends, default=0) + 1))
 
 
-def record_built(name: str, tree: Path, build: str, modules: list[str], words: list[str]) -> Passes:
-    """The same of C++, in a copy that is built with counters. A program of unit tests is one test here, and a file of pytest's."""
-    folder = emptied(FOLDER / name)
-    prepare(folder, [])
-    out = cmake(tree / build, settings=SETTINGS)
-    seconds = of_units(out, folder / COUNTERS)
-    for test, taken in seconds_of(run_recorded(tree, folder, modules, words)):
-        module = test.partition("::")[0]
-        seconds[module] = seconds.get(module, 0.0) + taken
-    return Passes(of_counters(folder / COUNTERS, tree), seconds)
+def record_units(folder: Path, out: Path, units: list[Unit]) -> dict[str, float]:
+    """Runs each program of unit tests, and gives the seconds of those that pass."""
+    current, found = folder / "current-units", {}
+    own = {RECORDED: str(folder), CURRENT: str(current)}
+    for unit in units:
+        current.write_text(marks_name(unit.name))
+        seconds = unit.run(out, own)
+        if seconds is not None:
+            found[unit.name] = seconds
+    (folder / "tests-units.json").write_text(json.dumps({name: [name] for name in found}))
+    return found
 
 
 def run_recorded(tree: Path, folder: Path, modules: list[str], words: list[str]) -> Path:
@@ -102,34 +111,35 @@ def emptied(folder: Path) -> Path:
     return folder
 
 
-def of_counters(counters: Path, root: Path) -> Lines:
-    """What programs in C++ passed through, by the folder of counters that each run has."""
-    lines: dict[str, dict[int, set[str]]] = defaultdict(lambda: defaultdict(set))
-    for run in sorted(counters.iterdir()):
-        for file, line in passed_lines(run, root):
-            lines[file][line].add(name_of(run))
-    return {file: dict(of_file) for file, of_file in lines.items()}
-
-
-def of_units(out: Path, counters: Path) -> dict[str, float]:
-    """Runs each program of unit tests, and gives the seconds of those that pass."""
-    found = {unit.name: run_unit(unit, out, counters) for unit in units(out)}
-    return {name: seconds for name, seconds in found.items() if seconds is not None}
-
-
 def is_python(path: Path) -> bool:
     return path.suffix == ".py" or path.read_bytes().startswith(b"#!/usr/bin/python3")
 
 
-def python_lines(folder: Path, files: list[str]) -> Lines:
-    """The tests of each line, by the marks of its statement."""
+def marks_of(folder: Path) -> dict[str, list[bytes]]:
+    """Of each test the marks that it set, and those of the fixtures that it shares."""
     tests: dict[str, list[str]] = {}
     for path in folder.glob("tests-*.json"):
         tests |= json.loads(path.read_text())
     marks = {path.name: path.read_bytes() for path in (folder / "marks").iterdir()}
-    passed = {
+    return {
         test: [marks.get(marks_name(who), b"") for who in whose] for test, whose in tests.items()
     }
+
+
+def python_lines(folder: Path, files: list[str]) -> Lines:
+    """The tests of each line, by the marks of its statement."""
+    return marked_lines(folder, files, statements)
+
+
+def cpp_lines(folder: Path, files: list[str]) -> Lines:
+    """The tests of each line, by the marks of its function; of one outside, all tests of its file."""
+    return marked_lines(folder, files, functions)
+
+
+def marked_lines(
+    folder: Path, files: list[str], starts: Callable[[bytes], dict[int, int | None]]
+) -> Lines:
+    passed = marks_of(folder)
     firsts = [int(line.split(" ")[0]) for line in (folder / "files").read_text().splitlines()]
     found: Lines = {}
     for file, first in zip(files, firsts, strict=True):
@@ -137,7 +147,15 @@ def python_lines(folder: Path, files: list[str]) -> Lines:
         ends = first + text.count(b"\n") + 2
         own = {test: merged([each[first:ends] for each in all_]) for test, all_ in passed.items()}
         own = {test: each for test, each in own.items() if any(each)}
-        found[file] = {line: tests_at(own, start) for line, start in statements(text).items()}
+        found[file] = {line: tests_at(own, start) for line, start in starts(text).items()}
+    return found
+
+
+def functions(text: bytes) -> dict[int, int | None]:
+    """Of each line the line where the body of its function begins."""
+    found: dict[int, int | None] = dict.fromkeys(range(1, text.count(b"\n") + 2))
+    for body in bodies(text):
+        found.update(dict.fromkeys(range(body.line, body.last + 1), body.line))
     return found
 
 

@@ -1,8 +1,8 @@
 """A plugin of pytest (`-p tests.mutants.drawn.recorder`) that records through which lines each test passes.
 
 Python: `recording/sitecustomize.py` marks them, in pytest's own process and in each program that it starts. What a fixture of a
-module or a class does is recorded as the fixture's, and counts for each test that takes it. C++: a program that is built with
-`--coverage` writes its counters into a folder for each file of tests, which GCOV_PREFIX names.
+module or a class does is recorded as the fixture's, and counts for each test that takes it. C++: a program of `together.py` marks
+its functions in the same way. JavaScript: node itself records it.
 """
 
 import hashlib
@@ -17,10 +17,10 @@ from _pytest.fixtures import FixtureDef
 
 from tests.harness.durations import FILE, read_durations
 from tests.harness.reports import without_group
-from tests.mutants.drawn.counters import COUNTERS, folder_of
 from tests.mutants.drawn.recording.sitecustomize import CURRENT, FOLDER, Recording
 
 HERE = Path(__file__).resolve().parent / "recording"
+NODE = "NODE_V8_COVERAGE"  # in the environment, and the folder of a recording: where node writes what it ran
 NOBODY = "nobody"  # whose lines those are that run before the first test
 
 
@@ -85,8 +85,7 @@ class Recorder:
     @pytest.hookimpl(tryfirst=True)  # type: ignore[misc]
     def pytest_runtest_setup(self, item: pytest.Item) -> None:
         self.switch(name_of(item))
-        counters = folder_of(self.folder / COUNTERS, item.nodeid.partition("::")[0])
-        os.environ["GCOV_PREFIX"] = str(counters)
+        os.environ[NODE] = str(self.folder / NODE / marks_name(self.who))
 
     @pytest.hookimpl(hookwrapper=True)  # type: ignore[misc]
     def pytest_fixture_setup(
@@ -118,8 +117,13 @@ def shared_by(item: pytest.Item) -> list[str]:
     return [fixture_name(each) for each in taken if each.scope != "function"]
 
 
-def pytest_configure(config: pytest.Config) -> None:
+@pytest.hookimpl(tryfirst=True)  # type: ignore[misc]
+def pytest_load_initial_conftests(early_config: pytest.Config) -> None:
+    """Before conftest.py, whose plugins import modules that may be recorded."""
+    recorder = Recorder(early_config.known_args_namespace.record)
+    early_config.pluginmanager.register(recorder, "recorder of lines")
+
+
+def pytest_configure() -> None:
     """Plugins of conftest.py, which come later, are called before: PYTHONPATH for what the tests start is set."""
-    folder: Path = config.option.record
     os.environ["PYTHONPATH"] = os.pathsep.join([str(HERE), os.environ["PYTHONPATH"]])
-    config.pluginmanager.register(Recorder(folder), "recorder of lines")

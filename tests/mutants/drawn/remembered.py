@@ -11,15 +11,29 @@ from dataclasses import dataclass, field
 from pathlib import Path
 
 from tests.harness.options import ROOT
-from tests.mutants.drawn.passes import Passes, is_python
+from tests.mutants.drawn.cpp_bodies import bodies
+from tests.mutants.drawn.passes import Passes
+from tests.mutants.drawn.units import UNIT
 
 FOLDER = Path(__file__).with_name("remembered")
 MOST = 6  # tests of a function
 OUTSIDE = "-"  # the name of what is in no function
 
 
-def functions(text: bytes) -> dict[int, str]:
-    """Of each line the function that it is in, by its name and those of the classes and functions around it."""
+def functions(file: str, text: bytes) -> dict[int, str]:
+    """Of each line the function that it is in."""
+    return cpp_functions(text) if file.endswith(".cpp") else python_functions(text)
+
+
+def cpp_functions(text: bytes) -> dict[int, str]:
+    found: dict[int, str] = {}
+    for body in bodies(text):
+        found.update(dict.fromkeys(range(body.line, body.last + 1), body.name))
+    return found
+
+
+def python_functions(text: bytes) -> dict[int, str]:
+    """By its name and those of the classes and functions around it."""
     found: dict[int, str] = {}
     try:
         tree = ast.parse(text)
@@ -44,11 +58,14 @@ def summed(passes: Passes, root: Path = ROOT) -> dict[str, dict[str, list[str]]]
     """Of each file and function the fastest tests that pass through one of its lines, those first that pass through most of them."""
     found: dict[str, dict[str, list[str]]] = {}
     for file, lines in passes.lines.items():
-        of_line = functions((root / file).read_bytes())
+        of_line = functions(file, (root / file).read_bytes())
         counts: dict[str, dict[str, int]] = {}
         for line, tests in lines.items():
             of_function = counts.setdefault(of_line.get(line, OUTSIDE), {})
-            for test in tests & passes.seconds.keys():
+            # Which unit tests pass through a function is recorded each time.
+            for test in {
+                each for each in tests & passes.seconds.keys() if not each.startswith(UNIT)
+            }:
                 of_function[test] = of_function.get(test, 0) + 1
         found[file] = {
             name: fastest(count, passes.seconds) for name, count in sorted(counts.items()) if count
@@ -97,7 +114,7 @@ class Remembered:
 
     def through(self, root: Path, file: str, line: int) -> list[str]:
         """The tests of the function that a line is in now, that are still there."""
-        name = functions((root / file).read_bytes()).get(line, OUTSIDE)
+        name = functions(file, (root / file).read_bytes()).get(line, OUTSIDE)
         own = [self.tests[number] for number in self.files[file].get(name, [])]
         return [test for test, _ in own if is_there(root, test)]
 

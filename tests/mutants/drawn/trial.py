@@ -11,15 +11,13 @@ from enum import Enum
 from itertools import islice
 from pathlib import Path
 
-from tests.harness.build import NotBuilt, cmake
 from tests.harness.durations import FILE, read_durations
 from tests.harness.options import ROOT
 from tests.mutants.drawn.change import Change
-from tests.mutants.drawn.counters import UNIT, Unit, run_unit
 from tests.mutants.drawn.parts import Part
 from tests.mutants.drawn.passes import Passes
 from tests.mutants.drawn.remembered import Remembered
-from tests.mutants.nursery import PATIENCE, PROGRAMS, Nursery
+from tests.mutants.nursery import PATIENCE, Nursery
 
 AT_ONCE = 20  # tests of one run of pytest, so that the first that fails ends it soon
 UNKNOWN = 5.0  # seconds of a file of tests of which nothing is known
@@ -69,6 +67,7 @@ class Trial:
     limit: float  # seconds of one change
     below: float | None  # only tests that take less seconds, as far as that is known
     options: tuple[str, ...]
+    build: str | None = None  # whose program the tests run
 
     def tests(self, change: Change) -> list[str]:
         """Those that pass through its line, or its function; all of the part's files where neither is known."""
@@ -101,20 +100,8 @@ class Trial:
         return Tried(self.part.name, change, change.told(text), verdict, by, seconds)
 
     def judged(self, change: Change, began: float) -> tuple[Verdict, str]:
-        """Unit tests first: they are the fastest."""
         names = self.tests(change)
-        units = [name.removeprefix(UNIT) for name in names if name.startswith(UNIT)]
-        if self.part.build is not None:
-            try:
-                out = cmake(self.tree.folder / self.part.build, [PROGRAMS[self.part.build], *units])
-            except NotBuilt:
-                return Verdict.REFUSED, "the compiler"
-            for unit in units:
-                if run_unit(Unit(unit, [str(out / unit)]), out, self.tree.folder) is None:
-                    return Verdict.REFUSED, unit
-        if not names:
-            return Verdict.UNSEEN, ""
-        return self.by_pytest([name for name in names if not name.startswith(UNIT)], began)
+        return self.by_pytest(names, began) if names else (Verdict.UNSEEN, "")
 
     def by_pytest(self, names: list[str], began: float) -> tuple[Verdict, str]:
         """Some at a time, the fastest first, within the limit of one change."""
@@ -136,7 +123,7 @@ class Trial:
         words = [sys.executable, "-m", "pytest", *names, "-x", "-q", *self.options]
         place = ["-c", str(self.tree.folder / "pyproject.toml"), "--rootdir", str(self.tree.folder)]
         running = subprocess.Popen(
-            [*words, *place, *self.tree.chosen_for(self.part.build)],
+            [*words, *place, *self.tree.chosen_for(self.build)],
             cwd=self.tree.folder,
             env=self.environment(),
             stdout=subprocess.PIPE,
@@ -160,8 +147,6 @@ class Trial:
         """Nothing of the tree that is no copy; a wrong body may wait for what never comes."""
         own = {name: value for name, value in os.environ.items() if name != "PYTHONPATH"}
         own["PATIENCE"] = PATIENCE
-        if self.part.build == "desk":
-            own["DESK"] = str(self.tree.program("desk"))
         if self.part.name == "page":
             own["DESK_PAGES"] = str(self.tree.folder / "desk" / "page")
         return own

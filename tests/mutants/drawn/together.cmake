@@ -1,0 +1,11 @@
+# Included by a copy that is built for drawn changes: a program of unit tests takes the headers that its library compiles once.
+function(share_headers)
+    get_property(targets DIRECTORY PROPERTY BUILDSYSTEM_TARGETS)
+    foreach(target ${targets})
+        get_target_property(linked ${target} LINK_LIBRARIES)
+        if(target MATCHES "_test$" AND "gateway_core" IN_LIST linked)
+            target_precompile_headers(${target} REUSE_FROM gateway_core)
+        endif()
+    endforeach()
+endfunction()
+cmake_language(DEFER CALL share_headers)
