@@ -34,8 +34,9 @@ use Rattle.step_replay.specs.Actions.{settlement_of, verdict_on, word_for}
 use Rattle.step_replay.specs.DealerTrail.{AtDesk, DealerEntry, Sent, ShownIn, book_by, entries_of}
 use Rattle.step_replay.specs.DealerTrail.{message_by, rooms_by}
 use Rattle.step_replay.specs.DutyEffects.{duty_effect, message_effect, sweep_effect}
-use Rattle.step_replay.specs.EachLemmas.{Every, every_both}
+use Rattle.step_replay.specs.EachLemmas.{every_both}
 use Rattle.step_replay.specs.InvestorTrail as investor_trail
+use Rattle.step_replay.specs.Lists.{Every}
 use Rattle.step_replay.specs.VenueFacts.{AtDealer, AtInvestor, Fact, InRoom, of_dealer, of_investor}
 use Rattle.step_replay.specs.VenueFacts.{of_room}
 use Rattle.day_parts.specs.ActionCases.{by_does, if_does, invested_does, message_of, numbered_does}

@@ -18,7 +18,7 @@ use Rattle.venue_places.specs.declared.actors.Actor.TheVariants as actor
 use Rattle.step_replay.specs.Actions.{Effect, nothing}
 use Rattle.step_replay.specs.AuditTrail.{AuditTrail, after_step, after_turn, pending}
 use Rattle.step_replay.specs.DutyEffects.{duty_effect, message_effect, sweep_effect}
-use Rattle.step_replay.specs.EachLemmas.{Every}
+use Rattle.step_replay.specs.Lists.{Every}
 use Rattle.step_replay.specs.LiveDays.{with_turns}
 use Rattle.step_replay.specs.QueueLemmas.{other_pending, other_turned, own_pending, own_turned}
 use Rattle.step_replay.specs.VenueFacts.{Fact, InRoom, of_room}

@@ -24,8 +24,9 @@ use Rattle.venue_places.specs.declared.actors.Actor.TheVariants as actor
 use Rattle.step_replay.specs.Actions.{dealer_of, verdict_on}
 use Rattle.step_replay.specs.DealerTrail.{facts_of, rooms_by}
 use Rattle.step_replay.specs.DutyEffects.{duty_effect, message_effect, sweep_effect}
-use Rattle.step_replay.specs.EachLemmas.{Every, every_weaker}
+use Rattle.step_replay.specs.EachLemmas.{every_weaker}
 use Rattle.step_replay.specs.InvestorTrail as investor_trail
+use Rattle.step_replay.specs.Lists.{Every}
 use Rattle.step_replay.specs.VenueFacts.{Fact, of_dealer, of_investor, of_room}
 use Rattle.day_parts.specs.AcceptedQuotes.{AcceptOk, verdict_accepts}
 use Rattle.day_parts.specs.KeptItems.{every_all, every_met}

@@ -27,7 +27,7 @@ use Rattle.step_replay.specs.Actions.{quote_asked, quote_with_word, received_by_
 use Rattle.step_replay.specs.Actions.{received_by_investor, shown_to, told_to, unposted_by}
 use Rattle.step_replay.specs.Actions.{where_known, words_of}
 use Rattle.step_replay.specs.DutyEffects.{duty_effect, message_effect, sweep_effect}
-use Rattle.step_replay.specs.EachLemmas.{Every}
+use Rattle.step_replay.specs.Lists.{Every}
 use Rattle.step_replay.specs.VenueFacts.{Fact, InRoom, of_room}
 use Rattle.day_parts.specs.ActionCases.{by_both, invested_both, message_of, numbered_both}
 use Rattle.day_parts.specs.ActionCases.{told_to_same}

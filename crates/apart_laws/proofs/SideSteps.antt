@@ -10,7 +10,8 @@ use Rattle.step_replay.specs.Actions.{Effect}
 use Rattle.step_replay.specs.AuditTrail.{AuditTrail, after_step, after_turn, duty_of, is_same_actor}
 use Rattle.step_replay.specs.AuditTrail.{pending, with_effect}
 use Rattle.step_replay.specs.DutyEffects.{duty_effect, message_effect, sweep_effect}
-use Rattle.step_replay.specs.EachLemmas.{Every, every_both, every_weaker}
+use Rattle.step_replay.specs.EachLemmas.{every_both, every_weaker}
+use Rattle.step_replay.specs.Lists.{Every}
 use Rattle.step_replay.specs.QueueLemmas.{grown_within, other_pending, other_turned, other_within}
 use Rattle.step_replay.specs.QueueLemmas.{own_pending, own_turned, own_within, turned}
 use Rattle.step_replay.specs.VenueFacts.{Fact}

@@ -33,8 +33,8 @@ use Rattle.step_replay.specs.Actions.{received_by_dealer, received_by_investor, 
 use Rattle.step_replay.specs.Actions.{verdict_on, where_known, word_for}
 use Rattle.step_replay.specs.DealerTrail.{book_by, rooms_by}
 use Rattle.step_replay.specs.DutyEffects.{duty_effect, message_effect, sweep_effect}
-use Rattle.step_replay.specs.EachLemmas.{Every}
 use Rattle.step_replay.specs.InvestorTrail as investor_trail
+use Rattle.step_replay.specs.Lists.{Every}
 use Rattle.step_replay.specs.VenueFacts.{Fact, of_dealer, of_investor, of_room}
 use Rattle.day_parts.specs.ActionCases.{by_does, if_does, invested_does, message_of, numbered_does}
 use Rattle.day_parts.specs.ActionCases.{told_does, unless_does}

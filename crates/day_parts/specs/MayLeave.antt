@@ -28,7 +28,8 @@ use Rattle.venue_places.specs.declared.actors.Actor.{Actor}
 use Rattle.venue_places.specs.declared.actors.Actor.TheVariants as actor
 use Rattle.step_replay.specs.Actions.{answer_to_drop, dealer_of, drop_at, left_by_drop}
 use Rattle.step_replay.specs.DealerTrail.{book_by, entries_of, rooms_by}
-use Rattle.step_replay.specs.EachLemmas.{Every, every_both}
+use Rattle.step_replay.specs.EachLemmas.{every_both}
+use Rattle.step_replay.specs.Lists.{Every}
 use Rattle.step_replay.specs.VenueFacts.{Fact, of_dealer, of_room}
 use Rattle.day_parts.specs.KeptItems.{every_in}
 

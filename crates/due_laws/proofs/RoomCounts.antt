@@ -11,8 +11,9 @@ use Rattle.market_terms.specs.declared.rooms.RoomRef.{RoomRef}
 use Rattle.venue_rows.specs.Rows.{Configuration, KeepsLimits, has_room, may_request}
 use Rattle.venue_rows.specs.declared.investor_rows.InvestorRow.{InvestorRow}
 use Rattle.dealer_desk.specs.DealerOutput.{is_same_room, number_from}
-use Rattle.step_replay.specs.EachLemmas.{Every, every_both, every_weaker}
-use Rattle.step_replay.specs.GrowthLemmas.{In, in_left, in_right, same_room}
+use Rattle.step_replay.specs.EachLemmas.{every_both, every_weaker}
+use Rattle.step_replay.specs.GrowthLemmas.{in_left, in_right, same_room}
+use Rattle.step_replay.specs.Lists.{Every, In}
 use Rattle.step_replay.specs.VenueRooms.{requests_of, rooms_behind, rooms_from, rooms_of}
 
 -- Rooms none of which stands twice.

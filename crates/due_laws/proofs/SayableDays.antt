@@ -12,8 +12,9 @@ use Rattle.step_replay.specs.Actions.{Effect}
 use Rattle.step_replay.specs.AuditTrail.{AuditTrail, Caused, after_step, after_turn, audit_trail}
 use Rattle.step_replay.specs.AuditTrail.{due_to, duty_of, is_same_actor, no_steps, pending}
 use Rattle.step_replay.specs.DutyEffects.{duty_effect, message_effect, sweep_effect}
-use Rattle.step_replay.specs.EachLemmas.{Every, every_both}
+use Rattle.step_replay.specs.EachLemmas.{every_both}
 use Rattle.step_replay.specs.IsolationLemmas.{seen_is_kept}
+use Rattle.step_replay.specs.Lists.{Every}
 use Rattle.step_replay.specs.SeenLemmas.{Seen, start_seen}
 use Rattle.step_replay.specs.StepLemmas.{duty_keeps, message_keeps, sweep_keeps}
 use Rattle.step_replay.specs.VenueFacts.{Fact, of_dealer}

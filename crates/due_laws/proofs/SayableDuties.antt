@@ -35,7 +35,8 @@ use Rattle.venue_steps.specs.RoomSteps.{duties_of_decline, duties_of_expire, dut
 use Rattle.venue_steps.specs.RoomSteps.{duties_of_pass, duties_of_post, duties_of_unpost}
 use Rattle.venue_steps.specs.RoomSteps.{hit_duties, shown_then_ready, told_in, told_to_each}
 use Rattle.venue_steps.specs.RoomSteps.{where_follows}
-use Rattle.step_replay.specs.EachLemmas.{Every, every_both}
+use Rattle.step_replay.specs.EachLemmas.{every_both}
+use Rattle.step_replay.specs.Lists.{Every}
 use Rattle.step_replay.specs.PlaceLemmas.{behind_dealers, numbered_at}
 use Rattle.venue_text.specs.ReadBack.{is_short}
 use Rattle.due_laws.proofs.RoomCounts.{HasRoom}

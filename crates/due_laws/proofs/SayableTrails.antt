@@ -26,7 +26,8 @@ use Rattle.step_replay.specs.DealerGrowth.{due_grown, rooms_grown, settled_undue
 use Rattle.step_replay.specs.DealerTrail.{DealerEntry, Lifted, book_by, entries_of, room_in}
 use Rattle.step_replay.specs.DealerTrail.{rooms_by}
 use Rattle.step_replay.specs.DueList.{due_by, due_by_fact, due_list}
-use Rattle.step_replay.specs.EachLemmas.{Every, every_both}
+use Rattle.step_replay.specs.EachLemmas.{every_both}
+use Rattle.step_replay.specs.Lists.{Every}
 use Rattle.step_replay.specs.declared.dues.Due.{Due}
 use Rattle.step_replay.specs.declared.dues.Due.TheVariants as due
 use Rattle.venue_text.specs.ReadBack.{is_sayable, is_short}

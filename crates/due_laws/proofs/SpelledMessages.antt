@@ -12,7 +12,8 @@ use Rattle.fix_fields.specs.Envelope.{Begun, Cutting, Faulty, Front, Whole, cut_
 use Rattle.fix_fields.specs.Envelope.{front_of, taken, uncut, with_byte, with_byte_behind}
 use Rattle.fix_fields.specs.Frame.{Field, frame_text}
 use Rattle.fix_fields.specs.declared.fault.StreamFault.{StreamFault}
-use Rattle.step_replay.specs.EachLemmas.{Every, every_both}
+use Rattle.step_replay.specs.EachLemmas.{every_both}
+use Rattle.step_replay.specs.Lists.{Every}
 use Rattle.input_lines.specs.DueText.{at_line}
 use Rattle.input_lines.specs.Lines.{behind_part, first_part, time_of}
 use Rattle.input_lines.specs.OptionSteps as option

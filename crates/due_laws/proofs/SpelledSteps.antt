@@ -11,7 +11,8 @@ use Rattle.venue_rows.specs.Rows.{ConfigValues}
 use Rattle.venue_rows.specs.Texts.{same_text}
 use Rattle.quote_messages.specs.Texts.{number_of}
 use Rattle.venue_places.specs.declared.actors.Actor.{Actor}
-use Rattle.step_replay.specs.EachLemmas.{Every, every_both}
+use Rattle.step_replay.specs.EachLemmas.{every_both}
+use Rattle.step_replay.specs.Lists.{Every}
 use Rattle.step_replay.specs.LiveDays.{actor_of, live_steps, with_turns}
 use Rattle.step_replay.specs.declared.steps.TheConstants.{MOST_TURNS_BEHIND}
 use Rattle.step_replay.specs.declared.steps.Step.{Step}

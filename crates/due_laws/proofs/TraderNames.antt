@@ -11,7 +11,7 @@ use Rattle.std.proofs.lemmas.List.Elements.{recursion_from_All}
 use Rattle.std.proofs.lemmas.List.Folds.{list_all_more, list_any-append}
 use Rattle.std.proofs.lemmas.Slice.Eq.{bytes_eq-Decides}
 use Rattle.venue_rows.specs.Texts.{is_among, is_name, same_text}
-use Rattle.step_replay.specs.EachLemmas.{Every}
+use Rattle.step_replay.specs.Lists.{Every}
 use Rattle.input_lines.specs.DueLines.{ends_with_space, may_join, traders_of, traders_with}
 use Rattle.input_lines.specs.Lines.{parts_of}
 use Rattle.venue_text.specs.ReadBack.{is_in_line, is_in_part}

@@ -38,7 +38,7 @@ use Rattle.step_replay.specs.Actions.{answer_to_drop}
 use Rattle.step_replay.specs.DealerTrail as dealer_trail
 use Rattle.step_replay.specs.DealerTrail.{DealerEntry, book_by, entries_of, message_by, rooms_by}
 use Rattle.step_replay.specs.DutyEffects.{duty_effect, sweep_effect}
-use Rattle.step_replay.specs.EachLemmas.{Every}
+use Rattle.step_replay.specs.Lists.{Every}
 use Rattle.step_replay.specs.VenueFacts.{Fact, of_dealer, of_room}
 use Rattle.venue_text.specs.ReadBack.{is_short}
 use Rattle.investor_due_laws.proofs.NumberedDesks.{FactNumbers, answer_plain}

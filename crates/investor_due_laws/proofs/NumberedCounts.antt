@@ -15,7 +15,8 @@ use Rattle.venue_places.specs.declared.actors.Actor.TheVariants as actor
 use Rattle.step_replay.specs.Actions.{Effect}
 use Rattle.step_replay.specs.AuditTrail.{AuditTrail, Caused, duty_of, is_same_actor, pending, with_effect}
 use Rattle.step_replay.specs.DealerTrail as dealer_trail
-use Rattle.step_replay.specs.EachLemmas.{Every, every_both, every_weaker}
+use Rattle.step_replay.specs.EachLemmas.{every_both, every_weaker}
+use Rattle.step_replay.specs.Lists.{Every}
 use Rattle.step_replay.specs.PlaceLemmas.{dealer_grown}
 use Rattle.step_replay.specs.QueueLemmas.{one_actor, other_pending, other_turned, other_within}
 use Rattle.step_replay.specs.QueueLemmas.{own_pending, own_turned, own_within, same_either, turned}

@@ -11,8 +11,8 @@ use Rattle.venue_places.specs.declared.actors.Actor.TheVariants as actor
 use Rattle.step_replay.specs.AuditTrail.{AuditTrail, Caused, after_step, after_turn, audit_trail}
 use Rattle.step_replay.specs.AuditTrail.{duty_of, is_same_actor, no_steps, pending, with_effect}
 use Rattle.step_replay.specs.DutyEffects.{duty_effect, message_effect, sweep_effect}
-use Rattle.step_replay.specs.EachLemmas.{Every}
 use Rattle.step_replay.specs.IsolationLemmas.{seen_is_kept}
+use Rattle.step_replay.specs.Lists.{Every}
 use Rattle.step_replay.specs.QueueLemmas.{one_actor, turned}
 use Rattle.step_replay.specs.SeenLemmas.{Seen, start_seen}
 use Rattle.step_replay.specs.StepLemmas.{duty_keeps, message_keeps, sweep_keeps}

@@ -34,7 +34,8 @@ use Rattle.investor_desk.specs.declared.standing.RequestClose.{RequestClose}
 use Rattle.investor_desk.specs.declared.standing.ShownOffer.{ShownOffer}
 use Rattle.investor_desk.specs.declared.verdicts.InvestorVerdict.{InvestorVerdict}
 use Rattle.investor_desk.specs.declared.verdicts.InvestorVerdict.TheVariants as answer
-use Rattle.step_replay.specs.EachLemmas.{Every, every_both}
+use Rattle.step_replay.specs.EachLemmas.{every_both}
+use Rattle.step_replay.specs.Lists.{Every}
 use Rattle.investor_texts.specs.ReadBack.{is_short_if}
 use Rattle.investor_views.specs.InvestorDues.{number_of, quote_meant}
 use Rattle.venue_text.specs.ReadBack.{is_short}

@@ -30,7 +30,8 @@ use Rattle.venue_steps.specs.RoomSteps.{hit_duties, reply_to_pass, shown_then_re
 use Rattle.venue_steps.specs.RoomSteps.{told_to_each, where_follows}
 use Rattle.venue_places.specs.declared.actors.Actor.{Actor}
 use Rattle.venue_places.specs.declared.actors.Actor.TheVariants as actor
-use Rattle.step_replay.specs.EachLemmas.{Every, every_both}
+use Rattle.step_replay.specs.EachLemmas.{every_both}
+use Rattle.step_replay.specs.Lists.{Every}
 use Rattle.investor_texts.specs.ReadBack.{is_short_if}
 use Rattle.due_laws.proofs.RoomCounts.{HasRoom}
 use Rattle.investor_due_laws.proofs.OfferCounts.{bit, count, count_append, is_quoted}

@@ -25,7 +25,7 @@ use Rattle.step_replay.specs.Actions.{received_by_investor, settlement_of, verdi
 use Rattle.step_replay.specs.DealerTrail as dealer_trail
 use Rattle.step_replay.specs.DealerTrail.{DealerEntry, entries_of, message_by, rooms_by}
 use Rattle.step_replay.specs.DutyEffects.{message_effect}
-use Rattle.step_replay.specs.EachLemmas.{Every}
+use Rattle.step_replay.specs.Lists.{Every}
 use Rattle.step_replay.specs.PlaceLemmas.{own_trail}
 use Rattle.step_replay.specs.TrailLemmas.{facts_added}
 use Rattle.step_replay.specs.VenueFacts.{AtDealer, Fact, of_dealer}

@@ -11,7 +11,7 @@ use Rattle.venue_rows.specs.declared.dealer_rows.DealerRow.{DealerRow}
 use Rattle.dealer_desk.specs.DealerFacts as dealer
 use Rattle.dealer_desk.specs.DealerFacts.{DealerFact, Quoted, quotes_accepted}
 use Rattle.investor_desk.specs.InvestorFacts.{InvestorFact, Offered, offers_of}
-use Rattle.step_replay.specs.EachLemmas.{Every}
+use Rattle.step_replay.specs.Lists.{Every}
 
 -- Counts.
 

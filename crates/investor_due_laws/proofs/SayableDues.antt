@@ -13,8 +13,8 @@ use Rattle.investor_desk.specs.InvestorDesk.{DeskEvents, book_at, market_of, no_
 use Rattle.investor_desk.specs.InvestorFacts.{InvestorBook, book_of}
 use Rattle.investor_desk.specs.InvestorRules.{InvestorMarket}
 use Rattle.step_replay.specs.AuditTrail.{AuditTrail, after_step, audit_trail, no_steps, pending}
-use Rattle.step_replay.specs.EachLemmas.{Every}
 use Rattle.step_replay.specs.InvestorTrail.{book_by}
+use Rattle.step_replay.specs.Lists.{Every}
 use Rattle.step_replay.specs.VenueFacts.{of_investor}
 use Rattle.step_replay.specs.declared.steps.Step.{Step}
 use Rattle.step_replay.specs.declared.steps.Step.TheVariants as step

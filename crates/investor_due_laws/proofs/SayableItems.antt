@@ -26,7 +26,7 @@ use Rattle.venue_places.specs.declared.arrivals.ForInvestor.{ForInvestor}
 use Rattle.venue_places.specs.declared.arrivals.ForInvestor.TheVariants as to_investor
 use Rattle.venue_places.specs.declared.arrivals.Placement.{Placement}
 use Rattle.venue_places.specs.declared.arrivals.Placement.TheVariants as arrival
-use Rattle.step_replay.specs.EachLemmas.{Every}
+use Rattle.step_replay.specs.Lists.{Every}
 use Rattle.step_replay.specs.VenueFacts.{Fact}
 use Rattle.investor_views.specs.Comings.{Coming, For, Own, at_desk_of}
 use Rattle.investor_views.specs.InvestorDues.{due_by, number_of, quote_meant}

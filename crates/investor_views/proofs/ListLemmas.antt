@@ -4,7 +4,7 @@ use Rattle.std.proofs.Common.{count_by, Option, Some, None, option_map, is_some,
 use Rattle.std.proofs.Common.{subst, ◌∙◌}
 use Rattle.std.specs.List.{list_any}
 use Rattle.std.proofs.lemmas.Option.{same_Some}
-use Rattle.step_replay.specs.EachLemmas.{Every}
+use Rattle.step_replay.specs.Lists.{Every}
 
 pub map_cond : {X Y : Type 0} (e : X → Y) (b : Bool) (x : X) (rest : Option X)
     → cond b (Some (e x)) (option_map e rest) ≡ option_map e (cond b (Some x) rest)

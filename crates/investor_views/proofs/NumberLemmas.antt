@@ -10,7 +10,7 @@ use Rattle.investor_desk.specs.InvestorFacts.{book_of, is_open, offer_with_word,
 use Rattle.investor_desk.specs.InvestorFacts.{open_request, request_numbered, requests_of}
 use Rattle.investor_desk.specs.InvestorFacts.{standing_on, stands_on, while_open}
 use Rattle.investor_desk.specs.declared.standing.ShownOffer.{ShownOffer}
-use Rattle.step_replay.specs.EachLemmas.{Every}
+use Rattle.step_replay.specs.Lists.{Every}
 use Rattle.investor_views.specs.InvestorDues.{number_of}
 use Rattle.investor_views.proofs.ListLemmas.{find_changed, found_has}
 use Rattle.investor_views.proofs.Renamed.{renamed, renamed_request}

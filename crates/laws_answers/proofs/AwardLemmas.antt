@@ -41,8 +41,9 @@ use Rattle.venue_steps.specs.RoomSteps.{hit_word}
 use Rattle.step_replay.specs.AuditTrail.{AuditTrail, after_step, after_turn, audit_trail, no_steps}
 use Rattle.step_replay.specs.AuditTrail.{pending}
 use Rattle.step_replay.specs.DutyEffects.{duty_effect, message_effect, sweep_effect}
-use Rattle.step_replay.specs.EachLemmas.{Each, Every, each_append, each_of}
-use Rattle.step_replay.specs.GrowthLemmas.{In, said_grown, same_room}
+use Rattle.step_replay.specs.EachLemmas.{Each, each_append, each_of}
+use Rattle.step_replay.specs.GrowthLemmas.{said_grown, same_room}
+use Rattle.step_replay.specs.Lists.{Every, In}
 use Rattle.step_replay.specs.PlaceLemmas.{other_room, own_room, room_at_dealer, room_at_investor}
 use Rattle.step_replay.specs.PlaceLemmas.{room_grown}
 use Rattle.step_replay.specs.VenueFacts.{Fact, InRoom, of_room}

@@ -24,7 +24,8 @@ use Rattle.step_replay.specs.Actions.{Effect, nothing}
 use Rattle.step_replay.specs.AuditTrail.{AuditTrail, after_step, audit_trail, no_steps}
 use Rattle.venue_steps.specs.RoomSteps.{duties_of_expire}
 use Rattle.step_replay.specs.DutyEffects.{sweep_effect}
-use Rattle.step_replay.specs.GrowthLemmas.{In, in_left, in_right, same_room}
+use Rattle.step_replay.specs.GrowthLemmas.{in_left, in_right, same_room}
+use Rattle.step_replay.specs.Lists.{In}
 use Rattle.step_replay.specs.PlaceLemmas.{other_room, own_room, room_grown, room_stays}
 use Rattle.step_replay.specs.VenueFacts.{Fact, InRoom, of_room}
 use Rattle.step_replay.specs.VenueRooms.{requests_of, rooms_behind, rooms_from, rooms_of, sweeps_at}

@@ -6,7 +6,7 @@ use Rattle.request_room.specs.RoomFacts.{RoomFact, is_open, request_of}
 use Rattle.request_room.specs.declared.ends.End.{End}
 use Rattle.request_room.specs.declared.quotes.PostedQuote.{PostedQuote}
 use Rattle.request_room.specs.declared.requests.RoomRequest.{RoomRequest}
-use Rattle.step_replay.specs.GrowthLemmas.{In}
+use Rattle.step_replay.specs.Lists.{In}
 
 -- An award at this moment, in a room of which this stood, is in time: the room was open, the winner's
 -- quote stood in its book, and the moment is before the request's deadline and before the quote's own

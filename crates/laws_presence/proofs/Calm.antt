@@ -37,8 +37,9 @@ use Rattle.venue_places.specs.declared.actors.Actor.TheVariants as actor
 use Rattle.step_replay.specs.AuditTrail.{AuditTrail, after_step, after_turn, pending}
 use Rattle.step_replay.specs.DealerTrail.{entries_of, rooms_by}
 use Rattle.step_replay.specs.DutyEffects.{duty_effect, message_effect, sweep_effect}
-use Rattle.step_replay.specs.EachLemmas.{Every, every_both}
+use Rattle.step_replay.specs.EachLemmas.{every_both}
 use Rattle.step_replay.specs.InvestorTrail as investor_trail
+use Rattle.step_replay.specs.Lists.{Every}
 use Rattle.step_replay.specs.PlaceLemmas.{nothing_of}
 use Rattle.step_replay.specs.QueueLemmas.{own_turned}
 use Rattle.step_replay.specs.VenueFacts.{AtDealer, AtInvestor, Fact, InRoom, of_dealer}

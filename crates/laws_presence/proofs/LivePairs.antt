@@ -15,7 +15,7 @@ use Rattle.venue_places.specs.declared.actors.Actor.{Actor}
 use Rattle.step_replay.specs.Actions.{Effect, quote_with_word}
 use Rattle.step_replay.specs.AuditTrail.{AuditTrail, after_step, after_turn, pending, with_effect}
 use Rattle.step_replay.specs.DutyEffects.{duty_effect}
-use Rattle.step_replay.specs.EachLemmas.{Every}
+use Rattle.step_replay.specs.Lists.{Every}
 use Rattle.step_replay.specs.LiveDays.{actor_of, with_turns}
 use Rattle.step_replay.specs.QueueLemmas.{own_pending, own_turned, turned}
 use Rattle.step_replay.specs.declared.steps.Step.{Step}

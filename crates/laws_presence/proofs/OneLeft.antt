@@ -14,7 +14,7 @@ use Rattle.step_replay.specs.Actions.{Effect}
 use Rattle.step_replay.specs.AuditTrail.{AuditTrail, after_step, after_turn, is_same_actor}
 use Rattle.step_replay.specs.AuditTrail.{pending, with_effect}
 use Rattle.step_replay.specs.DutyEffects.{duty_effect, message_effect}
-use Rattle.step_replay.specs.EachLemmas.{Every}
+use Rattle.step_replay.specs.Lists.{Every}
 use Rattle.step_replay.specs.QueueLemmas.{one_actor, other_pending, other_turned, same_either}
 use Rattle.step_replay.specs.declared.steps.Step.{Step}
 use Rattle.step_replay.specs.declared.steps.Step.TheVariants as step

@@ -4,7 +4,7 @@ use Rattle.std.proofs.Common.{◌≡◌, ℕ, inl, inr, List, [], ◌∷◌, fol
 use Rattle.fix_fields.specs.Frame.{Field, IsFrame, frame_of}
 use Rattle.venue_rows.specs.Rows.{Configuration}
 use Rattle.step_replay.specs.AuditTrail.{AuditTrail, after_step, audit_trail, due_to, no_steps}
-use Rattle.step_replay.specs.EachLemmas.{Every}
+use Rattle.step_replay.specs.Lists.{Every}
 use Rattle.step_replay.specs.declared.steps.Step.{Step}
 use Rattle.venue_laws.specs.PriceAlike.{IsOneButForCover}
 use Rattle.venue_laws.proofs.LiveQuotes.{LoneQuotes}

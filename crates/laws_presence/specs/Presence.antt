@@ -11,7 +11,7 @@ use Rattle.venue_rows.specs.Rows.{Configuration, dealer_numbered}
 use Rattle.request_room.specs.RoomFacts.{RoomFact, Ended, is_awarded_kind}
 use Rattle.venue_places.specs.declared.actors.Actor.{Actor}
 use Rattle.step_replay.specs.AuditTrail.{AuditTrail, Caused, audit_trail, pending}
-use Rattle.step_replay.specs.EachLemmas.{Every}
+use Rattle.step_replay.specs.Lists.{Every}
 use Rattle.step_replay.specs.LiveDays.{live_trail}
 use Rattle.step_replay.specs.VenueFacts.{Fact, AtDealer, InRoom, AtInvestor}
 use Rattle.step_replay.specs.declared.steps.Step.{Step}

@@ -24,8 +24,9 @@ use Rattle.step_replay.specs.Actions.{received_by_dealer, received_by_investor}
 use Rattle.step_replay.specs.AuditTrail.{AuditTrail, is_same_actor}
 use Rattle.step_replay.specs.DealerTrail.{rooms_by}
 use Rattle.step_replay.specs.DutyEffects.{duty_effect, message_effect, sweep_effect}
-use Rattle.step_replay.specs.EachLemmas.{Every, every_weaker}
+use Rattle.step_replay.specs.EachLemmas.{every_weaker}
 use Rattle.step_replay.specs.GrowthLemmas.{names_some, said_grown, same_room}
+use Rattle.step_replay.specs.Lists.{Every}
 use Rattle.step_replay.specs.PlaceLemmas.{other_room, own_room, room_at_investor}
 use Rattle.step_replay.specs.VenueFacts.{Fact, InRoom, of_dealer, of_room}
 use Rattle.day_parts.specs.ActionCases.{if_does, invested_does, numbered_does}

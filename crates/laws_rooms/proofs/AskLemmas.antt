@@ -24,10 +24,11 @@ use Rattle.step_replay.specs.AuditTrail.{AuditTrail, after_step, after_turn, aud
 use Rattle.step_replay.specs.AuditTrail.{pending}
 use Rattle.step_replay.specs.DealerTrail.{rooms_by}
 use Rattle.step_replay.specs.DutyEffects.{duty_effect, message_effect, sweep_effect}
-use Rattle.step_replay.specs.EachLemmas.{Every, every_both, every_weaker}
-use Rattle.step_replay.specs.GrowthLemmas.{In, all_in, in_right}
+use Rattle.step_replay.specs.EachLemmas.{every_both, every_weaker}
+use Rattle.step_replay.specs.GrowthLemmas.{all_in, in_right}
 use Rattle.step_replay.specs.InvestorTrail as investor_trail
 use Rattle.step_replay.specs.InvestorTrail.{InvestorEntry}
+use Rattle.step_replay.specs.Lists.{Every, In}
 use Rattle.step_replay.specs.VenueFacts.{AtInvestor, Fact, InRoom, of_dealer, of_investor}
 use Rattle.step_replay.specs.VenueFacts.{of_room}
 use Rattle.step_replay.specs.declared.steps.Step.{Step}

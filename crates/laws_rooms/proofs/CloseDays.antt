@@ -22,9 +22,10 @@ use Rattle.step_replay.specs.Actions.{Effect, at_market}
 use Rattle.step_replay.specs.AuditTrail.{AuditTrail, after_step, after_turn, audit_trail, is_same_actor}
 use Rattle.step_replay.specs.AuditTrail.{pending, sent_to}
 use Rattle.step_replay.specs.DutyEffects.{duty_effect, message_effect, sweep_effect}
-use Rattle.step_replay.specs.EachLemmas.{Every, every_both, every_weaker}
-use Rattle.step_replay.specs.GrowthLemmas.{In, in_left}
+use Rattle.step_replay.specs.EachLemmas.{every_both, every_weaker}
+use Rattle.step_replay.specs.GrowthLemmas.{in_left}
 use Rattle.step_replay.specs.InvestorTrail as investor_trail
+use Rattle.step_replay.specs.Lists.{Every, In}
 use Rattle.step_replay.specs.VenueFacts.{Fact, of_investor}
 use Rattle.step_replay.specs.declared.steps.Step.{Step}
 use Rattle.step_replay.specs.declared.steps.Step.TheVariants as step

@@ -30,7 +30,8 @@ use Rattle.request_room.specs.Book.{event_facts, expired, may_expire, where_so}
 use Rattle.request_room.specs.RoomFacts.{Ended}
 use Rattle.step_replay.specs.Actions.{nothing, verdict_on}
 use Rattle.step_replay.specs.DutyEffects.{duty_effect, message_effect, sweep_effect}
-use Rattle.step_replay.specs.EachLemmas.{Every, every_weaker}
+use Rattle.step_replay.specs.EachLemmas.{every_weaker}
+use Rattle.step_replay.specs.Lists.{Every}
 use Rattle.step_replay.specs.VenueFacts.{Fact, InRoom, of_room}
 use Rattle.day_parts.specs.KeptItems.{every_all}
 use Rattle.day_parts.specs.LeftDuties.{duty_leaves, message_leaves, sweep_leaves}

@@ -30,8 +30,8 @@ use Rattle.request_room.specs.declared.ends.End.{End}
 use Rattle.step_replay.specs.Actions.{Effect, hit_with, lifting, nothing, verdict_on}
 use Rattle.step_replay.specs.DealerTrail.{rooms_by}
 use Rattle.step_replay.specs.DutyEffects.{duty_effect, message_effect, sweep_effect}
-use Rattle.step_replay.specs.EachLemmas.{Every}
 use Rattle.step_replay.specs.GrowthLemmas.{same_room}
+use Rattle.step_replay.specs.Lists.{Every}
 use Rattle.step_replay.specs.PlaceLemmas.{own_room, room_grown}
 use Rattle.step_replay.specs.VenueFacts.{Fact, InRoom, of_dealer, of_room}
 use Rattle.day_parts.specs.ActionCases.{if_does}

@@ -19,8 +19,9 @@ use Rattle.investor_desk.specs.declared.events.InvestorEvent.{InvestorEvent}
 use Rattle.investor_desk.specs.declared.events.InvestorEvent.TheVariants as at_investor
 use Rattle.step_replay.specs.Actions.{Effect, at_market}
 use Rattle.step_replay.specs.DutyEffects.{duty_effect}
-use Rattle.step_replay.specs.GrowthLemmas.{In, in_left, in_right}
+use Rattle.step_replay.specs.GrowthLemmas.{in_left, in_right}
 use Rattle.step_replay.specs.InvestorTrail as investor_trail
+use Rattle.step_replay.specs.Lists.{In}
 use Rattle.step_replay.specs.VenueFacts.{Fact, of_investor}
 use Rattle.shown_laws.proofs.ShownMarket.{requests_in}
 use Rattle.trade_laws.specs.Trades.{at_investor as market_facts}

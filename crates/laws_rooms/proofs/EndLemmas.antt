@@ -41,11 +41,11 @@ use Rattle.request_room.specs.declared.events.RoomEvent.TheVariants as at_room
 use Rattle.step_replay.specs.Actions.{Effect, answer_to_hit, answered_by, at_market, done_for, hit_with, lifting}
 use Rattle.step_replay.specs.Actions.{nothing, quote_asked, where_known}
 use Rattle.step_replay.specs.DutyEffects.{duty_effect, message_effect, sweep_effect}
-use Rattle.step_replay.specs.EachLemmas.{Every}
 use Rattle.step_replay.specs.GrowthLemmas.{same_room}
 use Rattle.step_replay.specs.InvestorGrowth.{facts_grown}
 use Rattle.step_replay.specs.InvestorTrail as investor_trail
 use Rattle.step_replay.specs.InvestorTrail.{InvestorEntry}
+use Rattle.step_replay.specs.Lists.{Every}
 use Rattle.step_replay.specs.PlaceLemmas.{investor_grown, other_room, own_investor, own_room, room_grown}
 use Rattle.step_replay.specs.VenueFacts.{AtInvestor, Fact, InRoom, of_investor, of_room}
 use Rattle.day_parts.specs.ActionCases.{if_does}

@@ -27,8 +27,8 @@ use Rattle.step_replay.specs.Actions.{Effect, declined_by, nothing, verdict_on}
 use Rattle.step_replay.specs.AuditTrail.{AuditTrail, is_same_actor}
 use Rattle.step_replay.specs.DealerTrail.{rooms_by}
 use Rattle.step_replay.specs.DutyEffects.{duty_effect, message_effect}
-use Rattle.step_replay.specs.EachLemmas.{Every}
 use Rattle.step_replay.specs.GrowthLemmas.{same_room}
+use Rattle.step_replay.specs.Lists.{Every}
 use Rattle.step_replay.specs.PlaceLemmas.{other_room, own_room}
 use Rattle.step_replay.specs.VenueFacts.{Fact, InRoom, of_dealer, of_room}
 use Rattle.day_parts.specs.ActionCases.{numbered_does}

@@ -18,9 +18,10 @@ use Rattle.request_room.specs.RoomFacts.{names, request_of}
 use Rattle.step_replay.specs.AuditTrail.{AuditTrail, audit_trail}
 use Rattle.step_replay.specs.DealerTrail.{rooms_by}
 use Rattle.step_replay.specs.EachLemmas.{Each}
-use Rattle.step_replay.specs.GrowthLemmas.{In, all_in, in_left, in_right, names_some}
+use Rattle.step_replay.specs.GrowthLemmas.{all_in, in_left, in_right, names_some}
 use Rattle.step_replay.specs.InvestorTrail as investor_trail
 use Rattle.step_replay.specs.InvestorTrail.{InvestorEntry}
+use Rattle.step_replay.specs.Lists.{In}
 use Rattle.step_replay.specs.VenueFacts.{AtDealer, AtInvestor, Fact, InRoom, of_dealer, of_investor}
 use Rattle.step_replay.specs.VenueFacts.{of_room}
 use Rattle.step_replay.specs.declared.steps.Step.{Step}

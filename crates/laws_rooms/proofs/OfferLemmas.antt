@@ -38,10 +38,10 @@ use Rattle.step_replay.specs.Actions.{Effect, at_market, done_for, nothing, post
 use Rattle.step_replay.specs.AuditTrail.{AuditTrail, is_same_actor}
 use Rattle.step_replay.specs.DealerTrail.{rooms_by}
 use Rattle.step_replay.specs.DutyEffects.{duty_effect, message_effect, sweep_effect}
-use Rattle.step_replay.specs.EachLemmas.{Every}
 use Rattle.step_replay.specs.GrowthLemmas.{same_room}
 use Rattle.step_replay.specs.InvestorTrail as investor_trail
 use Rattle.step_replay.specs.InvestorTrail.{InvestorEntry}
+use Rattle.step_replay.specs.Lists.{Every}
 use Rattle.step_replay.specs.OwnerLemmas.{owner_among, quote_at}
 use Rattle.step_replay.specs.PlaceLemmas.{other_room, own_investor, own_room}
 use Rattle.step_replay.specs.VenueFacts.{Fact, InRoom, of_dealer, of_investor, of_room}

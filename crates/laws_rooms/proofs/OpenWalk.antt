@@ -45,9 +45,10 @@ use Rattle.step_replay.specs.Actions.{quote_asked, received_by_dealer, received_
 use Rattle.step_replay.specs.Actions.{verdict_on, where_known}
 use Rattle.step_replay.specs.DealerTrail.{entries_of, rooms_by}
 use Rattle.step_replay.specs.DutyEffects.{duty_effect, message_effect, sweep_effect}
-use Rattle.step_replay.specs.EachLemmas.{Every, every_both}
+use Rattle.step_replay.specs.EachLemmas.{every_both}
 use Rattle.step_replay.specs.InvestorTrail as investor_trail
 use Rattle.step_replay.specs.InvestorTrail.{InvestorEntry}
+use Rattle.step_replay.specs.Lists.{Every}
 use Rattle.step_replay.specs.PlaceLemmas.{investor_at_dealer, investor_grown, investor_in_room, other_investor}
 use Rattle.step_replay.specs.PlaceLemmas.{own_investor}
 use Rattle.step_replay.specs.VenueFacts.{AtInvestor, Fact, InRoom, of_dealer, of_investor, of_room}

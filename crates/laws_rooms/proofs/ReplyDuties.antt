@@ -27,7 +27,7 @@ use Rattle.step_replay.specs.Actions.{Effect, answer_to_hit, quote_asked, verdic
 use Rattle.step_replay.specs.AuditTrail.{AuditTrail}
 use Rattle.step_replay.specs.DealerTrail.{rooms_by}
 use Rattle.step_replay.specs.DutyEffects.{duty_effect, message_effect, sweep_effect}
-use Rattle.step_replay.specs.EachLemmas.{Every}
+use Rattle.step_replay.specs.Lists.{Every}
 use Rattle.step_replay.specs.VenueFacts.{Fact, of_dealer, of_room}
 use Rattle.day_parts.specs.KeptItems.{every_all}
 use Rattle.day_parts.specs.LeftDuties.{duty_leaves, message_leaves, sweep_leaves}

@@ -25,8 +25,9 @@ use Rattle.step_replay.specs.AuditTrail.{AuditTrail, after_step, after_turn, aud
 use Rattle.step_replay.specs.AuditTrail.{pending}
 use Rattle.step_replay.specs.DealerTrail.{rooms_by}
 use Rattle.step_replay.specs.DutyEffects.{duty_effect, message_effect, sweep_effect}
-use Rattle.step_replay.specs.EachLemmas.{Every, every_both, every_weaker}
-use Rattle.step_replay.specs.GrowthLemmas.{In, all_in, any_left, any_right, in_right, names_some, said_after}
+use Rattle.step_replay.specs.EachLemmas.{every_both, every_weaker}
+use Rattle.step_replay.specs.GrowthLemmas.{all_in, any_left, any_right, in_right, names_some, said_after}
+use Rattle.step_replay.specs.Lists.{Every, In}
 use Rattle.step_replay.specs.PlaceLemmas.{own_room, room_grown}
 use Rattle.step_replay.specs.VenueFacts.{Fact, InRoom, of_dealer, of_room}
 use Rattle.step_replay.specs.declared.steps.Step.{Step}

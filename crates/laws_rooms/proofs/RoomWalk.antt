@@ -35,9 +35,10 @@ use Rattle.step_replay.specs.Actions.{received_by_dealer, received_by_investor, 
 use Rattle.step_replay.specs.Actions.{verdict_on, where_known}
 use Rattle.step_replay.specs.DealerTrail.{entries_of, rooms_by}
 use Rattle.step_replay.specs.DutyEffects.{duty_effect, message_effect, sweep_effect}
-use Rattle.step_replay.specs.EachLemmas.{Every, every_both}
+use Rattle.step_replay.specs.EachLemmas.{every_both}
 use Rattle.step_replay.specs.GrowthLemmas.{same_room}
 use Rattle.step_replay.specs.InvestorTrail as investor_trail
+use Rattle.step_replay.specs.Lists.{Every}
 use Rattle.step_replay.specs.PlaceLemmas.{other_room, own_room, room_at_dealer, room_at_investor, room_grown}
 use Rattle.step_replay.specs.VenueFacts.{Fact, InRoom, of_dealer, of_investor, of_room}
 use Rattle.day_parts.specs.ActionCases.{by_does, if_does, invested_does, numbered_does, told_does}

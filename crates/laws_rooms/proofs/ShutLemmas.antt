@@ -7,7 +7,7 @@ use Rattle.std.proofs.lemmas.Bool.{cases_Bool, eq-eqb, eqb-true, false≢true}
 use Rattle.investor_desk.specs.InvestorFacts.{Asked, Closed, InvestorFact, StandingRequest, book_of, closes}
 use Rattle.investor_desk.specs.InvestorFacts.{first_said, request_numbered, while_open}
 use Rattle.investor_desk.specs.declared.standing.RequestClose.{RequestClose}
-use Rattle.step_replay.specs.EachLemmas.{Every}
+use Rattle.step_replay.specs.Lists.{Every}
 
 said_more : {A : Type 0} (says : InvestorFact → Option A) (facts more : List InvestorFact)
     → is_some (first_said says facts) ≡ true → is_some (first_said says (facts ++ more)) ≡ true

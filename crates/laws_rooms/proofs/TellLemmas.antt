@@ -21,10 +21,11 @@ use Rattle.investor_desk.specs.declared.events.InvestorEvent.TheVariants as at_i
 use Rattle.investor_desk.specs.declared.standing.RequestClose.{RequestClose}
 use Rattle.step_replay.specs.Actions.{at_market, done_for, nothing, where_known}
 use Rattle.step_replay.specs.DutyEffects.{duty_effect}
-use Rattle.step_replay.specs.GrowthLemmas.{In, in_left, in_right}
+use Rattle.step_replay.specs.GrowthLemmas.{in_left, in_right}
 use Rattle.step_replay.specs.InvestorGrowth.{facts_grown}
 use Rattle.step_replay.specs.InvestorTrail as investor_trail
 use Rattle.step_replay.specs.InvestorTrail.{InvestorEntry}
+use Rattle.step_replay.specs.Lists.{In}
 use Rattle.step_replay.specs.PlaceLemmas.{investor_grown, own_investor}
 use Rattle.step_replay.specs.VenueFacts.{AtInvestor, Fact, of_investor}
 use Rattle.trade_laws.specs.Trades.{at_investor as market_facts}

@@ -5,7 +5,8 @@ use Rattle.market_terms.specs.declared.duties.Duty.{Duty}
 use Rattle.venue_places.specs.declared.actors.Actor.{Actor}
 use Rattle.step_replay.specs.Actions.{Effect}
 use Rattle.step_replay.specs.AuditTrail.{AuditTrail, is_same_actor}
-use Rattle.step_replay.specs.EachLemmas.{Every, every_both}
+use Rattle.step_replay.specs.EachLemmas.{every_both}
+use Rattle.step_replay.specs.Lists.{Every}
 use Rattle.step_replay.specs.QueueLemmas.{one_actor, same_actor}
 use Rattle.venue_laws.proofs.VenueParts.{did_in, duties_by}
 use Rattle.venue_laws.proofs.VenueSteps.{Here, day}

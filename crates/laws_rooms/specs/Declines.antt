@@ -8,8 +8,8 @@ use Rattle.venue_rows.specs.declared.investor_rows.InvestorRow.{InvestorRow}
 use Rattle.investor_desk.specs.InvestorDesk.{market_of}
 use Rattle.investor_desk.specs.InvestorFacts.{Asked}
 use Rattle.investor_desk.specs.declared.standing.AcceptedRequest.{AcceptedRequest}
-use Rattle.step_replay.specs.GrowthLemmas.{In}
 use Rattle.step_replay.specs.InvestorTrail.{sent_by}
+use Rattle.step_replay.specs.Lists.{In}
 use Rattle.step_replay.specs.VenueFacts.{Fact, of_investor}
 use Rattle.trade_laws.specs.Trades.{at_investor}
 use Rattle.laws_rooms.specs.Responses.{Said, said_to}

@@ -10,8 +10,7 @@ use Rattle.investor_desk.specs.declared.standing.AcceptedRequest.{AcceptedReques
 use Rattle.request_room.specs.RoomFacts.{Ended}
 use Rattle.step_replay.specs.AuditTrail.{AuditTrail, after_step, no_steps}
 use Rattle.step_replay.specs.DutyEffects.{sweep_effect}
-use Rattle.step_replay.specs.EachLemmas.{Every}
-use Rattle.step_replay.specs.GrowthLemmas.{In}
+use Rattle.step_replay.specs.Lists.{Every, In}
 use Rattle.step_replay.specs.VenueFacts.{Fact, InRoom}
 use Rattle.step_replay.specs.declared.steps.Step.{Step}
 use Rattle.step_replay.specs.declared.steps.Step.TheVariants as step

@@ -4,7 +4,7 @@ use Rattle.market_terms.specs.declared.rooms.RoomRef.{RoomRef}
 use Rattle.investor_desk.specs.InvestorFacts.{Asked, InvestorFact}
 use Rattle.investor_desk.specs.declared.standing.AcceptedRequest.{AcceptedRequest}
 use Rattle.step_replay.specs.DealerTrail.{DealerEntry, rooms_by}
-use Rattle.step_replay.specs.GrowthLemmas.{In}
+use Rattle.step_replay.specs.Lists.{In}
 
 -- A dealer with this trail was shown the request of a room.
 abbrev pub IsShown : List DealerEntry → RoomRef → Type 0

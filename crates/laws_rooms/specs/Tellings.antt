@@ -9,8 +9,8 @@ use Rattle.investor_desk.specs.declared.standing.AcceptedRequest.{AcceptedReques
 use Rattle.investor_desk.specs.declared.standing.ShownOffer.{ShownOffer}
 use Rattle.request_room.specs.RoomFacts.{RoomFact}
 use Rattle.request_room.specs.declared.quotes.PostedQuote.{PostedQuote}
-use Rattle.step_replay.specs.GrowthLemmas.{In}
 use Rattle.step_replay.specs.InvestorTrail.{AtDesk, InvestorEntry, Sent, facts_of}
+use Rattle.step_replay.specs.Lists.{In}
 use Rattle.step_replay.specs.LiveDays.{live_trail}
 use Rattle.step_replay.specs.declared.steps.Step.{Step}
 use Rattle.trade_laws.specs.LiveDuties.{NoDutyIsLeft}

@@ -6,7 +6,7 @@ use Rattle.venue_rows.specs.declared.dealer_rows.DealerRow.{DealerRow}
 use Rattle.investor_desk.specs.InvestorFacts.{Closed, InvestorFact, Offered}
 use Rattle.investor_desk.specs.declared.standing.RequestClose.{RequestClose}
 use Rattle.request_room.specs.declared.quotes.PostedQuote.{PostedQuote}
-use Rattle.step_replay.specs.GrowthLemmas.{In}
+use Rattle.step_replay.specs.Lists.{In}
 
 -- An investor with these facts was shown this offer on its request, under a number of its own.
 pub record WasShown (facts : List InvestorFact) (request : ℕ) (offer : Offer) : Type 0 where

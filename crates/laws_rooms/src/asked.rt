@@ -4,7 +4,7 @@ ghost use Rattle.investor_desk.specs.InvestorFacts.{Asked};
 ghost use Rattle.investor_desk.specs.declared.standing.AcceptedRequest.{AcceptedRequest};
 ghost use Rattle.laws_rooms.specs.Shown.{IsShownOnce};
 ghost use Rattle.step_replay.specs.AuditTrail as venue;
-ghost use Rattle.step_replay.specs.GrowthLemmas.{In};
+ghost use Rattle.step_replay.specs.Lists.{In};
 ghost use Rattle.step_replay.specs.VenueFacts.{of_dealer};
 ghost use Rattle.step_replay.specs.declared.steps.Step.{Step};
 ghost use Rattle.trade_laws.specs.LiveDuties.{NoDutyIsLeft};

@@ -4,7 +4,7 @@ ghost use Rattle.laws_rooms.specs.Declines.{IsToldSo};
 ghost use Rattle.market_terms.specs.declared.rooms.RoomRef.{RoomRef};
 ghost use Rattle.request_room.specs.RoomFacts.{Noted};
 ghost use Rattle.step_replay.specs.AuditTrail as venue;
-ghost use Rattle.step_replay.specs.GrowthLemmas.{In};
+ghost use Rattle.step_replay.specs.Lists.{In};
 ghost use Rattle.step_replay.specs.VenueFacts.{of_room};
 ghost use Rattle.step_replay.specs.declared.steps.Step.{Step};
 ghost use Rattle.trade_laws.specs.LiveDuties.{NoDutyIsLeft};

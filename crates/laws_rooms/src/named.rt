@@ -5,7 +5,7 @@ ghost use Rattle.investor_desk.specs.declared.standing.AcceptedRequest.{Accepted
 ghost use Rattle.laws_rooms.specs.Shown.{HasAsked, IsShown};
 ghost use Rattle.market_terms.specs.declared.rooms.RoomRef.{RoomRef};
 ghost use Rattle.step_replay.specs.AuditTrail as venue;
-ghost use Rattle.step_replay.specs.GrowthLemmas.{In};
+ghost use Rattle.step_replay.specs.Lists.{In};
 ghost use Rattle.step_replay.specs.VenueFacts.{of_dealer};
 ghost use Rattle.step_replay.specs.declared.steps.Step.{Step};
 ghost use Rattle.trade_laws.specs.Trades.{at_investor, room_of};

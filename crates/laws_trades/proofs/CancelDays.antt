@@ -37,8 +37,9 @@ use Rattle.step_replay.specs.DealerGrowth.{facts_grown, lifted_grown, sent_grown
 use Rattle.step_replay.specs.DealerTrail.{DealerEntry, answer_to_dealer, book_by, entries_of, facts_of}
 use Rattle.step_replay.specs.DealerTrail.{rooms_by, sent_by, was_lifted}
 use Rattle.step_replay.specs.DutyEffects.{duty_effect, message_effect}
-use Rattle.step_replay.specs.EachLemmas.{Every, every_both}
-use Rattle.step_replay.specs.GrowthLemmas.{In, in_left, in_right}
+use Rattle.step_replay.specs.EachLemmas.{every_both}
+use Rattle.step_replay.specs.GrowthLemmas.{in_left, in_right}
+use Rattle.step_replay.specs.Lists.{Every, In}
 use Rattle.step_replay.specs.LiveDays.{live_steps, live_trail, with_turns}
 use Rattle.step_replay.specs.PlaceLemmas.{dealer_grown, dealer_stays, own_trail, trail_at_investor, trail_in_room}
 use Rattle.step_replay.specs.QueueLemmas.{own_pending, own_turned}

@@ -15,7 +15,7 @@ use Rattle.venue_rows.specs.declared.investor_rows.InvestorRow.{InvestorRow}
 use Rattle.note_lines.specs.NoteLines.{trade_name}
 use Rattle.investor_desk.specs.InvestorFacts.{InvestorFact}
 use Rattle.step_replay.specs.AuditTrail.{audit_trail}
-use Rattle.step_replay.specs.GrowthLemmas.{In}
+use Rattle.step_replay.specs.Lists.{In}
 use Rattle.step_replay.specs.VenueFacts.{of_dealer}
 use Rattle.step_replay.specs.declared.steps.Step.{Step}
 use Rattle.trade_laws.specs.TradeNames.{hit_in, hits_of, notices_to}

@@ -26,8 +26,9 @@ use Rattle.step_replay.specs.DealerGrowth.{sent_grown, sent_is}
 use Rattle.step_replay.specs.DealerTrail.{AtDesk, DealerEntry, Lifted, Sent, book_by, entries_of}
 use Rattle.step_replay.specs.DealerTrail.{fact_in, facts_of, message_by, message_in, room_in}
 use Rattle.step_replay.specs.DealerTrail.{rooms_by, sent_by}
-use Rattle.step_replay.specs.EachLemmas.{Each, Every, each_append, each_weaker, every_both}
+use Rattle.step_replay.specs.EachLemmas.{Each, each_append, each_weaker, every_both}
 use Rattle.step_replay.specs.EachLemmas.{every_weaker}
+use Rattle.step_replay.specs.Lists.{Every}
 use Rattle.trade_laws.specs.TradeNames.{is_asked_by, notice_in, notices_to, was_asked_by}
 use Rattle.laws_trades.proofs.NoticedLemmas.{IsWithin, Notes, Says, asks, event_says, found_item}
 use Rattle.laws_trades.proofs.NoticedLemmas.{from_push, get_grown, more_within, none_told, nothing}

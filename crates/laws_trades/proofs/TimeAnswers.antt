@@ -29,10 +29,10 @@ use Rattle.investor_desk.specs.declared.standing.ShownOffer.{ShownOffer}
 use Rattle.investor_desk.specs.declared.verdicts.InvestorVerdict.{InvestorVerdict}
 use Rattle.investor_desk.specs.declared.verdicts.InvestorVerdict.TheVariants as asks
 use Rattle.step_replay.specs.AuditTrail.{audit_trail}
-use Rattle.step_replay.specs.EachLemmas.{Every}
-use Rattle.step_replay.specs.GrowthLemmas.{In, all_in, in_left}
+use Rattle.step_replay.specs.GrowthLemmas.{all_in, in_left}
 use Rattle.step_replay.specs.InvestorTrail as investor_trail
 use Rattle.step_replay.specs.InvestorTrail.{InvestorEntry}
+use Rattle.step_replay.specs.Lists.{Every, In}
 use Rattle.step_replay.specs.VenueFacts.{AtInvestor, Fact, of_investor}
 use Rattle.step_replay.specs.declared.steps.Step.{Step}
 use Rattle.laws_trades.specs.TradeTimes.{IsAnsweredAt, IsAwarded, IsSaidTo, room_at}

@@ -42,10 +42,11 @@ use Rattle.step_replay.specs.Actions.{drop_at, left_by, left_by_drop, received_b
 use Rattle.step_replay.specs.Actions.{settlement_of, told_of, verdict_on, where_known}
 use Rattle.step_replay.specs.DealerTrail as dealer_trail
 use Rattle.step_replay.specs.DealerTrail.{DealerEntry}
-use Rattle.step_replay.specs.EachLemmas.{Every, every_both}
-use Rattle.step_replay.specs.GrowthLemmas.{In, in_right, number_grown}
+use Rattle.step_replay.specs.EachLemmas.{every_both}
+use Rattle.step_replay.specs.GrowthLemmas.{in_right, number_grown}
 use Rattle.step_replay.specs.InvestorTrail as investor_trail
 use Rattle.step_replay.specs.InvestorTrail.{InvestorEntry}
+use Rattle.step_replay.specs.Lists.{Every, In}
 use Rattle.step_replay.specs.PlaceLemmas.{dealer_grown, investor_grown, own_investor}
 use Rattle.step_replay.specs.VenueFacts.{AtDealer, AtInvestor, Fact, of_dealer, of_investor}
 use Rattle.day_parts.specs.ActionCases.{if_does}

@@ -36,10 +36,10 @@ use Rattle.step_replay.specs.Actions.{answer_to_hit, at_market, done_by, done_fo
 use Rattle.step_replay.specs.Actions.{nothing, offer_of, quote_asked, received_by_dealer}
 use Rattle.step_replay.specs.Actions.{received_by_investor, where_known, word_for}
 use Rattle.step_replay.specs.DutyEffects.{duty_effect, message_effect, sweep_effect}
-use Rattle.step_replay.specs.EachLemmas.{Every}
-use Rattle.step_replay.specs.GrowthLemmas.{In, in_right}
+use Rattle.step_replay.specs.GrowthLemmas.{in_right}
 use Rattle.step_replay.specs.InvestorTrail as investor_trail
 use Rattle.step_replay.specs.InvestorTrail.{InvestorEntry}
+use Rattle.step_replay.specs.Lists.{Every, In}
 use Rattle.step_replay.specs.VenueFacts.{Fact, of_investor, of_room}
 use Rattle.day_parts.specs.ActionCases.{by_does, if_does, numbered_does, unless_does}
 use Rattle.laws_trades.specs.TradeTimes.{IsAwarded, room_at}

@@ -20,10 +20,10 @@ use Rattle.request_room.specs.RoomFacts.{Ended, is_awarded_kind}
 use Rattle.request_room.specs.declared.ends.End.{End}
 use Rattle.step_replay.specs.Actions.{Effect, nothing}
 use Rattle.step_replay.specs.DealerTrail as dealer_trail
-use Rattle.step_replay.specs.EachLemmas.{Every}
 use Rattle.step_replay.specs.GrowthLemmas.{in_left, number_grown}
 use Rattle.step_replay.specs.InvestorTrail as investor_trail
 use Rattle.step_replay.specs.InvestorTrail.{InvestorEntry}
+use Rattle.step_replay.specs.Lists.{Every}
 use Rattle.step_replay.specs.PlaceLemmas.{dealer_grown, investor_grown, room_grown}
 use Rattle.step_replay.specs.VenueFacts.{AtDealer, AtInvestor, Fact, InRoom, of_dealer, of_investor}
 use Rattle.step_replay.specs.VenueFacts.{of_room}

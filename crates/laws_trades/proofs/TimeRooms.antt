@@ -22,8 +22,9 @@ use Rattle.request_room.specs.declared.events.RoomEvent.{RoomEvent}
 use Rattle.step_replay.specs.Actions.{QuoteRef, hit_with, in_room, lifting, nothing}
 use Rattle.step_replay.specs.Actions.{quote_with_word}
 use Rattle.step_replay.specs.DealerTrail as dealer_trail
-use Rattle.step_replay.specs.EachLemmas.{Every, every_both}
-use Rattle.step_replay.specs.GrowthLemmas.{In, in_right}
+use Rattle.step_replay.specs.EachLemmas.{every_both}
+use Rattle.step_replay.specs.GrowthLemmas.{in_right}
+use Rattle.step_replay.specs.Lists.{Every, In}
 use Rattle.step_replay.specs.PlaceLemmas.{own_room, room_grown}
 use Rattle.step_replay.specs.VenueFacts.{AtDealer, Fact, InRoom, of_room}
 use Rattle.day_parts.specs.ActionCases.{if_does}

@@ -13,7 +13,7 @@ use Rattle.std.specs.Prelude.{not, nat_le, codes}
 use Rattle.venue_rows.specs.Rows.{Configuration, KeepsLimits, firm_names}
 use Rattle.venue_rows.specs.Texts.{is_among, is_capital_or_digit, is_firm_name, is_name, reserved_names}
 use Rattle.note_lines.specs.NoteLines.{trade_line, trade_name}
-use Rattle.step_replay.specs.EachLemmas.{Every}
+use Rattle.step_replay.specs.Lists.{Every}
 
 -- no dash
 abbrev pub IsPlain : ℕ → Type 0

@@ -60,8 +60,9 @@ use Rattle.step_replay.specs.AuditTrail.{audit_trail, sent_to}
 use Rattle.step_replay.specs.DealerGrowth.{facts_grown, sent_grown}
 use Rattle.step_replay.specs.DealerTrail.{DealerEntry, Lifted, book_by, entries_of, facts_of, fact_in}
 use Rattle.step_replay.specs.DealerTrail.{message_by, message_in, sent_by, was_lifted, was_withdrawn}
-use Rattle.step_replay.specs.EachLemmas.{Every, every_both, every_weaker}
-use Rattle.step_replay.specs.GrowthLemmas.{In, all_in, in_left, in_right}
+use Rattle.step_replay.specs.EachLemmas.{every_both, every_weaker}
+use Rattle.step_replay.specs.GrowthLemmas.{all_in, in_left, in_right}
+use Rattle.step_replay.specs.Lists.{Every, In}
 use Rattle.step_replay.specs.StepLemmas.{kept_by_all}
 use Rattle.step_replay.specs.TrailKept.{IsKept}
 use Rattle.step_replay.specs.VenueFacts.{Fact, of_dealer}

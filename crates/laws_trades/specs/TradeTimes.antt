@@ -21,8 +21,8 @@ use Rattle.request_room.specs.RoomFacts.{Ended, is_awarded_kind}
 use Rattle.request_room.specs.declared.ends.End.{End}
 use Rattle.venue_steps.specs.InvestorSteps.{replies_to}
 use Rattle.step_replay.specs.DealerTrail.{rooms_by}
-use Rattle.step_replay.specs.GrowthLemmas.{In}
 use Rattle.step_replay.specs.InvestorTrail.{InvestorEntry, book_by, entries_of, facts_of}
+use Rattle.step_replay.specs.Lists.{In}
 use Rattle.step_replay.specs.VenueFacts.{Fact, of_dealer, of_investor, of_room}
 
 -- the room of an investor's request

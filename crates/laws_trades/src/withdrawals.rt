@@ -5,7 +5,7 @@ ghost use Rattle.dealer_desk.specs.declared.accepted.AcceptedQuote.{AcceptedQuot
 ghost use Rattle.laws_trades.specs.Withdrawals.{Confirms, IsSaid};
 ghost use Rattle.step_replay.specs.AuditTrail as venue;
 ghost use Rattle.step_replay.specs.DealerTrail.{facts_of, was_lifted};
-ghost use Rattle.step_replay.specs.GrowthLemmas.{In};
+ghost use Rattle.step_replay.specs.Lists.{In};
 ghost use Rattle.step_replay.specs.VenueFacts.{of_dealer};
 ghost use Rattle.step_replay.specs.declared.steps.Step.{Step};
 ghost use Rattle.trade_laws.specs.Trades.{Trade};

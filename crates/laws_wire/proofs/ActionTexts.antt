@@ -47,8 +47,9 @@ use Rattle.step_replay.specs.Actions.{unposted_by, verdict_on, where_known}
 use Rattle.step_replay.specs.DealerTrail as dealer_trail
 use Rattle.step_replay.specs.DealerTrail.{book_by, entries_of, rooms_by}
 use Rattle.step_replay.specs.DutyEffects.{duty_effect, message_effect, sweep_effect}
-use Rattle.step_replay.specs.EachLemmas.{Every, every_both}
+use Rattle.step_replay.specs.EachLemmas.{every_both}
 use Rattle.step_replay.specs.InvestorTrail as investor_trail
+use Rattle.step_replay.specs.Lists.{Every}
 use Rattle.step_replay.specs.VenueFacts.{AtDealer, AtInvestor, Fact, InRoom, of_dealer}
 use Rattle.step_replay.specs.VenueFacts.{of_investor, of_room}
 use Rattle.laws_wire.proofs.DealerTexts as dealer

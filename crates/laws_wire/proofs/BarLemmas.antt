@@ -15,8 +15,8 @@ use Rattle.fix_fields.specs.UtcTimestamp.{IsDate, clock_text, date_text, timesta
 use Rattle.fix_fields.specs.declared.limits.TheConstants.{A_DAY}
 use Rattle.quote_messages.specs.Written.{body_fields, header_fields, msg_type_of, written}
 use Rattle.quote_messages.specs.Written.{written_fields}
-use Rattle.step_replay.specs.EachLemmas.{Every, every_both}
-use Rattle.step_replay.specs.GrowthLemmas.{In}
+use Rattle.step_replay.specs.EachLemmas.{every_both}
+use Rattle.step_replay.specs.Lists.{Every, In}
 use Rattle.laws_wire.specs.Carriable.{has_no_bar}
 use Rattle.laws_wire.proofs.FieldValues.{AreValues, IsGiven, is_fit}
 use Rattle.laws_wire.proofs.MessageFields.{IsSo, body_so, has_reason, header_so, loosened}

@@ -17,7 +17,8 @@ use Rattle.dealer_desk.specs.declared.events.DealerEvent.TheVariants as event
 use Rattle.dealer_desk.specs.declared.notes.DealerNote.{DealerNote}
 use Rattle.step_replay.specs.DealerView.{DealerView, after_due, answer_to, dealer_view}
 use Rattle.step_replay.specs.DealerView.{lifting_counts, no_room, view_after, view_at_start}
-use Rattle.step_replay.specs.EachLemmas.{Every, every_both}
+use Rattle.step_replay.specs.EachLemmas.{every_both}
+use Rattle.step_replay.specs.Lists.{Every}
 use Rattle.step_replay.specs.NoteViews.{dealer_note_view}
 use Rattle.step_replay.specs.declared.dues.Due.{Due}
 use Rattle.step_replay.specs.declared.dues.Due.TheVariants as due

@@ -41,7 +41,8 @@ use Rattle.dealer_desk.specs.declared.standing.StandingRequest.{StandingRequest}
 use Rattle.dealer_desk.specs.declared.standing.Withdrawal.{Withdrawal}
 use Rattle.dealer_desk.specs.declared.verdicts.DealerVerdict.{DealerVerdict}
 use Rattle.dealer_desk.specs.declared.verdicts.DealerVerdict.TheVariants as verdict
-use Rattle.step_replay.specs.EachLemmas.{Every, every_both}
+use Rattle.step_replay.specs.EachLemmas.{every_both}
+use Rattle.step_replay.specs.Lists.{Every}
 use Rattle.laws_wire.proofs.ArrivalTexts.{ArrivalGiven, DealerSaid, ScopeGiven, dealer_came}
 use Rattle.laws_wire.proofs.FieldValues.{IsGiven, MayBeGiven}
 use Rattle.laws_wire.proofs.MessageFields.{AskGiven, IfMoment, MessageGiven, QuoteGiven}

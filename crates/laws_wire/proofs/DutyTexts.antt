@@ -33,7 +33,8 @@ use Rattle.venue_steps.specs.RoomSteps.{where_follows}
 use Rattle.step_replay.specs.Actions.{Effect}
 use Rattle.step_replay.specs.DealerTrail as dealer_trail
 use Rattle.step_replay.specs.DealerTrail.{DealerEntry}
-use Rattle.step_replay.specs.EachLemmas.{Every, every_both}
+use Rattle.step_replay.specs.EachLemmas.{every_both}
+use Rattle.step_replay.specs.Lists.{Every}
 use Rattle.step_replay.specs.VenueFacts.{AtDealer, AtInvestor, Fact, InRoom}
 use Rattle.laws_wire.proofs.DealerTexts as dealer
 use Rattle.laws_wire.proofs.FieldValues.{IsGiven}

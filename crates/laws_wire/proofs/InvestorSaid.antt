@@ -25,7 +25,8 @@ use Rattle.investor_views.specs.InvestorView.{market_seen}
 use Rattle.investor_views.specs.NoteView.{note_view}
 use Rattle.investor_views.specs.declared.dues.InvestorDue.{InvestorDue}
 use Rattle.investor_views.specs.declared.dues.InvestorDue.TheVariants as due
-use Rattle.step_replay.specs.EachLemmas.{Every, every_both}
+use Rattle.step_replay.specs.EachLemmas.{every_both}
+use Rattle.step_replay.specs.Lists.{Every}
 use Rattle.laws_wire.proofs.FieldValues.{IsGiven}
 use Rattle.laws_wire.proofs.InvestorTexts.{EventGiven, FactGiven, MaySend, OfferGiven, event_adds}
 use Rattle.laws_wire.proofs.InvestorTexts.{event_sends}

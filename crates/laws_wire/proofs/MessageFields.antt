@@ -35,7 +35,8 @@ use Rattle.quote_messages.specs.declared.out_messages.Reject.{Reject}
 use Rattle.quote_messages.specs.declared.out_messages.ShownQuote.{ShownQuote}
 use Rattle.quote_messages.specs.declared.reject_reasons.QuoteRejectReason.{QuoteRejectReason}
 use Rattle.quote_messages.specs.declared.reject_reasons.QuoteRejectReason.TheVariants.{TooLate}
-use Rattle.step_replay.specs.EachLemmas.{Every, every_both, every_weaker}
+use Rattle.step_replay.specs.EachLemmas.{every_both, every_weaker}
+use Rattle.step_replay.specs.Lists.{Every}
 use Rattle.laws_wire.proofs.FieldValues.{AreValues, IsGiven, MayBeGiven}
 
 -- What a message is given.

@@ -37,10 +37,11 @@ use Rattle.step_replay.specs.AuditTrail.{pending, sent_to}
 use Rattle.step_replay.specs.DealerTrail.{DealerEntry}
 use Rattle.step_replay.specs.DealerTrail as dealer_trail
 use Rattle.step_replay.specs.DutyEffects.{duty_effect, message_effect, sweep_effect}
-use Rattle.step_replay.specs.EachLemmas.{Every, every_both}
-use Rattle.step_replay.specs.GrowthLemmas.{In, all_in}
+use Rattle.step_replay.specs.EachLemmas.{every_both}
+use Rattle.step_replay.specs.GrowthLemmas.{all_in}
 use Rattle.step_replay.specs.InvestorTrail.{InvestorEntry}
 use Rattle.step_replay.specs.InvestorTrail as investor_trail
+use Rattle.step_replay.specs.Lists.{Every, In}
 use Rattle.step_replay.specs.VenueFacts.{AtDealer, AtInvestor, Fact, InRoom}
 use Rattle.step_replay.specs.VenueFacts.{of_dealer, of_investor, of_room}
 use Rattle.venue_steps.specs.RoomSteps.{hit_word}

@@ -17,7 +17,8 @@ use Rattle.quote_messages.specs.Written.{body_fields, header_fields, msg_type_of
 use Rattle.quote_messages.specs.Written.{written_fields}
 use Rattle.quote_messages.specs.declared.out_messages.Head.{Head}
 use Rattle.quote_messages.specs.declared.out_messages.OutMessage.{OutMessage}
-use Rattle.step_replay.specs.EachLemmas.{Every, every_both, every_weaker}
+use Rattle.step_replay.specs.EachLemmas.{every_both, every_weaker}
+use Rattle.step_replay.specs.Lists.{Every}
 use Rattle.wire_messages.specs.ToFirm.{IsTold, VenueMessage, has_added, referred, timed}
 use Rattle.wire_messages.specs.ToFirm.{time_stands_before, to_firm, told_fields, wire_behind}
 use Rattle.shown_laws.proofs.ReadBack.{lawful_field}

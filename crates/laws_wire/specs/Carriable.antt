@@ -5,7 +5,7 @@ use Rattle.std.specs.List.{list_all}
 use Rattle.fix_fields.specs.Frame.{Field, fields_len}
 use Rattle.fix_fields.specs.declared.limits.TheConstants.{A_DAY}
 use Rattle.laws_wire.specs.VenueMessages.{venue_types}
-use Rattle.step_replay.specs.GrowthLemmas.{In}
+use Rattle.step_replay.specs.Lists.{In}
 use Rattle.step_replay.specs.declared.steps.Step.{Step}
 use Rattle.step_replay.specs.declared.steps.Step.TheVariants as step
 use Rattle.wire_messages.specs.ToFirm.{IsOfVenue, IsTold, VenueMessage, has_added, to_firm}

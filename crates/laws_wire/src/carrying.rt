@@ -13,7 +13,7 @@ ghost use Rattle.session_laws.specs.Days.{Event, without_resets};
 ghost use Rattle.session_laws.specs.Given.{given_bodies, of_venue};
 ghost use Rattle.session_laws.specs.Kept.{all_kept};
 ghost use Rattle.step_replay.specs.AuditTrail as venue;
-ghost use Rattle.step_replay.specs.GrowthLemmas.{In};
+ghost use Rattle.step_replay.specs.Lists.{In};
 ghost use Rattle.step_replay.specs.NoteViews.{dealer_note_view};
 ghost use Rattle.step_replay.specs.declared.steps.Step.{Step};
 ghost use Rattle.venue_rows.specs.Rows.{Configuration, KeepsLimits, dealer_numbered};

@@ -4,7 +4,7 @@ ghost use Rattle.fix_fields.specs.Frame.{Field, frame_of, value_of};
 ghost use Rattle.laws_wire.specs.VenueMessages.{IsWritten, venue_types};
 ghost use Rattle.session_laws.specs.Kept.{is_answer_body};
 ghost use Rattle.step_replay.specs.AuditTrail as venue;
-ghost use Rattle.step_replay.specs.GrowthLemmas.{In};
+ghost use Rattle.step_replay.specs.Lists.{In};
 ghost use Rattle.step_replay.specs.declared.steps.Step.{Step};
 ghost use Rattle.venue_rows.specs.Rows.{Configuration};
 ghost use Rattle.wire_laws.specs.Carried.{IsMade};

@@ -5,7 +5,7 @@ use Rattle.std.proofs.Common.{◌≡◌, ◌⊎◌, inl, inr, refl, sym, ◌∙�
 use Rattle.std.proofs.Common.{◌∷◌, Option, Some, None, is_some, if◌then◌else◌}
 use Rattle.std.proofs.lemmas.Bool.{and_parts}
 use Rattle.std.specs.List.{list_all}
-use Rattle.step_replay.specs.EachLemmas.{Every}
+use Rattle.step_replay.specs.Lists.{Every}
 use Rattle.venue_places.specs.declared.actors.Actor.{Actor}
 use Rattle.recorded_days.specs.Records.{ActionRef, DealerLists, InvestorLists, RecordedDay}
 use Rattle.recorded_days.specs.Records.{RoomLists, action_in}

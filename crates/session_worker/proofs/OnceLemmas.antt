@@ -3,7 +3,7 @@ use Rattle.std.proofs.Common.{◌≡◌, ◌≤◌, refl, ◌∙◌, sym, ap, �
 use Rattle.std.proofs.Common.{◌||◌, cond, List, [], ◌∷◌, ◌++◌, count_by, arith}
 use Rattle.std.proofs.lemmas.List.Sums.{sum_by-cons}
 use Rattle.std.specs.List.{list_any}
-use Rattle.step_replay.specs.EachLemmas.{Every}
+use Rattle.step_replay.specs.Lists.{Every}
 use Rattle.session_worker.specs.DayPromises.{IsOnly}
 
 -- the one item of a list that is of a kind, of which so much is said

@@ -20,7 +20,8 @@ use Rattle.market_terms.specs.declared.rooms.RoomRef.{RoomRef}
 use Rattle.request_room.specs.Book.{room_after}
 use Rattle.request_room.specs.RoomFacts.{names, request_of}
 use Rattle.request_room.specs.declared.requests.RoomRequest.{RoomRequest}
-use Rattle.step_replay.specs.EachLemmas.{Every, every_weaker}
+use Rattle.step_replay.specs.EachLemmas.{every_weaker}
+use Rattle.step_replay.specs.Lists.{Every}
 use Rattle.recorded_days.specs.Records.{DealerLists}
 use Rattle.session_worker.specs.DayChecks.{DayRoom, close_due, is_of}
 use Rattle.session_worker.specs.DayChecks.{is_settled, is_told, notices_told, owes, says}

@@ -4,7 +4,7 @@ use Rattle.std.proofs.Common.{◌≡◌, refl, ◌∙◌, ap, ℕ, Bool, true, f
 use Rattle.std.proofs.Common.{Some, None, if◌then◌else◌}
 use Rattle.std.proofs.lemmas.Slice.Eq.{bytes_eq-Decides}
 use Rattle.std.specs.Option.{option_map}
-use Rattle.step_replay.specs.EachLemmas.{Every}
+use Rattle.step_replay.specs.Lists.{Every}
 use Rattle.venue_rows.specs.Rows.{Configuration}
 use Rattle.recorded_days.specs.Records.{InvestorLists}
 use Rattle.recorded_days.specs.declared.actions.Sweep.{Sweep}

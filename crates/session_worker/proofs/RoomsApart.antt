@@ -5,7 +5,8 @@ use Rattle.std.proofs.lemmas.Bool.{and_parts}
 use Rattle.std.proofs.lemmas.Bool.Decides.{nat_tests}
 use Rattle.market_terms.specs.Rooms.{is_same_room}
 use Rattle.market_terms.specs.declared.rooms.RoomRef.{RoomRef}
-use Rattle.step_replay.specs.EachLemmas.{Every, every_both}
+use Rattle.step_replay.specs.EachLemmas.{every_both}
+use Rattle.step_replay.specs.Lists.{Every}
 use Rattle.session_worker.specs.DayChecks.{DayRoom, is_room}
 use Rattle.session_worker.specs.KeptDays.{names_by, names_from, names_of}
 use Rattle.session_worker.proofs.OnceLemmas.{AreApart}

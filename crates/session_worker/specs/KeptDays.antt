@@ -22,8 +22,8 @@ use Rattle.venue_rows.specs.declared.dealer_rows.DealerRow.{DealerRow}
 use Rattle.venue_rows.specs.declared.investor_rows.InvestorRow.{InvestorRow}
 use Rattle.step_replay.specs.Actions.{dealer_of, first_word}
 use Rattle.recorded_days.specs.DayDues.{day_due_list}
-use Rattle.step_replay.specs.EachLemmas.{Every}
 use Rattle.step_replay.specs.DealerView.{dealer_view}
+use Rattle.step_replay.specs.Lists.{Every}
 use Rattle.recorded_days.specs.Records.{DealerLists, FirmLists, InvestorLists, RecordedDay}
 use Rattle.recorded_days.specs.Records.{RoomLists, dealer_in, firms_in}
 use Rattle.recorded_days.specs.declared.actions.Inbound.{Inbound}

@@ -20,7 +20,7 @@ ghost use Rattle.session_worker.specs.DayPromises.{WasRelayed, WasShown, WasSwep
 ghost use Rattle.session_worker.specs.KeptDays.{KeepsDay, names_of, rooms_of_venue, sent_on};
 ghost use Rattle.session_worker.specs.RelayedQuotes.{first_unrelayed};
 ghost use Rattle.session_worker.specs.ShownRequests.{first_unshown};
-ghost use Rattle.step_replay.specs.EachLemmas.{Every};
+ghost use Rattle.step_replay.specs.Lists.{Every};
 
 use step_replay::dealers_are_sent_their_view;
 

@@ -6,8 +6,8 @@ use Rattle.std.specs.Prelude.{slice_get}
 use Rattle.std.specs.List.{AllZip}
 use Rattle.std.proofs.lemmas.Bool.{cases_Bool}
 use Rattle.std.proofs.lemmas.Option.{same_Some, slice_get_within}
-use Rattle.step_replay.specs.EachLemmas.{Every}
-use Rattle.step_replay.specs.GrowthLemmas.{In, in_right}
+use Rattle.step_replay.specs.GrowthLemmas.{in_right}
+use Rattle.step_replay.specs.Lists.{Every, In}
 use Rattle.step_replay.specs.PlaceLemmas.{get_first}
 
 pub cases_some : {A : Type 0} (o : Option A) → (o ≡ None) ⊎ ((x : A) × (o ≡ Some x))

@@ -22,8 +22,8 @@ use Rattle.step_replay.specs.AuditTrail.{AuditTrail, after_step, after_turn, aud
 use Rattle.step_replay.specs.AuditTrail.{duty_of, is_same_actor, no_steps, pending, with_effect}
 use Rattle.step_replay.specs.DealerTrail as dealer_trail
 use Rattle.step_replay.specs.DutyEffects.{duty_effect, message_effect, sweep_effect}
-use Rattle.step_replay.specs.EachLemmas.{Every}
 use Rattle.step_replay.specs.GrowthLemmas.{all_in}
+use Rattle.step_replay.specs.Lists.{Every}
 use Rattle.step_replay.specs.QueueLemmas.{grown_within, one_actor, other_pending, other_turned}
 use Rattle.step_replay.specs.QueueLemmas.{other_within, own_pending, own_turned, own_within}
 use Rattle.step_replay.specs.QueueLemmas.{same_either}

@@ -31,8 +31,9 @@ use Rattle.std.proofs.lemmas.Slice.Eq.{bytes_eq-Decides}
 use Rattle.venue_rows.specs.Texts.{same_text}
 use Rattle.dealer_desk.specs.DealerFacts.{quote_with_id}
 use Rattle.dealer_desk.specs.declared.standing.StandingQuote.{StandingQuote}
-use Rattle.step_replay.specs.EachLemmas.{Every, every_both}
+use Rattle.step_replay.specs.EachLemmas.{every_both}
 use Rattle.step_replay.specs.GrowthLemmas.{all_in, in_right}
+use Rattle.step_replay.specs.Lists.{Every}
 use Rattle.shown_laws.proofs.OwnNumbers.{answers_quote, quotes, settled_quote, split_quotes}
 
 -- each has another identifier than those behind it

@@ -13,7 +13,7 @@ use Rattle.fix_fields.specs.declared.fault.MomentFault.TheVariants as moment_fau
 use Rattle.quote_messages.specs.SessionLines.{at_tag, occurrence_fault, occurrence_of, text_at}
 use Rattle.quote_messages.specs.SessionLines.{Line, first_fault, optional, required, required_where}
 use Rattle.quote_messages.proofs.GroupLemmas.{or_next-none}
-use Rattle.step_replay.specs.EachLemmas.{Every}
+use Rattle.step_replay.specs.Lists.{Every}
 use Rattle.quote_messages.specs.SessionLines.{tag_fault}
 use Rattle.quote_messages.specs.ValueForms.{AMoment, AQuantity, OneOf, ValueRule}
 use Rattle.quote_messages.specs.ValueForms.{moment_fault, quantity_fault, quantity_of, value_fault}

@@ -36,8 +36,9 @@ use Rattle.step_replay.specs.Actions.{Effect, at_dealer as at_desk, dealer_of}
 use Rattle.step_replay.specs.Actions.{nothing}
 use Rattle.step_replay.specs.DealerTrail.{AtDesk, DealerEntry, Sent, ShownIn, book_by, entries_of}
 use Rattle.step_replay.specs.DealerTrail.{facts_of, message_by, rooms_by, sent_by}
-use Rattle.step_replay.specs.EachLemmas.{Every, every_both}
-use Rattle.step_replay.specs.GrowthLemmas.{In, in_right}
+use Rattle.step_replay.specs.EachLemmas.{every_both}
+use Rattle.step_replay.specs.GrowthLemmas.{in_right}
+use Rattle.step_replay.specs.Lists.{Every, In}
 use Rattle.step_replay.specs.PlaceLemmas.{investor_at_dealer, other_trail, own_trail}
 use Rattle.step_replay.specs.TrailLemmas.{facts_added, rooms_added}
 use Rattle.step_replay.specs.VenueFacts.{AtDealer, Fact, of_dealer, of_investor}

@@ -16,10 +16,10 @@ use Rattle.investor_desk.specs.declared.standing.ShownOffer.{ShownOffer}
 use Rattle.step_replay.specs.AuditTrail.{audit_trail, sent_to}
 use Rattle.step_replay.specs.DealerTrail as dealer_trail
 use Rattle.step_replay.specs.DealerTrail.{DealerEntry}
-use Rattle.step_replay.specs.EachLemmas.{Every}
-use Rattle.step_replay.specs.GrowthLemmas.{In, all_in}
+use Rattle.step_replay.specs.GrowthLemmas.{all_in}
 use Rattle.step_replay.specs.InvestorTrail as investor_trail
 use Rattle.step_replay.specs.InvestorTrail.{InvestorEntry}
+use Rattle.step_replay.specs.Lists.{Every, In}
 use Rattle.step_replay.specs.PlaceLemmas.{behind_dealers}
 use Rattle.step_replay.specs.VenueFacts.{AtDealer, AtInvestor, Fact, InRoom, entry_at_dealer}
 use Rattle.step_replay.specs.VenueFacts.{entry_at_investor, of_dealer, of_investor}

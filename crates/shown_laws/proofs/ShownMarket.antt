@@ -22,10 +22,11 @@ use Rattle.investor_desk.specs.InvestorOutput.{written_from}
 use Rattle.investor_desk.specs.InvestorRules.{InvestorMarket}
 use Rattle.investor_desk.specs.declared.events.InvestorEvent.{InvestorEvent}
 use Rattle.step_replay.specs.Actions.{Effect, at_market}
-use Rattle.step_replay.specs.EachLemmas.{Every, every_both}
-use Rattle.step_replay.specs.GrowthLemmas.{In, in_right}
+use Rattle.step_replay.specs.EachLemmas.{every_both}
+use Rattle.step_replay.specs.GrowthLemmas.{in_right}
 use Rattle.step_replay.specs.InvestorTrail.{AtDesk, InvestorEntry, Sent, book_by, entries_of, fact_in}
 use Rattle.step_replay.specs.InvestorTrail.{facts_of, message_in, sent_by}
+use Rattle.step_replay.specs.Lists.{Every, In}
 use Rattle.step_replay.specs.PlaceLemmas.{everything_of, nothing_of, other_investor, own_investor}
 use Rattle.step_replay.specs.PlaceLemmas.{trail_at_investor}
 use Rattle.step_replay.specs.VenueFacts.{AtInvestor, Fact, of_investor}

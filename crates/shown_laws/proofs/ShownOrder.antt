@@ -16,7 +16,7 @@ use Rattle.dealer_desk.specs.DealerOutput.{is_same_room}
 use Rattle.dealer_desk.specs.declared.accepted.AcceptedQuote.{AcceptedQuote}
 use Rattle.investor_desk.specs.declared.standing.ShownOffer.{ShownOffer}
 use Rattle.step_replay.specs.Actions.{Effect}
-use Rattle.step_replay.specs.EachLemmas.{Every}
+use Rattle.step_replay.specs.Lists.{Every}
 use Rattle.step_replay.specs.VenueFacts.{Fact}
 use Rattle.shown_laws.specs.ShownQuotes.{shown_to}
 use Rattle.shown_laws.specs.ShownRequests.{at_dealer}

@@ -24,9 +24,10 @@ use Rattle.investor_desk.specs.declared.events.InvestorEvent.{InvestorEvent}
 use Rattle.investor_desk.specs.declared.events.InvestorEvent.TheVariants as event
 use Rattle.investor_desk.specs.declared.standing.ShownOffer.{ShownOffer}
 use Rattle.step_replay.specs.Actions.{at_market}
-use Rattle.step_replay.specs.EachLemmas.{Every, every_both}
-use Rattle.step_replay.specs.GrowthLemmas.{In, in_right}
+use Rattle.step_replay.specs.EachLemmas.{every_both}
+use Rattle.step_replay.specs.GrowthLemmas.{in_right}
 use Rattle.step_replay.specs.InvestorTrail.{AtDesk, book_by}
+use Rattle.step_replay.specs.Lists.{Every, In}
 use Rattle.step_replay.specs.VenueFacts.{Fact, of_investor}
 use Rattle.shown_laws.specs.ShownQuotes.{IsShown}
 use Rattle.shown_laws.specs.ShownRequests.{at_investor, room_of}

@@ -33,8 +33,9 @@ use Rattle.dealer_desk.specs.declared.verdicts.DealerVerdict.TheVariants as verd
 use Rattle.step_replay.specs.Actions.{answer_to_drop, dealer_of, drop_at, dropped_by, left_by}
 use Rattle.step_replay.specs.Actions.{left_by_drop, received_by_dealer, settlement_of}
 use Rattle.step_replay.specs.DealerTrail.{AtDesk, DealerEntry, book_by, facts_of, rooms_by}
-use Rattle.step_replay.specs.EachLemmas.{Every, every_both}
-use Rattle.step_replay.specs.GrowthLemmas.{In, in_right}
+use Rattle.step_replay.specs.EachLemmas.{every_both}
+use Rattle.step_replay.specs.GrowthLemmas.{in_right}
+use Rattle.step_replay.specs.Lists.{Every, In}
 use Rattle.step_replay.specs.VenueFacts.{Fact, of_dealer}
 use Rattle.day_parts.specs.ActionCases.{if_does}
 use Rattle.day_parts.specs.KeptItems.{every_all}

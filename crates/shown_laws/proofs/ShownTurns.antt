@@ -38,7 +38,8 @@ use Rattle.investor_desk.specs.declared.standing.ShownOffer.{ShownOffer}
 use Rattle.step_replay.specs.Actions.{Effect, at_dealer as at_desk_of, at_market, left_by}
 use Rattle.step_replay.specs.Actions.{has_word_for, in_room, settlement_of, words_of}
 use Rattle.step_replay.specs.DealerTrail.{DealerEntry, book_by as book_by_dealer, facts_of, rooms_by}
-use Rattle.step_replay.specs.GrowthLemmas.{In, in_right}
+use Rattle.step_replay.specs.GrowthLemmas.{in_right}
+use Rattle.step_replay.specs.Lists.{Every, In}
 use Rattle.venue_steps.specs.Words.{has_word}
 use Rattle.shown_laws.specs.ShownRequests.{at_dealer}
 use Rattle.shown_laws.proofs.AcceptedQuotes.{AcceptOk, verdict_accepts}
@@ -47,7 +48,6 @@ use Rattle.step_replay.specs.InvestorTrail.{book_by}
 use Rattle.step_replay.specs.AuditTrail.{AuditTrail, duty_of}
 use Rattle.step_replay.specs.AuditTrail.{is_same_actor, pending}
 use Rattle.step_replay.specs.DutyEffects.{duty_effect, message_effect}
-use Rattle.step_replay.specs.EachLemmas.{Every}
 use Rattle.step_replay.specs.VenueFacts.{Fact, of_dealer, of_investor, of_room}
 use Rattle.day_parts.specs.ActionCases.{if_does, invested_does, numbered_does}
 use Rattle.shown_laws.specs.ShownQuotes.{shown_to}

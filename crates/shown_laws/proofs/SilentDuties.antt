@@ -10,7 +10,7 @@ use Rattle.venue_places.specs.declared.actors.Actor.TheVariants as actor
 use Rattle.request_room.specs.RoomFacts.{request_of}
 use Rattle.venue_steps.specs.RoomSteps.{dealers_of}
 use Rattle.step_replay.specs.DutyEffects.{duty_effect}
-use Rattle.step_replay.specs.EachLemmas.{Every}
+use Rattle.step_replay.specs.Lists.{Every}
 use Rattle.step_replay.specs.VenueFacts.{Fact, of_room}
 use Rattle.day_parts.specs.KeptItems.{every_all}
 use Rattle.day_parts.specs.LeftDuties.{duty_leaves}

@@ -21,7 +21,7 @@ use Rattle.dealer_desk.specs.declared.accepted.AcceptedQuote.{AcceptedQuote}
 use Rattle.investor_desk.specs.InvestorFacts.{InvestorFact}
 use Rattle.investor_desk.specs.InvestorFacts as at_investor
 use Rattle.investor_desk.specs.declared.standing.AcceptedRequest.{AcceptedRequest}
-use Rattle.step_replay.specs.GrowthLemmas.{In}
+use Rattle.step_replay.specs.Lists.{In}
 
 -- Fields.
 

@@ -14,7 +14,7 @@ use Rattle.investor_desk.specs.InvestorFacts.{offers_of}
 use Rattle.investor_desk.specs.declared.standing.AcceptedRequest.{AcceptedRequest}
 use Rattle.investor_desk.specs.declared.standing.ShownOffer.{ShownOffer}
 use Rattle.step_replay.specs.DealerTrail.{rooms_by}
-use Rattle.step_replay.specs.GrowthLemmas.{In}
+use Rattle.step_replay.specs.Lists.{In}
 use Rattle.step_replay.specs.VenueFacts.{Fact, of_dealer}
 use Rattle.shown_laws.specs.Said.{CameToDealer, SaysQuote, price_at, quantity_at, moment_at}
 use Rattle.shown_laws.specs.ShownRequests.{IsWrittenRequest, at_dealer, at_investor, room_of}

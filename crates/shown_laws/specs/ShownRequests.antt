@@ -10,8 +10,8 @@ use Rattle.dealer_desk.specs.DealerFacts.{DealerFact}
 use Rattle.investor_desk.specs.InvestorFacts.{InvestorFact, Asked}
 use Rattle.investor_desk.specs.declared.standing.AcceptedRequest.{AcceptedRequest}
 use Rattle.step_replay.specs.DealerTrail as dealer_trail
-use Rattle.step_replay.specs.GrowthLemmas.{In}
 use Rattle.step_replay.specs.InvestorTrail as investor_trail
+use Rattle.step_replay.specs.Lists.{In}
 use Rattle.step_replay.specs.VenueFacts.{Fact, of_dealer, of_investor}
 use Rattle.shown_laws.specs.Said.{CameToInvestor, SaysRequest, quantity_at, moment_at}
 

@@ -10,7 +10,7 @@ ghost use Rattle.investor_desk.specs.InvestorFacts.{Asked};
 ghost use Rattle.investor_desk.specs.declared.standing.AcceptedRequest.{AcceptedRequest};
 ghost use Rattle.investor_desk.specs.declared.standing.ShownOffer.{ShownOffer};
 ghost use Rattle.step_replay.specs.AuditTrail as venue;
-ghost use Rattle.step_replay.specs.GrowthLemmas.{In};
+ghost use Rattle.step_replay.specs.Lists.{In};
 ghost use Rattle.step_replay.specs.declared.steps.Step.{Step};
 ghost use Rattle.shown_laws.specs.Said.{SaysWhenRead};
 ghost use Rattle.shown_laws.specs.ShownQuotes.{AreShownInOrder, AreShownInTurn, AreShownOnce};

@@ -18,13 +18,13 @@ use Rattle.venue_places.specs.declared.actors.Actor.TheVariants as actor
 use Rattle.step_replay.specs.Actions.{acting_dealer, at_investor_of, received_by_dealer}
 use Rattle.step_replay.specs.Actions.{where_known, word_for, Effect}
 use Rattle.step_replay.specs.DutyEffects.{duty_effect, message_effect, sweep_effect}
+use Rattle.step_replay.specs.Lists.{Every}
 use Rattle.step_replay.specs.VenueFacts.{Fact, of_dealer, of_investor}
 use Rattle.step_replay.specs.AuditTrail.{AuditTrail, no_steps, pending, with_effect, after_turn}
 use Rattle.step_replay.specs.AuditTrail.{after_step, audit_trail, due_to, sent_to}
 use Rattle.step_replay.specs.DealerTrail as dealer_trail
 use Rattle.step_replay.specs.DealerTrail.{DealerEntry}
 use Rattle.step_replay.specs.DueList.{due_list}
-use Rattle.step_replay.specs.EachLemmas.{Every}
 use Rattle.step_replay.specs.InvestorTrail as investor_trail
 use Rattle.step_replay.specs.declared.steps.Step.{Step}
 use Rattle.step_replay.specs.declared.steps.Step.TheVariants as step

@@ -12,15 +12,9 @@ use Rattle.dealer_desk.specs.DealerOutput.{is_same_room, number_from, number_in}
 use Rattle.request_room.specs.RoomFacts.{RoomFact, first_said, request_of, is_named, names}
 use Rattle.request_room.specs.RoomFacts.{opened_for}
 use Rattle.request_room.specs.declared.requests.RoomRequest.{RoomRequest}
-use Rattle.step_replay.specs.EachLemmas.{Every}
+use Rattle.step_replay.specs.Lists.{Every, In}
 
 -- Lists.
-
--- an item stands in a list
-
-abbrev pub In : {A : Type 0} → A → List A → Type 0
-In x [] = ⊥
-In x (y ∷ ys) = (y ≡ x) ⊎ In x ys
 
 pub in_left : {A : Type 0} (x : A) (xs ys : List A) → In x xs → In x (xs ++ ys)
 in_left x [] ys is = absurd is

@@ -19,6 +19,7 @@ pub mod InvestorGrowth
 pub mod InvestorTrail
 pub mod IsolationLemmas
 pub mod Liftings
+pub mod Lists
 pub mod LiveDays
 pub mod LiveStanding
 pub mod Matching

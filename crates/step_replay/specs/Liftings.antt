@@ -11,7 +11,7 @@ use Rattle.dealer_desk.specs.declared.events.DealerEvent.{DealerEvent}
 use Rattle.dealer_desk.specs.declared.events.DealerEvent.TheVariants as at_desk
 use Rattle.venue_steps.specs.RoomSteps.{is_award}
 use Rattle.step_replay.specs.Actions.{QuoteRef, quote_with_word}
-use Rattle.step_replay.specs.EachLemmas.{Every}
+use Rattle.step_replay.specs.Lists.{Every}
 use Rattle.step_replay.specs.declared.dues.Due.{Due}
 use Rattle.step_replay.specs.declared.dues.Due.TheVariants as due
 use Rattle.step_replay.specs.declared.floor.DealerPlace.{DealerPlace}

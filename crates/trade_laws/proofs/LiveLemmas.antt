@@ -12,7 +12,8 @@ use Rattle.venue_places.specs.declared.actors.Actor.TheVariants as actor
 use Rattle.step_replay.specs.AuditTrail.{AuditTrail, after_step, after_turn, audit_trail}
 use Rattle.step_replay.specs.AuditTrail.{is_same_actor, no_steps, pending}
 use Rattle.step_replay.specs.DutyEffects.{duty_effect, message_effect, sweep_effect}
-use Rattle.step_replay.specs.EachLemmas.{Every, every_both}
+use Rattle.step_replay.specs.EachLemmas.{every_both}
+use Rattle.step_replay.specs.Lists.{Every}
 use Rattle.step_replay.specs.LiveDays.{actor_of, live_steps, live_trail, with_turns}
 use Rattle.step_replay.specs.QueueLemmas.{one_actor, other_pending, other_turned, same_either}
 use Rattle.step_replay.specs.VenueRooms.{sweeps_at}

@@ -8,7 +8,7 @@ use Rattle.quote_messages.specs.Written.{price_tag, quote_name, request_name}
 use Rattle.venue_rows.specs.Rows.{Configuration}
 use Rattle.venue_rows.specs.Texts.{same_text}
 use Rattle.step_replay.specs.AuditTrail.{AuditTrail, sent_to}
-use Rattle.step_replay.specs.GrowthLemmas.{In}
+use Rattle.step_replay.specs.Lists.{In}
 use Rattle.trade_laws.specs.Trades.{Trade}
 
 -- Which messages are of a trade.

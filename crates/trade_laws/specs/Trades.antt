@@ -17,8 +17,8 @@ use Rattle.investor_desk.specs.declared.standing.AcceptedRequest.{AcceptedReques
 use Rattle.investor_desk.specs.declared.standing.RequestClose.TheVariants.{Awarded}
 use Rattle.investor_desk.specs.declared.standing.ShownOffer.{ShownOffer}
 use Rattle.step_replay.specs.DealerTrail.{DealerEntry, AtDesk, facts_of, rooms_by, sent_by, was_lifted}
-use Rattle.step_replay.specs.GrowthLemmas.{In}
 use Rattle.step_replay.specs.InvestorTrail as investor_trail
+use Rattle.step_replay.specs.Lists.{In}
 use Rattle.step_replay.specs.VenueFacts.{Fact, of_dealer, of_investor}
 use Rattle.venue_laws.specs.Notices.{notices_of, next_sent}
 

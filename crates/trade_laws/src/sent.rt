@@ -6,7 +6,7 @@ ghost use Rattle.venue_rows.specs.Rows.{Configuration, KeepsLimits, dealer_numbe
 ghost use Rattle.venue_rows.specs.declared.dealer_rows.DealerRow.{DealerRow};
 ghost use Rattle.venue_rows.specs.declared.investor_rows.InvestorRow.{InvestorRow};
 ghost use Rattle.step_replay.specs.AuditTrail.{audit_trail, sent_to};
-ghost use Rattle.step_replay.specs.GrowthLemmas.{In};
+ghost use Rattle.step_replay.specs.Lists.{In};
 ghost use Rattle.step_replay.specs.declared.steps.Step.{Step};
 ghost use Rattle.trade_laws.specs.LiveDuties.{NoDutyIsLeft};
 ghost use Rattle.trade_laws.specs.SentTrades.{AnswerIsOfTrade, NoticeIsOfTrade, is_answer, is_notice};

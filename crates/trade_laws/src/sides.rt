@@ -7,7 +7,7 @@ ghost use Rattle.venue_rows.specs.declared.dealer_rows.DealerRow.{DealerRow};
 ghost use Rattle.dealer_desk.specs.DealerFacts.{Told};
 ghost use Rattle.step_replay.specs.AuditTrail.{audit_trail};
 ghost use Rattle.step_replay.specs.DealerTrail.{facts_of};
-ghost use Rattle.step_replay.specs.GrowthLemmas.{In};
+ghost use Rattle.step_replay.specs.Lists.{In};
 ghost use Rattle.step_replay.specs.VenueFacts.{of_dealer};
 ghost use Rattle.step_replay.specs.declared.steps.Step.{Step};
 ghost use Rattle.trade_laws.specs.LiveDuties.{NoDutyIsLeft};

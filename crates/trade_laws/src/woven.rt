@@ -6,7 +6,7 @@ ghost use Rattle.venue_rows.specs.Rows.{Configuration, KeepsLimits, dealer_numbe
 ghost use Rattle.venue_rows.specs.declared.dealer_rows.DealerRow.{DealerRow};
 ghost use Rattle.venue_rows.specs.declared.investor_rows.InvestorRow.{InvestorRow};
 ghost use Rattle.step_replay.specs.AuditTrail.{audit_trail};
-ghost use Rattle.step_replay.specs.GrowthLemmas.{In};
+ghost use Rattle.step_replay.specs.Lists.{In};
 ghost use Rattle.step_replay.specs.declared.steps.Step.{Step};
 ghost use Rattle.recorded_days.specs.Records.{RecordedDay};
 ghost use Rattle.day_weaving.specs.Weaving.{SendAsRecorded, sent_by_record};

@@ -45,9 +45,10 @@ pub use Rattle.step_replay.specs.DealerTrail.{book_by, facts_of, message_by, roo
 pub use Rattle.step_replay.specs.DealerTrail.{was_withdrawn, was_lifted, Lifted, lifts}
 unfoldable pub use Rattle.step_replay.specs.DealerTrail.{entries_of}
 pub use Rattle.step_replay.specs.DueList.{due_by_fact, due_list}
-pub use Rattle.step_replay.specs.EachLemmas.{Each, Every, Stays, each_append, every_both}
+pub use Rattle.step_replay.specs.EachLemmas.{Each, Stays, each_append, every_both}
 pub use Rattle.step_replay.specs.EachLemmas.{every_weaker, each_of}
 pub use Rattle.step_replay.specs.IsolationLemmas.{seen_is_kept}
+pub use Rattle.step_replay.specs.Lists.{Every, In}
 pub use Rattle.step_replay.specs.SeenLemmas.{Seen, start_seen}
 pub use Rattle.step_replay.specs.StepLemmas.{kept_by_all}
 pub use Rattle.step_replay.specs.TrailKept.{IsKept}
@@ -98,7 +99,7 @@ pub use Rattle.investor_desk.specs.InvestorOutput.{own_facts}
 pub use Rattle.investor_desk.specs.declared.standing.AcceptedRequest.{AcceptedRequest}
 pub use Rattle.investor_desk.specs.declared.standing.ShownOffer.{ShownOffer}
 pub use Rattle.investor_desk.specs.declared.verdicts.InvestorVerdict.{InvestorVerdict}
-pub use Rattle.step_replay.specs.GrowthLemmas.{any_left, In, same_room, all_in, in_right}
+pub use Rattle.step_replay.specs.GrowthLemmas.{any_left, same_room, all_in, in_right}
 pub use Rattle.step_replay.specs.GrowthLemmas.{said_after, any_right, AreNumbered, in_left}
 pub use Rattle.dealer_desk.specs.declared.accepted.AcceptedQuote.{AcceptedQuote}
 pub use Rattle.dealer_desk.specs.declared.standing.StandingQuote.{StandingQuote}

@@ -4,7 +4,7 @@ use Rattle.investor_views.specs.InvestorView.{investor_view, seen_by}
 use Rattle.investor_views.specs.NoteView.{note_view}
 use Rattle.step_replay.specs.AuditTrail.{audit_trail, due_to}
 use Rattle.step_replay.specs.DealerView.{dealer_view}
-use Rattle.step_replay.specs.GrowthLemmas.{In}
+use Rattle.step_replay.specs.Lists.{In}
 use Rattle.step_replay.specs.NoteViews.{dealer_note_view}
 use Rattle.laws_wire.proofs.BarLemmas.{InDay, all_free}
 use Rattle.laws_wire.proofs.CarriedBack.{day_moments}

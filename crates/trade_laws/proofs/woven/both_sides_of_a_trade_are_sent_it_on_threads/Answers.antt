@@ -1,5 +1,5 @@
 use Rattle.std.proofs.Common.{List, ℕ, subst}
-use Rattle.step_replay.specs.GrowthLemmas.{In}
+use Rattle.step_replay.specs.Lists.{In}
 use Rattle.trade_laws.proofs.WovenLemmas.{recorded_dealer, recorded_investor}
 use Rattle.trade_laws.proofs.woven.both_sides_of_a_trade_are_sent_it_on_threads.Goals as goal
 
