@@ -4,7 +4,7 @@
     python3 -m tests.edits.by_test [CRATE..]    tries those of these crates, or all of them
 
 Such a body names its test, and what that found when it was tried. This puts each in its place on a copy of
-what is committed, and builds and runs the tests of `venue_tests` without a proof (`rt try`): the named test
+what is committed, and builds and runs the tests of `day_tests` without a proof (`rt try`): the named test
 has to fail. A first run without any wrong body has to pass.
 """
 
@@ -39,7 +39,7 @@ def failed(tree: Path) -> set[str] | None:
     """The names of the tests that fail, or None where they are not even built."""
     run = subprocess.run(
         ["rt", "try", "--test"],
-        cwd=tree / "crates" / "venue_tests",
+        cwd=tree / "crates" / "day_tests",
         capture_output=True,
         text=True,
         timeout=SECONDS,

@@ -6,7 +6,7 @@
 
     [FUNCTION-what]
     gate                     only in one that each landing tries
-    test: NAME               only in one that a test finds: the test of `venue_tests` that fails,
+    test: NAME               only in one that a test finds: the test of `day_tests` that fails,
     finds: WHAT              and how
     file: src/lib.rt         and then pairs, as an edit of the kit has them: each old text is one
     old: TEXT                line, and stands once in that file

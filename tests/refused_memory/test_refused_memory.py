@@ -15,7 +15,6 @@ from tests.harness.options import ROOT, SECOND
 HERE = Path(__file__).resolve().parent
 EXAMPLES = ROOT / "examples"
 SHIM = "cc -std=gnu11 -O2 -Wall -Wextra -shared -fPIC -o {out} {sources}"
-TESTS = ROOT / "crates" / "venue_tests" / "out" / "venue_tests_tests"
 LIMIT = 600  # seconds of one run
 
 
@@ -185,27 +184,22 @@ GROUPS: list[Callable[[], list[Case]]] = [
 ]
 HELP = ("--help", "help replay", "due --help", "--version")
 IN_TESTS = [
-    *(
-        "memory::" + name
-        for name in (
-            "frames::a_refused_configuration_is_read_again",
-            "frames::a_refused_frame_is_written_again",
-            "dealers::a_refused_call_leaves_the_desk",
-            "dealers::a_refused_drop_leaves_the_desk",
-            "investors::a_refused_call_leaves_the_desk",
-            "rooms::a_refused_call_leaves_the_room",
-            "rooms::a_hundred_posts_are_refused_in_turn",
-            "steps::a_refused_step_leaves_its_place",
-            "streams::a_refused_piece_is_fed_again",
-            "streams::a_refused_piece_with_a_fault_is_fed_again",
-            "texts::a_refused_message_is_written_again",
-            "texts::a_refused_blotter_is_written_again",
-            "texts::refused_steps_are_read_again",
-            "words::refused_memory_is_asked_for_again",
-        )
-    ),
+    ("memory_tests", "frames::a_refused_configuration_is_read_again"),
+    ("memory_tests", "frames::a_refused_frame_is_written_again"),
+    ("memory_tests", "dealers::a_refused_call_leaves_the_desk"),
+    ("memory_tests", "dealers::a_refused_drop_leaves_the_desk"),
+    ("memory_tests", "investors::a_refused_call_leaves_the_desk"),
+    ("memory_tests", "rooms::a_refused_call_leaves_the_room"),
+    ("memory_tests", "rooms::a_hundred_posts_are_refused_in_turn"),
+    ("memory_tests", "steps::a_refused_step_leaves_its_place"),
+    ("memory_tests", "streams::a_refused_piece_is_fed_again"),
+    ("memory_tests", "streams::a_refused_piece_with_a_fault_is_fed_again"),
+    ("memory_tests", "texts::a_refused_message_is_written_again"),
+    ("memory_tests", "texts::a_refused_blotter_is_written_again"),
+    ("memory_tests", "texts::refused_steps_are_read_again"),
+    ("memory_tests", "words::refused_memory_is_asked_for_again"),
     # The sessions of a day and its clock have no answer but that they ended, which no clause can hold against what they did.
-    "days::actors::whoever_is_refused_memory_says_so",
+    ("day_tests", "actors::whoever_is_refused_memory_says_so"),
 ]
 
 
@@ -295,12 +289,13 @@ def test_a_refused_call_of_help(program: str, refuse: Path, place: Path, words: 
     )
 
 
-@pytest.mark.parametrize("name", IN_TESTS)
-def test_a_refused_call_in_a_test(program: str, refuse: Path, place: Path, name: str) -> None:
+@pytest.mark.parametrize(("crate", "name"), IN_TESTS)
+def test_a_refused_call_in_a_test(refuse: Path, place: Path, crate: str, name: str) -> None:
     """A test of the crates that looks at what a refused call left, and makes it again: it passes whatever is refused."""
-    if not TESTS.exists():
-        pytest.skip("there are no built tests, which `rt test` in crates/venue_tests builds")
-    refused = Refused(refuse, [str(TESTS), name], place)
+    tests = ROOT / "crates" / crate / "out" / ("%s_tests" % crate)
+    if not tests.exists():
+        pytest.skip("there are no built tests, which `rt test` in crates/%s builds" % crate)
+    refused = Refused(refuse, [str(tests), name], place)
     ended, calls = refused.counted(b"")
     assert ended.status == 0 and calls > 0, ended.err
     for call in range(1, calls + 1):

@@ -1,4 +1,4 @@
-use Rattle.venue_tests.proofs.days.actors.all_work.Given as goal
+use Rattle.day_tests.proofs.actors.all_work.Given as goal
 
 -- the board and the configuration of this day
 abbrev pub ghosts-each_works : goal.ghosts-each_works

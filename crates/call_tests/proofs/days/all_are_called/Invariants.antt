@@ -1,4 +1,4 @@
-use Rattle.venue_tests.proofs.calls.days.all_are_called.Given as goal
+use Rattle.call_tests.proofs.days.all_are_called.Given as goal
 
 -- the board and the configuration of these calls
 abbrev pub ghosts-each_is_called : goal.ghosts-each_is_called
