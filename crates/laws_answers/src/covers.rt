@@ -17,8 +17,9 @@ use request_room::the_cover_is_the_best_other_quote;
 /// None of these quotes is better for the investor, and each that was posted earlier is worse. If
 /// no other dealer's quote stood there, nobody is the cover.
 ///
-/// It ends at: the notices. (`venue_laws::each_named_dealer_is_told_once` says that each dealer
-/// is told once how the room ended for it, which for the cover is 694=4.)
+/// It ends at: whether the cover could still be hit: its validity may have ended; the notices.
+/// (`venue_laws::each_named_dealer_is_told_once` says that each dealer is told once how the room
+/// ended for it, which for the cover is 694=4.)
 pub fn an_award_names_the_best_cover()
     ensures { (config : Configuration) (steps : List Step) (room : RoomRef)
         (before after : List RoomFact) (award : End) (moment : ℕ)

@@ -9,9 +9,11 @@ ghost use Rattle.step_replay.specs.declared.steps.Step.TheVariants as step;
 ghost use Rattle.laws_answers.specs.Overdue.{is_overdue};
 
 /// After a sweep of a room of the venue, that room is not open with a deadline at or before the
-/// sweep's moment (`room`). After a `clock` line no room is (`clock`; `specs/Overdue`).
+/// sweep's moment (`room`). After sweeps of all rooms, one behind the other, no room is (`clock`;
+/// `specs/Overdue`).
 ///
-/// It ends at: a room still opening, which no sweep ends.
+/// It ends at: a room still opening, which no sweep ends; a `clock` line of `live`, which does work
+/// between its sweeps.
 pub fn a_sweep_leaves_nothing_overdue()
     ensures room { (config : Configuration) (steps : List Step) (room : RoomRef) (moment : ℕ)
         → has_room config room.investor room.n ≡ true

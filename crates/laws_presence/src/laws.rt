@@ -11,7 +11,7 @@ use dealer_desk::{limits_are_kept, what_is_asked_is_of_the_day};
 use fix_fields::frame_of_is_the_reading;
 
 /// If two days of one venue differ only in what other dealers send, in when the venue does its work
-/// for them, and in which quotes hits name, and the same requests are awarded to the same dealers, a
+/// for them, and in which quotes hits name, and the same hits award requests to the same dealers, a
 /// dealer's due lists are the same, except that a notice may say cover on one day and done away on
 /// the other.
 ///
@@ -32,7 +32,7 @@ pub fn presence_is_not_told()
 }
 
 /// If two live days of one venue differ only in what other dealers send and in which quotes hits
-/// name, and the same requests are awarded to the same dealers, a dealer's due lists are the same,
+/// name, and the same hits award requests to the same dealers, a dealer's due lists are the same,
 /// except that a notice may say cover on one day and done away on the other.
 ///
 /// On a live day all turns of a step's actor follow the step. So a message may leave a hit on one

@@ -20,7 +20,9 @@ ghost use Rattle.laws_recovery.specs.Times.{HasTime, is_again, later_of};
 ghost use Rattle.laws_recovery.specs.Used.{AreUsed, IsAbove};
 
 /// With more notes, and more that the venue gave, a start goes on from where fewer end. So a
-/// follower that reads batch by batch has what a start has.
+/// follower that reads the notes batch by batch has what a start has of them.
+///
+/// It ends at: the firm's entries, which a start counts last.
 pub fn a_start_is_a_fold()
     ensures { (p q : Point) (notes later : List Sealed) (more : List Message)
         → reads_all (Some p) notes ≡ Some q

@@ -18,7 +18,7 @@ use dealer_desk::{limits_are_kept, what_is_asked_is_of_the_day};
 /// Its room stands at one place in the list of rooms that this dealer was shown (`specs/Shown`).
 ///
 /// It ends at: days on which work is left; that a QuoteRequest (35=R) is sent each time a request
-/// is shown: a definition says so (`DealerOutput`), and no law. (By
+/// is shown, and its 131: a definition says so (`DealerOutput`), and no law. (By
 /// `shown_laws::requests_are_shown_as_written` these are the dealers that the investor wrote in
 /// 448.)
 pub fn each_accepted_request_is_shown()

@@ -17,8 +17,9 @@ use dealer_desk::{limits_are_kept, what_is_asked_is_of_the_day};
 /// 693, the 52 and the k of 117=Qk that stand in the duty, as the desk read them
 /// (`specs/Responses`).
 ///
-/// It ends at: days on which work is left; which fields the answers have; whether an answer is an
-/// award or a refusal.
+/// It ends at: days on which work is left; which fields the answers have; which quote a message
+/// names, and which room: the desk's definition says it; whether an answer is an award or a
+/// refusal.
 pub fn each_response_is_answered()
     ensures { (config : Configuration) (steps : List Step) (investor : ℕ) (row : InvestorRow)
         → investor_numbered config investor ≡ Some row

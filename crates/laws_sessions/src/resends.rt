@@ -17,14 +17,15 @@ ghost use Rattle.laws_sessions.specs.Fed.{IsDue, IsFed, MayResend, times_left, w
 
 /// A resend comes to its end, if nothing else comes.
 ///
-/// A ResendRequest for numbers that have left makes the session want each of them again (`asked`).
-/// If its connection has settled and holds no Reject back, it is handed what it wants, and nothing
-/// else comes, it wants no number after as many turns as numbers are left (`ends`). Each kept
-/// message that was asked for (except an answer to a TestRequest), and each that had not left, has
-/// then left once (`leaves`). The premises: the session's numbers are not used up, and its resend
-/// has not gone past what has left.
+/// Where the session takes a ResendRequest for numbers that have left, it wants each of them again
+/// (`asked`). If its connection has settled and holds no Reject back, it is handed what it wants,
+/// and nothing else comes, it wants no number after as many turns as numbers are left (`ends`).
+/// Each kept message that was asked for (except an answer to a TestRequest), and each that had not
+/// left, has then left once (`leaves`). The premises: the session's numbers are not used up, and
+/// its resend has not gone past what has left.
 ///
-/// It ends at: a connection that has not settled; whatever else comes meanwhile.
+/// It ends at: which bytes are taken as a ResendRequest (the session's definition says it); a
+/// connection that has not settled; whatever else comes meanwhile.
 pub fn a_resend_comes_to_its_end()
     ensures asked { (a : Live) (now : ℕ) (m : Origin) (first last : Reading) (low high : ℕ)
         → asked_of (highest_left a.line) first last ≡ asked.Numbers low high

@@ -22,8 +22,8 @@ use trade_laws::no_duty_is_left_on_a_live_day;
 /// Each has the quote's 117, the moment of the message, and 297=17, or 297=5 if the quote was
 /// lifted (`specs/Cancels`).
 ///
-/// It ends at: days whose steps do not come one by one, or leave a duty; which fields the reports
-/// have.
+/// It ends at: which lines cancel all (the desk's verdict `DropsFollow` says it); days whose steps
+/// do not come one by one, or leave a duty; which fields the reports have.
 pub fn a_cancel_of_all_is_answered()
     ensures { (config : Configuration) (steps : List Step) (dealer moment last : ℕ)
         (row : DealerRow) (bytes : List ℕ) → dealer_numbered config dealer ≡ Some row

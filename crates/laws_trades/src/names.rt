@@ -17,7 +17,8 @@ use trade_laws::{a_trade_is_named_on_both_sides, both_sides_of_a_trade_agree};
 /// Each line stands behind the message that tells its side of the trade (`specs/TradeLines`). The
 /// premise: the configuration keeps its limits.
 ///
-/// It ends at: days on which a duty is left; TradeID (1003), which is tested to be that name.
+/// It ends at: days on which a duty is left; that no other `trade` line is printed; TradeID (1003),
+/// which is tested to be that name.
 pub fn a_trade_is_printed_under_one_name()
     ensures both { (config : Configuration) (steps : List Step) (buyer : InvestorRow)
         → KeepsLimits config → NoDutyIsLeft (venue.audit_trail config steps)

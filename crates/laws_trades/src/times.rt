@@ -27,8 +27,9 @@ use laws_answers::an_award_is_in_time;
 /// request was awarded (`dealers`), and an investor's answer 297=0 to a hit that of the room of the
 /// request which the investor asked under the answer's 131 (`investors`; `specs/TradeTimes`).
 ///
-/// It ends at: which fields the messages have. (`laws_rooms::each_response_is_answered` says, by
-/// 693, 52 and 117, which hit an answer belongs to.)
+/// It ends at: which fields the messages have; which quote a hit names by its 117: the desk's
+/// definition says it. (`laws_rooms::each_response_is_answered` says, by 693, 52 and 117, which hit
+/// an answer belongs to.)
 pub fn a_trade_has_a_time()
     ensures hit { (config : Configuration) (steps : List Step) (room : RoomRef) (moment : ℕ)
         → (is : IsAwarded (venue.audit_trail config steps).facts room moment)

@@ -164,10 +164,12 @@ pub fn a_session_is_bounded()
         → length bytes ≤ 4096 }
 {}
 
-/// A session made of what was kept goes on as the first one would have, once its connections are
-/// gone (`one`, `two`, `waits`, `from_then_on`), and a resend gives what is kept (`resent`).
+/// A session that is made of the day of another goes on as that one would have, once its
+/// connections are gone (`one`, `two`, `waits`, `from_then_on`), and a resend gives what is kept
+/// (`resent`).
 ///
-/// It ends at: what is handed back, which is the gateway's.
+/// It ends at: what is handed back, which is the gateway's; that a start has the whole day, of
+/// which `expected` and `had` may be lower (`laws_recovery::recovered_is_the_session`).
 pub fn a_restart_changes_nothing()
     ensures one { (s : Session) (connection : ℕ)
         → has s.phase connection ≡ true

@@ -81,8 +81,8 @@ pub fn quotes_are_shown_once()
 /// a dealer is shown needs a configuration that keeps its limits, since a dealer whose name has an
 /// SOH could read anything after it.
 ///
-/// It ends at: [made-up lists](docs/MARKET.md#a-dealers-day-alone); bytes that are no frame; that
-/// there is a QuoteRequest for each request that a dealer was shown.
+/// It ends at: [made-up lists](docs/MARKET.md#a-dealers-day-alone); bytes that are no frame; the
+/// 131 of a QuoteRequest; that there is a QuoteRequest for each request that a dealer was shown.
 pub fn what_is_shown_was_quoted()
     ensures investors { (config : Configuration) (steps : List Step) (investor : ℕ)
         (row : InvestorRow) (message : List ℕ)

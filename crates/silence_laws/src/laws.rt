@@ -13,8 +13,9 @@ ghost use Rattle.silence_laws.specs.Silence.{AreOneBesides, brings_hit, has_hit}
 ///
 /// The messages of the other dealers may be any, and any number.
 ///
-/// It ends at: the first hit of a day, by any investor on any request. Beyond it `price_law`
-/// covers prices, and `laws_presence::presence_is_not_told` whether others quoted.
+/// It ends at: the first hit of a day, by any investor on any request; what an investor does about
+/// what it is shown, such as a pass or a new request. Beyond the hit `price_law` covers prices, and
+/// `laws_presence::presence_is_not_told` whether others quoted.
 pub fn dealers_are_silent_to_each_other()
     ensures due { (config : Configuration) (steps others : List Step) (dealer : ℕ)
         (row : DealerRow) → dealer_numbered config dealer ≡ Some row

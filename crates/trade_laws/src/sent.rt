@@ -17,12 +17,13 @@ use dealer_desk::{limits_are_kept, what_is_asked_is_of_the_day};
 /// are sent it.
 ///
 /// A QuoteStatusReport (35=AI) with a QuoteRespID (693) and 297=0 is of a trade, and its 117 is the
-/// Qk of that; it bears no bond, quantity or price (`answers`). A QuoteResponse (35=AJ) with 694=1
-/// is of one, field by field (`notices`). The other side was sent its message, which has no other
-/// reading. The premises: the configuration keeps its limits, and the day is a date.
+/// Qk of that (`answers`). A QuoteResponse (35=AJ) with 694=1 is of one, field by field
+/// (`notices`). The other side was sent its message, which has no other reading. The premises: the
+/// configuration keeps its limits, and the day is a date.
 ///
 /// It ends at: days on which a duty is left; bytes that are no frame (of at most 4,096): the type
-/// `SentMessage` says that each is one.
+/// `SentMessage` says that each is one; the other fields of an answer, such as 131, and that it
+/// bears no bond, quantity or price.
 pub fn both_sides_of_a_trade_are_sent_it()
     ensures answers { (config : Configuration) (steps : List Step) (investor : ℕ)
         (buyer : InvestorRow) (message : List ℕ) → KeepsLimits config → IsDate config.date

@@ -24,7 +24,8 @@ use dealer_desk::{limits_are_kept, what_is_asked_is_of_the_day};
 /// quotes only this quote's is lifted.
 ///
 /// It ends at: days on which work is left: on those the dealer may not have been sent its notice
-/// yet. (`laws_trades::a_trade_has_a_time` says that the moment of the notice is the award's.)
+/// yet; which quote a hit names by its 117: the desk's definition says it.
+/// (`laws_trades::a_trade_has_a_time` says that the moment of the notice is the award's.)
 pub fn both_sides_of_a_trade_agree()
     ensures answers { (config : Configuration) (steps : List Step)
         (investor request quote price : ℕ) (dealer : List ℕ)

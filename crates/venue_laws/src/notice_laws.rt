@@ -49,7 +49,8 @@ pub fn words_are_settled_as_the_view_says()
 /// (`after`).
 ///
 /// It ends at: that the notice is sent: these are facts at the dealer's desk, and `DealerOutput`
-/// says that each sends a message.
+/// says that each sends a message. (Of 694=1 `trade_laws::both_sides_of_a_trade_are_sent_it` says
+/// it.)
 pub fn notices_come_once_after_their_requests()
     ensures after { (config : Configuration) (steps : List Step) (dealer : ℕ) (row : DealerRow)
         (before after : List DealerEntry) (request : ℕ) (close : Close) (moment : ℕ)
@@ -82,7 +83,8 @@ pub fn a_hit_notice_names_the_lifted_quote()
 /// was shown the request.
 ///
 /// It ends at: days on which a duty is left; that the notice is sent: these are facts at the
-/// dealer's desk, and `DealerOutput` says that each sends a message.
+/// dealer's desk, and `DealerOutput` says that each sends a message. (Of 694=1
+/// `trade_laws::both_sides_of_a_trade_are_sent_it` says it.)
 pub fn each_named_dealer_is_told_once()
     ensures { (config : Configuration) (steps : List Step) (room : RoomRef) (end : End) (dealer : ℕ)
         → ((actor : Actor) → venue.pending actor (venue.audit_trail config steps) ≡ [])
