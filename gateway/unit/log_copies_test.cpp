@@ -11,6 +11,8 @@
 #include <string>
 #include <vector>
 
+#include <fmt/format.h>
+
 namespace gateway::tests {
 
 namespace {
@@ -45,6 +47,17 @@ Log::SessionChange given(std::uint32_t number) {
     return change;
 }
 
+// The metrics know of each row, whichever transaction it came with.
+void check_counted(const Metrics &metrics, const std::vector<Batch> &batches) {
+    std::size_t rows = 0;
+    for (const Batch &batch : batches) {
+        rows += batch.sent.size();
+    }
+    check(metrics.text().find(fmt::format("\nmireseason_sent_total {}\n", rows)) !=
+              std::string::npos,
+          fmt::format("{} rows of the copy, and not as many counted", rows));
+}
+
 // What a log does with these, once it has ended.
 template <typename Give> std::vector<Batch> batches_of(Give give) {
     RememberingDatabase database;
@@ -55,6 +68,7 @@ template <typename Give> std::vector<Batch> batches_of(Give give) {
         Log log(database, feed, clock, metrics, Log::Start{}, [](const std::string &) {});
         give(log);
     }
+    check_counted(metrics, database.batches());
     return database.batches();
 }
 
