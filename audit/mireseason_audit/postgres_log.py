@@ -113,6 +113,7 @@ class PostgresLog(SqlLog):
             yield words + (" of %s" % short(table) if table else "")
 
     def close(self, failed: bool = False) -> None:
+        super().close(failed)
         self._connection.close()
 
 

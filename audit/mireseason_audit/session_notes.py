@@ -12,10 +12,13 @@ from typing import NamedTuple
 from .findings import Finding
 from .records import Outgoing, SealRow
 
+# Somebody who writes the log may put any bytes there, which the seal's hash tells: nothing is read of a line with a number that
+# no gateway has, since none is too long for Python or a database.
 LINE = re.compile(
-    rb"\S+ (?P<epoch>\d+) (?P<kind>[A01235jRLM]) (?P<number>\d+) (?P<expected>\d+) (?P<had>\d+)"
-    rb" (?P<given>\d+) (?P<hash>[0-9a-f]{64}) (?P<moment>\S+)(?: (?P<more>.*))?"
+    rb"\S+ (?P<epoch>\d{1,10}) (?P<kind>[A01235jRLM]) (?P<number>\d{1,10}) (?P<expected>\d{1,10})"
+    rb" (?P<had>\d{1,10}) (?P<given>\d{1,10}) (?P<hash>[0-9a-f]{64}) (?P<moment>[!-~]+)(?: (?P<more>.*))?"
 )
+PLACE = re.compile(rb"\d{1,10}")
 ESCAPED = re.compile(rb"\\x([0-9a-f]{2})")
 REJECTS = ("3", "j")
 RESET, LOGON = "R", "A"
@@ -49,7 +52,7 @@ class Note(NamedTuple):
     def last(self) -> int:
         """Of a reset, the last place of an entry before it."""
         place = self.fields.partition(b" ")[0] if self.kind == RESET else b""
-        return int(place) if place.isdigit() else 0
+        return int(place) if PLACE.fullmatch(place) else 0
 
 
 def note_of(line: bytes) -> Note | None:

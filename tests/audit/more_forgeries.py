@@ -1,7 +1,8 @@
 """Forgeries by somebody who did not write the audit, as cases: what is done to the log, which evidence
 finds it, and in which words. After each, all chains are made anew.
 
-`reworded(line, old, new)` changes a message that came, with the sum at its end.
+`reworded(line, old, new)` changes a message that came, with the sum at its end; `renoted(notes, field, new)` a field of the first
+of some session notes.
 """
 
 from tests.audit.ledger import SESSIONS
@@ -21,6 +22,19 @@ OLDER = (  # the tables of form 5
 FIRST = "checkpoint 1 is signed by none"
 SECOND = "checkpoint 2 is signed by none"
 DEFINED = "no gateway makes this: another definition of table sent"
+# A field of the first session note, or a line before it, that no gateway writes.
+RENOTED = "UPDATE seal SET notes = %s WHERE number = (SELECT min(number) FROM seal WHERE length(notes) > 0)"
+DIGITS = "'" + "9" * 5000 + "'"
+BESIDE = "CAST('ALPHA 0 R 0 1 1 0 ' || hex(zeroblob(32)) || ' 08:00:00.000 ' || %s || ' 1' || char(10) AS BLOB) || notes"
+NOT_OF_GATEWAYS = {
+    "an epoch that is too long": "renoted(notes, 1, %s)" % DIGITS,
+    "a number that is too long": "renoted(notes, 3, %s)" % DIGITS,
+    "an expected number that is too long": "renoted(notes, 4, %s)" % DIGITS,
+    "more messages than there can be": "renoted(notes, 6, '99999999999999999999')",
+    "a moment that is no text": "renoted(notes, 8, x'FF')",
+    "a reset behind a place that is too long": BESIDE % DIGITS,
+    "a reset behind a place that no column has": BESIDE % "'99999999999999999999'",
+}
 
 MORE = {
     # Who it was, and when.
@@ -141,6 +155,10 @@ MORE = {
         "",
     ),
     # What sessions keep.
+    **{
+        "a note with " + what: (RENOTED % notes, BARE, "the session notes of seal")
+        for what, notes in NOT_OF_GATEWAYS.items()
+    },
     "a message to nobody": (
         "INSERT INTO sent SELECT 'ZULU', number, place, bytes, told FROM sent WHERE firm = 'ALPHA' AND number = 1",
         BARE,

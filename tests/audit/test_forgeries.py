@@ -191,6 +191,14 @@ def reworded(line: bytes, old: str, new: str) -> bytes:
     return b" ".join((word, firm, moment, message.hex().upper().encode()))
 
 
+def renoted(notes: bytes, field: int, new: str | bytes) -> bytes:
+    """Session notes with another field in the first of them."""
+    first, feed, rest = notes.partition(b"\n")
+    words = first.split(b" ")
+    words[field] = new.encode() if isinstance(new, str) else new
+    return b" ".join(words) + feed + rest
+
+
 def forged(
     place: Path, folder: Path, change: Callable[[Database], object], is_same: bool = False
 ) -> Path:
@@ -199,6 +207,7 @@ def forged(
     log.write_bytes(whole)
     with closing(sqlite3.connect(log, isolation_level=None)) as database:
         database.create_function("reworded", 3, reworded)
+        database.create_function("renoted", 3, renoted)
         change(database)
         assert is_same or log.read_bytes() != whole, "nothing was changed"
         chain_anew(database)
