@@ -229,7 +229,7 @@ drawn_mutants() {
     in_time 240 python3 -m tests.mutants.drawn --since "$since" --seed "$seed" --count 6 --jobs "$jobs" --below 15 --limit 60 \
         --part audit certify install keeper scripts --venue "$program" --gateway "$gateway" || tail -n 5 "$told"
     sed -n '/^passed\|^unseen/,/^  + /s/^/drawn: /p' "$told"
-    sed -n 's/^all  *\([0-9]*\) *\([0-9]*\) *\([0-9]*\) *\([0-9]*\)$/drawn: \1 mistakes, \2 refused, \4 not/p' "$told"
+    sed -n 's/^all  *\([0-9]*\) *\([0-9]*\) *\([0-9]*\) *\([0-9]*\) *\([0-9]*\)$/drawn: \1 mistakes, \2 refused, \3 hang, \5 not/p' "$told"
 }
 
 beside() {

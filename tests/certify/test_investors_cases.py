@@ -336,7 +336,7 @@ def test_a_venue_that_takes_each_hit(market: Market) -> None:
                 fields = {**fields, 297: "0"}
             return refused(kind, fields, number)
 
-        made.line.venue = venue  # type: ignore[method-assign]
+        made.line.venue = venue  # type: ignore[assignment]
 
     assert failed_with(takes) == {"hit-gone", "hit-in-the-race", "hit-late"}
 

@@ -4,12 +4,14 @@ import json
 import os
 import subprocess
 import sys
+from collections.abc import Iterable
+from dataclasses import dataclass
 from pathlib import Path
 
 import pytest
 
 from tests.harness.options import ROOT
-from tests.mutants.drawn.__main__ import draw
+from tests.mutants.drawn.__main__ import draw, table
 from tests.mutants.drawn.change import Change, Kind
 from tests.mutants.drawn.cpp_bodies import bodies
 from tests.mutants.drawn.cpp_changes import cpp_changes
@@ -33,6 +35,8 @@ from tests.mutants.drawn.remembered import (
 )
 from tests.mutants.drawn.shell_changes import shell_changes
 from tests.mutants.drawn.together import ANY, NAMED, together
+from tests.mutants.drawn.trial import Trial, Tried, Verdict
+from tests.mutants.nursery import Nursery
 
 # A text, a kind of mistake, and each text that it makes of it.
 PYTHON = [
@@ -319,3 +323,51 @@ def test_what_is_remembered_is_of_files_and_tests_that_are_there() -> None:
 def test_what_another_compiler_needs_is_not_told_to_clang() -> None:
     words = ["-O2", "-Werror", "-include", "pch.hxx", "-Isrc", "-o", "x.o", "-c", "x.cpp"]
     assert words_for_clang(words, "x.cpp") == ["-O2", "-Isrc"]
+
+
+@dataclass(frozen=True)
+class Worded(Trial):
+    """Each test does what its name says, `anyway` without a change too."""
+
+    def first_failed(
+        self, names: list[str], limit: float, anyway: Iterable[str] = ()
+    ) -> str | None:
+        is_changed = (self.tree.folder / "VERSION").read_bytes() != (ROOT / "VERSION").read_bytes()
+        for name in [one for one in names if one not in anyway]:
+            if is_changed or "anyway" in name:
+                if "hangs" in name:
+                    raise subprocess.TimeoutExpired(name, limit)
+                if "fails" in name:
+                    return name
+        return None
+
+
+VERDICTS = [
+    (["passes"], Verdict.PASSED, "1 tests"),
+    (["passes", "fails"], Verdict.REFUSED, "fails"),
+    (["fails anyway", "passes"], Verdict.PASSED, "2 tests"),
+    (["fails anyway", "fails too anyway", "fails"], Verdict.REFUSED, "fails"),
+    (["hangs"], Verdict.HANGS, "hangs"),
+    (["hangs anyway"], Verdict.OUT_OF_TIME, "hangs anyway"),
+]
+
+
+@pytest.mark.parametrize("names, verdict, by", VERDICTS, ids=[" ".join(one[0]) for one in VERDICTS])
+def test_what_a_test_says_of_a_change(
+    place: Path, names: list[str], verdict: Verdict, by: str
+) -> None:
+    """One that fails or hangs without the change refuses nothing, and the tree is as it was."""
+    was = (ROOT / "VERSION").read_bytes()
+    (place / "VERSION").write_bytes(was)
+    seconds = {name: float(at) for at, name in enumerate(names)}
+    passes, tree = Passes({"VERSION": {1: set(names)}}, seconds), Nursery(place, (), None)
+    trial = Worded(PARTS[0], tree, passes, Remembered(), 900.0, None, ())
+    tried = trial.tried(Change("VERSION", 1, 0, 1, "9.", Kind.BOUND))
+    assert (tried.verdict, tried.by) == (verdict, by)
+    assert (place / "VERSION").read_bytes() == was
+
+
+def test_a_hang_is_counted_apart() -> None:
+    change = Change("VERSION", 1, 0, 1, "9.", Kind.BOUND)
+    rows = list(table([Tried("audit", change, "", one, "", 0.0) for one in Verdict]))
+    assert rows[1].split() == ["audit", "6", "1", "1", "1", "3"]

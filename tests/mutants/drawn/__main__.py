@@ -12,8 +12,9 @@ each passes. Without it the last recording is taken; if there is none, what the 
 writes that anew, from the recording); and otherwise all tests of a part. --units tries C++ by its unit tests alone. --list tries
 nothing.
 
-The last lines are a table: of each part how many were drawn, refused, equal (left_out.toml), and how many passed. The status is
-0.
+A test refuses a change if it fails with it, and passes without it. The last lines are a table: of each part how many were drawn,
+refused, how many hang (tests that end without the change do not with it, twice), are equal (left_out.toml), and how many did not
+fail a test or were not tried to the end. The status is 0.
 """
 
 import argparse
@@ -203,14 +204,14 @@ def try_scripts(drawn: list[Drawn], chosen: argparse.Namespace) -> Iterator[Trie
 
 
 def table(results: list[Tried]) -> Iterator[str]:
-    yield "%-14s %6s %8s %6s %7s" % ("part", "drawn", "refused", "equal", "passed")
+    yield "%-14s %6s %8s %6s %6s %7s" % ("part", "drawn", "refused", "hang", "equal", "passed")
     for name in [*dict.fromkeys(one.part for one in results), "all"]:
         of_part = [one for one in results if name in (one.part, "all")]
         count = Counter(one.verdict for one in of_part)
-        refused = count[Verdict.REFUSED] + count[Verdict.HANGS]
+        refused, hang, equal = count[Verdict.REFUSED], count[Verdict.HANGS], count[Verdict.EQUAL]
         passed = sum(not one.verdict.is_good for one in of_part)
-        words = (name, len(of_part), refused, count[Verdict.EQUAL], passed)
-        yield "%-14s %6d %8d %6d %7d" % words
+        words = (name, len(of_part), refused, hang, equal, passed)
+        yield "%-14s %6d %8d %6d %6d %7d" % words
 
 
 def arguments() -> argparse.Namespace:

@@ -9,7 +9,7 @@ import subprocess
 import time
 from collections.abc import Iterator
 from concurrent.futures import ThreadPoolExecutor
-from dataclasses import dataclass, field
+from dataclasses import dataclass, field, replace
 from pathlib import Path
 
 from tests.harness.options import ROOT
@@ -56,8 +56,31 @@ class BuiltTrial(Trial):
                 if self.fails(name) and self.fails(name):
                     return Verdict.REFUSED, name
             except subprocess.TimeoutExpired:
-                return Verdict.HANGS, name
+                if self.unit_hangs(name):
+                    return Verdict.HANGS, name
         return super().judged(change, began)
+
+    def unit_hangs(self, name: str) -> bool:
+        """Not the machine is slow: without the change it ends, and with it it does not once more."""
+        try:
+            if replace(self, number=0).fails(name):
+                return False
+        except subprocess.TimeoutExpired:
+            return False
+        try:
+            self.fails(name)
+        except subprocess.TimeoutExpired:
+            return True
+        return False
+
+    def seconds_without(self, change: Change, names: list[str], most: float) -> float | None:
+        """What is planted alone has no program without it: what fails there has to fail a second time."""
+        began = time.monotonic()
+        try:
+            passes = replace(self, number=0).first_failed(names, most) is None
+        except subprocess.TimeoutExpired:
+            return None
+        return time.monotonic() - began if passes == bool(self.number) else None
 
     def tests(self, change: Change) -> list[str]:
         """Of pytest: the unit tests are over by then. Where nothing is known, those of the build."""

@@ -5,7 +5,7 @@ import signal
 import subprocess
 import sys
 import time
-from collections.abc import Iterator
+from collections.abc import Iterable, Iterator
 from dataclasses import dataclass
 from enum import Enum
 from itertools import islice
@@ -23,6 +23,7 @@ AT_ONCE = 20  # tests of one run of pytest, so that the first that fails ends it
 UNKNOWN = 5.0  # seconds of a file of tests of which nothing is known
 NOTHING_RUN = 5  # pytest's status where its words leave none of the tests
 SLOW = 10  # times what they took when they were recorded: so long tests may take on a busy machine
+SOON = 30.0  # seconds that tests may take anyway, once it is known what they take here
 LEAST = 300.0  # seconds that they may take anyway: what they share, a fixture of a class, is in the time of one of them alone
 
 
@@ -34,7 +35,7 @@ class Verdict(Enum):
 
     REFUSED = "refused"  # by a test, or by the compiler
     EQUAL = "equal"  # it changes nothing that anybody could see
-    HANGS = "hangs"  # a test took many times what it takes: that is seen, too
+    HANGS = "hangs"  # a test took many times what it takes without it, twice: counted apart
     PASSED = "passed"  # every test that passes through its line passes
     UNSEEN = "unseen"  # no test passes through its line
     OUT_OF_TIME = "out of time"  # some of its tests were not run
@@ -101,26 +102,65 @@ class Trial:
 
     def judged(self, change: Change, began: float) -> tuple[Verdict, str]:
         names = self.tests(change)
-        return self.by_pytest(names, began) if names else (Verdict.UNSEEN, "")
+        return self.by_pytest(change, names, began) if names else (Verdict.UNSEEN, "")
 
-    def by_pytest(self, names: list[str], began: float) -> tuple[Verdict, str]:
+    def by_pytest(self, change: Change, names: list[str], began: float) -> tuple[Verdict, str]:
         """Some at a time, the fastest first, within the limit of one change."""
         for batch in batches(names):
-            left = self.limit - (time.monotonic() - began)
-            if left <= 0:
-                return Verdict.OUT_OF_TIME, batch[0]
-            most = LEAST + SLOW * sum(map(self.seconds, batch))
-            try:
-                failed = self.first_failed(batch, min(most, left))
-            except subprocess.TimeoutExpired:
-                return (Verdict.HANGS if most < left else Verdict.OUT_OF_TIME), batch[0]
-            if failed is not None:
-                return Verdict.REFUSED, failed
+            verdict, by = self.by_batch(change, batch, began)
+            if verdict is not Verdict.PASSED:
+                return verdict, by
         return Verdict.PASSED, "%d tests" % len(names)
 
-    def first_failed(self, names: list[str], limit: float) -> str | None:
-        """Runs these tests, until one fails."""
+    def by_batch(self, change: Change, batch: list[str], began: float) -> tuple[Verdict, str]:
+        """A test that fails without the change, too, says nothing of it: the others go on."""
+        anyway: list[str] = []
+        while (left := self.limit - (time.monotonic() - began)) > 0:
+            most = LEAST + SLOW * sum(map(self.seconds, batch))
+            try:
+                failed = self.first_failed(batch, min(most, left), anyway)
+            except subprocess.TimeoutExpired:
+                hangs = most < left and self.hangs(change, batch, most)
+                return (Verdict.HANGS if hangs else Verdict.OUT_OF_TIME), batch[0]
+            if failed is None:
+                return Verdict.PASSED, ""
+            if self.seconds_without(change, [failed], most) is not None:
+                return Verdict.REFUSED, failed
+            if failed in anyway:
+                break
+            anyway.append(failed)
+        return Verdict.OUT_OF_TIME, batch[0]
+
+    def hangs(self, change: Change, batch: list[str], most: float) -> bool:
+        """Not the machine is slow: without the change the tests end, and with it they do not once more."""
+        took = self.seconds_without(change, batch, most)
+        if took is None:
+            return False
+        try:
+            self.first_failed(batch, SOON + SLOW * took)
+        except subprocess.TimeoutExpired:
+            return True
+        return False
+
+    def seconds_without(self, change: Change, names: list[str], most: float) -> float | None:
+        """How long these tests take as the tree is; None where they fail or take longer."""
+        file = self.tree.folder / change.file
+        text, began = file.read_bytes(), time.monotonic()
+        try:
+            file.write_bytes((ROOT / change.file).read_bytes())
+            passes = self.first_failed(names, most) is None
+        except subprocess.TimeoutExpired:
+            passes = False
+        finally:
+            file.write_bytes(text)
+        return time.monotonic() - began if passes else None
+
+    def first_failed(
+        self, names: list[str], limit: float, anyway: Iterable[str] = ()
+    ) -> str | None:
+        """Runs these tests, but for those that fail anyway, until one fails."""
         words = [sys.executable, "-m", "pytest", *names, "-x", "-q", *self.options]
+        words += [word for name in anyway for word in ("--deselect", name)]
         place = ["-c", str(self.tree.folder / "pyproject.toml"), "--rootdir", str(self.tree.folder)]
         running = subprocess.Popen(
             [*words, *place, *self.tree.chosen_for(self.build)],
@@ -141,7 +181,7 @@ class Trial:
         if running.returncode in (0, NOTHING_RUN):
             return None
         lines = [line for line in told.splitlines() if line.startswith(("FAILED", "ERROR"))]
-        return lines[0] if lines else "pytest ended with status %d" % running.returncode
+        return named_in(lines[0]) if lines else names[0]
 
     def environment(self) -> dict[str, str]:
         """Nothing of the tree that is no copy; a wrong body may wait for what never comes."""
@@ -150,6 +190,11 @@ class Trial:
         if self.part.name == "page":
             own["DESK_PAGES"] = str(self.tree.folder / "desk" / "page")
         return own
+
+
+def named_in(line: str) -> str:
+    """The test, or the file that could not be read, in a line of pytest's summary."""
+    return line.partition(" ")[2].partition(" - ")[0].strip()
 
 
 def batches(names: list[str]) -> Iterator[list[str]]:
