@@ -98,19 +98,25 @@ class SqliteWriter final : public LogWriter {
         }
         commit_.run();
         ++commits_;
+        is_synchronised_ = true;
     }
 
-    // Without its own synchronisation, which is that of the next commit.
+    // Without its own synchronisation, which is that of the next commit. Until then no page goes
+    // into the file: SQLite would synchronise the write-ahead log before, and not tell where that
+    // fails. The next one would succeed, though what stands in front of its entries is lost.
     void commit_copies(const Batch &batch) override {
         execute(connection_.get(), "PRAGMA synchronous = NORMAL");
+        sqlite3_wal_autocheckpoint(connection_.get(), 0);
         commit(batch);
+        is_synchronised_ = false;
+        sqlite3_wal_autocheckpoint(connection_.get(), usual_pages);
         execute(connection_.get(), "PRAGMA synchronous = FULL");
     }
 
     // Pages go from the write-ahead log into the file at such a time, so that no commit waits for
     // it. One that fails fails nothing: they stand in the write-ahead log.
     void rest() override {
-        if (commits_ >= commits_of_a_checkpoint) {
+        if (commits_ >= commits_of_a_checkpoint && is_synchronised_) {
             sqlite3_wal_checkpoint_v2(connection_.get(), nullptr, SQLITE_CHECKPOINT_PASSIVE,
                                       nullptr, nullptr);
             commits_ = 0;
@@ -150,16 +156,17 @@ class SqliteWriter final : public LogWriter {
         ConnectionPointer connection = connect(path, SQLITE_OPEN_READWRITE);
         execute(connection.get(), "PRAGMA synchronous = FULL");
         // Where there never is a rest a commit does it, at the usual length.
-        const int pages = static_cast<int>(usual_length) / page_bytes;
-        sqlite3_wal_autocheckpoint(connection.get(), pages);
+        sqlite3_wal_autocheckpoint(connection.get(), usual_pages);
         lengthen(path + "-wal");
         return connection;
     }
 
     static constexpr unsigned commits_of_a_checkpoint = 100;
+    static constexpr int usual_pages = static_cast<int>(usual_length) / page_bytes;
 
     ConnectionPointer connection_;
-    unsigned commits_ = 0; // since the last checkpoint
+    unsigned commits_ = 0;        // since the last checkpoint
+    bool is_synchronised_ = true; // all that is committed
     Statement begin_;
     Statement commit_;
     Statement entry_;
