@@ -11,6 +11,7 @@
 #include <vector>
 
 #include <fmt/format.h>
+#include <unistd.h>
 
 namespace gateway::tests {
 
@@ -43,6 +44,19 @@ struct Scene {
         return all;
     }
 };
+
+// Takes all bytes out of the files without a name that this process has in a folder.
+void cut_off_files_in(const std::filesystem::path &folder) {
+    std::size_t cut = 0;
+    for (const auto &file : std::filesystem::directory_iterator("/proc/self/fd")) {
+        std::error_code none;
+        const auto is = std::filesystem::read_symlink(file, none).string();
+        if (is.starts_with(folder.string() + "/.spool-")) {
+            cut += ::truncate(file.path().c_str(), 0) == 0 ? 1U : 0U;
+        }
+    }
+    check(cut > 0, "there is no file of a spool");
+}
 
 } // namespace
 
@@ -199,6 +213,25 @@ TEST_CASE("numbers rise") {
     scene.keep(3, 0);
     CHECK_THROWS_WITH(scene.keep(3, 0), "message 3 is kept behind message 3");
     CHECK_THROWS_WITH(scene.keep(2, 0), "message 2 is kept behind message 3");
+}
+
+// Nothing is left out in silence: a firm would be told that there was no such message.
+TEST_CASE("files that were cut off") {
+    Scene scene;
+    for (std::uint32_t number = 1; number <= 200; ++number) {
+        scene.give(number, fmt::format("quote {}", number));
+        scene.keep(2 * number, number);
+        scene.keep(2 * number + 1, 0);
+    }
+    cut_off_files_in(scene.scratch.path());
+    const std::string told = "the spool was cut off";
+    CHECK_THROWS_WITH(scene.kept(), told.c_str());
+    CHECK_THROWS_WITH(scene.spool.count_given("DLR1", 0), told.c_str());
+    CHECK_THROWS_WITH(scene.spool.drop_rejects("DLR1", 1), told.c_str());
+    CHECK_THROWS_WITH(scene.spool.reset("DLR1", 0), told.c_str());
+    CHECK_THROWS_WITH(scene.spool.given("DLR1", 1), told.c_str());
+    CHECK_THROWS_WITH(scene.spool.hash_of_given("DLR1", 1), told.c_str());
+    CHECK_THROWS_WITH(scene.give(1, "quote 1"), told.c_str());
 }
 
 TEST_CASE("nobody else finds the files") {

@@ -9,6 +9,7 @@
 #include <cstdint>
 #include <filesystem>
 #include <mutex>
+#include <stdexcept>
 #include <string>
 #include <string_view>
 #include <type_traits>
@@ -43,8 +44,9 @@ class TextFile {
     std::string waiting_; // behind what is written
 };
 
-// Records of one size by their numbers. One that was never put is a Record{}. One thread at a time.
-// Those that were put last, one behind the other, are kept in memory likewise.
+// Records of one size by their numbers. One that was never put is a Record{}; where one is gone
+// that was, what reads it throws std::runtime_error. One thread at a time. Those that were put
+// last, one behind the other, are kept in memory likewise.
 template <typename Record> class RecordFile {
     static_assert(std::is_trivially_copyable_v<Record>);
 
@@ -55,10 +57,10 @@ template <typename Record> class RecordFile {
         if (is_waiting(number)) {
             waiting_[number - written_] = record;
         } else if (number < written_) {
-            write_at(file_, place_of(number), &record, sizeof record);
+            write(number, &record, 1);
         } else {
             if (number != written_ + waiting_.size() || waiting_.size() == most_waiting) {
-                write();
+                write_waiting();
                 written_ = number;
             }
             waiting_.push_back(record);
@@ -69,15 +71,14 @@ template <typename Record> class RecordFile {
             return waiting_[number - written_];
         }
         Record record{};
-        read_at(file_, place_of(number), &record, sizeof record);
+        read(number, &record, 1);
         return record;
     }
     // Those from a number on, `count` at most: fewer at the end of the file.
     std::vector<Record> some(std::uint32_t from, std::size_t count) const {
         const std::size_t written = from < written_ ? std::min(count, written_ - from) : 0;
-        // What was never put may stand behind the end of the file.
         std::vector<Record> records(written);
-        read_at(file_, place_of(from), records.data(), written * sizeof(Record));
+        read(from, records.data(), written);
         while (records.size() < count && is_waiting(from + records.size())) {
             records.push_back(waiting_[from + records.size() - written_]);
         }
@@ -91,14 +92,27 @@ template <typename Record> class RecordFile {
     bool is_waiting(std::size_t number) const {
         return number >= written_ && number - written_ < waiting_.size();
     }
-    void write() {
-        write_at(file_, place_of(static_cast<std::uint32_t>(written_)), waiting_.data(),
-                 waiting_.size() * sizeof(Record));
+    // What was never put may stand behind the end of the file, and nothing else may.
+    void read(std::uint32_t number, Record *records, std::size_t count) const {
+        const std::uint64_t place = place_of(number);
+        const std::uint64_t there = end_ - std::min(place, end_);
+        const std::size_t wanted = count * sizeof(Record);
+        if (read_at(file_, place, records, wanted) < std::min<std::uint64_t>(wanted, there)) {
+            throw std::runtime_error("the spool was cut off");
+        }
+    }
+    void write(std::uint32_t number, const Record *records, std::size_t count) {
+        write_at(file_, place_of(number), records, count * sizeof(Record));
+        end_ = std::max(end_, place_of(number) + count * sizeof(Record));
+    }
+    void write_waiting() {
+        write(static_cast<std::uint32_t>(written_), waiting_.data(), waiting_.size());
         written_ += waiting_.size();
         waiting_.clear();
     }
 
     Descriptor file_;
+    std::uint64_t end_ = 0;   // of the file
     std::size_t written_ = 0; // all in front of this number that were put
     std::vector<Record> waiting_;
 };
