@@ -188,10 +188,10 @@ void hangs_in_a_transaction(Schema &schema) {
 // gateway's role may lock no table of the log.)
 class HalfPutRow {
   public:
-    explicit HalfPutRow(const Schema &schema)
+    explicit HalfPutRow(const Schema &schema, const std::string &statement = put)
         : connection_(schema.text()), work_(std::make_unique<pqxx::work>(connection_)) {
         work_->exec(fmt::format("SET search_path TO {}", schema.name()));
-        work_->exec(put);
+        work_->exec(statement);
     }
     void take_back() { work_.reset(); }
 
@@ -202,22 +202,62 @@ class HalfPutRow {
     std::unique_ptr<pqxx::work> work_;
 };
 
-// Its server is at work when it is looked at, and it hangs after that.
-void hangs_behind_its_work(Schema &schema) {
-    Hanging hanging(schema, 6);
-    HalfPutRow row(schema);
-    auto done = std::async(std::launch::async, [&] { hanging.run(HalfPutRow::put); });
+// Until what is at work waits for a row that is half put.
+template <typename Result> void wait_at_work(Schema &schema, std::future<Result> &done) {
     const std::string waits =
         "SELECT FROM pg_locks WHERE locktype = 'transactionid' AND NOT granted";
     while (schema.run(waits) == 0) {
         check(done.wait_for(10ms) != std::future_status::ready, "it is not at work");
     }
+}
+
+// Its server is at work when it is looked at, and it hangs after that.
+void hangs_behind_its_work(Schema &schema) {
+    Hanging hanging(schema, 6);
+    HalfPutRow row(schema);
+    auto done = std::async(std::launch::async, [&] { hanging.run(HalfPutRow::put); });
+    wait_at_work(schema, done);
     const auto next = next_of(schema);
     check(!next->take_over(), "a gateway takes over from one whose server is at work");
     row.take_back();
     done.get();
     same(7U, term_of(*next), "the term after a gateway that hangs after its work");
     next->writer()->commit(batch_of(4, 7));
+}
+
+// What stands in a batch stays text, also on a server that reads a backslash as no sign of a text.
+void texts_stay_texts(Schema &schema) {
+    const std::string text = R"(\'); DELETE FROM entry; --)";
+    const auto next = schema.open("texts", " options='-c standard_conforming_strings=off'");
+    const std::uint32_t term = term_of(*next);
+    Batch batch = batch_of(5, term);
+    batch.entries[0].firm = text;
+    batch.entries[0].line = text;
+    batch.sent.push_back({text, 1, 5, text, text});
+    next->writer()->commit(batch);
+    const Entry entry = next->reader()->entries(5, 1).at(0);
+    check(entry.firm == text && entry.line == text, "an entry has another text");
+    same<std::size_t>(1,
+                      schema.run("SELECT FROM sent WHERE firm = $$" + text + "$$ AND told = firm"),
+                      "rows with the text");
+}
+
+// The server ends the connection in the middle of a batch that it was given at once: nothing of it
+// is there, and no other connection is taken for the next one.
+void ends_in_a_batch(Schema &schema) {
+    const auto next = schema.open("ended");
+    Batch batch = batch_of(6, term_of(*next));
+    batch.sent.push_back({"F", 9, 6, "35=AI", {}});
+    const auto writer = next->writer();
+    HalfPutRow row(schema, "INSERT INTO sent VALUES ('F', 9, 6, '', NULL)");
+    const auto told = [&] { return thrown_by([&] { writer->commit(batch); }); };
+    auto done = std::async(std::launch::async, told);
+    wait_at_work(schema, done);
+    schema.run("SELECT pg_terminate_backend(backend) FROM speaker");
+    check(!done.get().empty(), "a batch whose connection has ended is committed");
+    row.take_back();
+    check(!told().empty(), "the next one is committed without the term");
+    same<std::size_t>(0, schema.run("SELECT FROM entry WHERE place = 6"), "entries of the batch");
 }
 
 // A server whose commits wait for a standby that there is none of.
@@ -285,6 +325,8 @@ TEST_CASE("one gateway after the other speaks") {
     tables_refuse(schema);
     hangs_in_a_transaction(schema);
     hangs_behind_its_work(schema);
+    texts_stay_texts(schema);
+    ends_in_a_batch(schema);
 }
 
 // On a server of the test alone, which changes what the owner has made.

@@ -154,6 +154,8 @@ class WritingConnection {
         work.exec(
             fmt::format("SET synchronous_commit TO {}", work.quote(place.synchronous_commit)));
         work.exec("SET client_min_messages TO warning");
+        // Else the server warns of each text with a backslash, as bytes have one.
+        work.exec("SET standard_conforming_strings TO on");
         make_tables(work, schema);
         work.exec(fmt::format("SET search_path TO {}", work.quote_name(schema)));
         const pqxx::result form = work.exec("SELECT number FROM form");
