@@ -55,7 +55,7 @@ class FirmSessions final : private SessionHost {
 
     ConnectionRows &rows() { return rows_; }
     // The firms of whose messages some were held back until more entries are committed: once they
-    // are. Of the thread that commits the log.
+    // are. Of any thread, each firm for one.
     std::vector<std::string> take_held_back();
     // Counts what waits for each firm; to be called each second.
     void count_waiting(const Engine &engine);

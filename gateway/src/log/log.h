@@ -154,7 +154,8 @@ class Log {
         // one in some milliseconds.
         std::optional<SessionNoteLine> mark{};
     };
-    // Returns the batch behind which all is on disk that the session has put so far.
+    // Returns the batch behind which all is on disk that the session has said so far: its notes,
+    // but perhaps for a mark.
     Ticket put(SessionChange change);
 
     // A signature of what is committed.
@@ -168,7 +169,8 @@ class Log {
     void wait(Ticket ticket);
     // The same for so long at most: whether it is.
     bool wait_for(Ticket ticket, std::chrono::milliseconds longest);
-    // Returns when all that was put so far is on disk.
+    // Returns when all that was put so far is on disk, but for rows of the copy that are just being
+    // committed by themselves.
     void flush();
     // Whether all entries up to this place are on disk. Waits for nothing.
     bool is_committed(std::uint32_t place) const;
