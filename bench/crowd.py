@@ -178,6 +178,14 @@ def first_logon(door: Door, who: Identity, number: int) -> tuple[float, int]:
     """Starts the gateway: the seconds until a firm's Logon is answered, and the number of its next message."""
     began = time.perf_counter()
     door.start()
+    wire = let_in(door, who, number)
+    took = time.perf_counter() - began
+    assert wire.read_kind(b"1") is not None
+    return took, wire.number
+
+
+def let_in(door: Door, who: Identity, number: int) -> Wire:
+    """A session whose Logon was answered just now, by a gateway that opens."""
     while not door.is_open():
         assert not door.has_ended(), door.last_words()
         time.sleep(0.002)
@@ -185,9 +193,7 @@ def first_logon(door: Door, who: Identity, number: int) -> tuple[float, int]:
     wire.number = number
     assert wire.logon(who.name.encode(), who.password.encode())
     assert wire.read_kind(b"A", 10 * LONG) is not None, "it is not let in"
-    took = time.perf_counter() - began
-    assert wire.read_kind(b"1") is not None
-    return took, wire.number
+    return wire
 
 
 @dataclass(frozen=True)

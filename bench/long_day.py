@@ -20,8 +20,9 @@ import sqlite3
 import statistics
 import tempfile
 import time
-from dataclasses import dataclass
+from collections.abc import Sequence
 from pathlib import Path
+from typing import Any
 
 from bench.crowd import (
     DEALERS,
@@ -53,14 +54,11 @@ ASKED_FOR = b"\x0135=R\x01"
 QUOTE = re.compile(rb"\x0135=S\x01.*?\x01131=([^\x01]*)\x01117=([^\x01]*)")
 
 
-@dataclass(frozen=True)
-class Grown:
-    """After a block."""
-
-    entries: int
-    gateway: int  # bytes of memory
-    venue: int
-    log: int  # bytes
+def found(door: Door, query: str) -> Sequence[Sequence[Any]]:
+    """Rows of its log, wherever that is."""
+    if door.postgres is None:
+        return rows(door.database, query)
+    return door.postgres.rows(query)
 
 
 class Day:
@@ -77,7 +75,7 @@ class Day:
         for investor in self.investors:
             investor.wants = lambda message: QUOTE.search(message) is not None
 
-    def play(self) -> Grown:
+    def play(self) -> None:
         """A block."""
         asked, before = SIDE * ASKED, self.entries()
         left = self.block - 2 * asked
@@ -88,16 +86,13 @@ class Day:
         hits = self._hit()
         self.crowd.run(lambda: self.entries() == before + asked + left + hits)
         self.blocks += 1
-        (venue,) = self.door.venues()
-        sizes = resident(self.door.running.pid), resident(venue)
-        return Grown(self.entries(), *sizes, log_bytes(self.door.database))
 
     def entries(self) -> int:
         """Those that firms have made, as they were a tenth of a second ago."""
         if time.monotonic() >= self._looks_from:
-            query = "SELECT max(place), count(number) FROM entry WHERE place > %d" % self._place
-            ((place, count),) = rows(self.door.database, query)
-            self._place, self._entries = place or self._place, self._entries + count
+            query = "SELECT coalesce(max(place), %d), count(number) FROM entry WHERE place > %d"
+            ((place, count),) = found(self.door, query % (self._place, self._place))
+            self._place, self._entries = int(place), self._entries + int(count)
             self._looks_from = time.monotonic() + 0.1
         return self._entries
 
@@ -170,10 +165,12 @@ def play(door: Door, words: argparse.Namespace) -> int:
     door.wait_open()
     day = Day(door, words.block)
     for _ in range(words.blocks):
-        grown = day.play()
+        day.play()
+        (venue,) = door.venues()
+        sizes = resident(door.running.pid), resident(venue), log_bytes(door.database)
         print(
             "%d entries: gateway %.1f MB, venue %.1f MB, log %.1f MB"
-            % (grown.entries, grown.gateway / 1e6, grown.venue / 1e6, grown.log / 1e6),
+            % (day.entries(), *(each / 1e6 for each in sizes)),
             flush=True,
         )
     day.crowd.log_off()
