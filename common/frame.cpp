@@ -6,6 +6,16 @@
 
 namespace gateway {
 
+namespace {
+
+// Of a hexadecimal digit of either case.
+unsigned value_of_digit(char digit) {
+    const auto code = static_cast<unsigned char>(digit);
+    return code <= '9' ? code - unsigned{'0'} : (code | 0x20U) - unsigned{'a'} + 10;
+}
+
+} // namespace
+
 std::optional<std::vector<Field>> fields_of(std::string_view message) {
     std::vector<Field> fields;
     fields.reserve(24);
@@ -59,11 +69,12 @@ std::string framed(std::string_view body) {
 
 void append_hexadecimal(std::string &text, std::string_view bytes) {
     static constexpr std::string_view digits = "0123456789ABCDEF";
-    text.reserve(text.size() + bytes.size() * 2);
+    std::size_t at = text.size();
+    text.resize(at + bytes.size() * 2);
     for (const char c : bytes) {
         const auto byte = static_cast<unsigned char>(c);
-        text += digits[byte >> 4];
-        text += digits[byte & 15];
+        text[at++] = digits[byte >> 4];
+        text[at++] = digits[byte & 15];
     }
 }
 
@@ -72,12 +83,11 @@ std::string frame_of_line(std::string_view line) {
     if (!line.starts_with("hex ") || last == std::string_view::npos) {
         return "";
     }
-    std::string frame;
-    frame.reserve((line.size() - last) / 2);
-    for (std::size_t at = last + 1; at + 1 < line.size(); at += 2) {
-        unsigned byte = 0;
-        std::from_chars(line.data() + at, line.data() + at + 2, byte, 16);
-        frame += static_cast<char>(byte);
+    const std::string_view text = line.substr(last + 1);
+    std::string frame(text.size() / 2, '\0');
+    for (std::size_t at = 0; at < frame.size(); ++at) {
+        frame[at] = static_cast<char>(value_of_digit(text[2 * at]) << 4 |
+                                      value_of_digit(text[2 * at + 1]));
     }
     return frame;
 }

@@ -58,6 +58,7 @@ TEST_CASE("a line of the log has a frame's bytes") {
     append_hexadecimal(digits, "A\x01\xff");
     CHECK(digits == "x4101FF");
     CHECK(frame_of_line("hex DLR1 09:00:00.000 4101FF") == "A\x01\xff");
+    CHECK(frame_of_line("hex DLR1 09:00:00.000 a09f") == "\xa0\x9f");
     CHECK(frame_of_line("hex DLR1 09:00:00.000 ") == "");
     CHECK(frame_of_line("clock 09:00:00.000 41") == "");
 }
