@@ -86,8 +86,8 @@ std::string frame_of_line(std::string_view line) {
     const std::string_view text = line.substr(last + 1);
     std::string frame(text.size() / 2, '\0');
     for (std::size_t at = 0; at < frame.size(); ++at) {
-        frame[at] = static_cast<char>(value_of_digit(text[2 * at]) << 4 |
-                                      value_of_digit(text[2 * at + 1]));
+        frame[at] =
+            static_cast<char>(value_of_digit(text[2 * at]) << 4 | value_of_digit(text[2 * at + 1]));
     }
     return frame;
 }

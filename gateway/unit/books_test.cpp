@@ -36,7 +36,8 @@ struct Dealer {
 
     // The names of what is live once this is given: name, request and trader of each.
     std::string given(const std::string &type, const std::string &fields) {
-        quotes.was_given(line_of("T1"), "DLR1", frame(type, fields));
+        const std::string message = frame(type, fields);
+        quotes.was_given(line_of("T1"), "DLR1", GivenFields(message));
         std::string text;
         for (const LiveQuotes::Live &each : quotes.of("DLR1")) {
             text += each.quote + "/" + each.request + "/" + each.trader + " ";
@@ -66,12 +67,35 @@ TEST_CASE("a quote lives from its acceptance to its end") {
     CHECK(dealer.quotes.of("DLR2").empty());
 }
 
+TEST_CASE("of a message each field is read that somebody looks at") {
+    const std::string message =
+        frame("AI", "52=20250314-09:30:00.125|48=BONDA|117=a|131=R1|297=5|300=99|453=2|693=h|");
+    const GivenFields fields(message);
+    CHECK(fields.type == "AI");
+    CHECK(fields.number == "7");
+    CHECK(fields.moment == "20250314-09:30:00.125");
+    CHECK(fields.bond == "BONDA");
+    CHECK(fields.quote == "a");
+    CHECK(fields.request == "R1");
+    CHECK(fields.status == "5");
+    CHECK(fields.reason == "99");
+    CHECK(fields.dealers == "2");
+    CHECK(fields.response == "h");
+    const std::string twice = with_soh("8=35|35=S|35=AI|58=x=117=y|117=a|1170=b|");
+    CHECK(GivenFields(twice).type == "S");
+    CHECK(GivenFields(twice).quote == "a");
+    CHECK(GivenFields(twice).request == "");
+}
+
 TEST_CASE("a quote that was shown names its bond") {
     ShownQuotes shown;
-    shown.was_given("INV1", frame("S", "117=Q1|48=BONDA|"));
-    shown.was_given("INV1", frame("S", "117=Q2|48=BONDB|"));
-    shown.was_given("INV2", frame("S", "117=Q1|48=BONDB|"));
-    shown.was_given("INV1", frame("AI", "117=Q3|48=BONDA|"));
+    const auto given = [&shown](const std::string &firm, const std::string &message) {
+        shown.was_given(firm, GivenFields(message));
+    };
+    given("INV1", frame("S", "117=Q1|48=BONDA|"));
+    given("INV1", frame("S", "117=Q2|48=BONDB|"));
+    given("INV2", frame("S", "117=Q1|48=BONDB|"));
+    given("INV1", frame("AI", "117=Q3|48=BONDA|"));
     CHECK(shown.bond_of("INV1", "Q1") == "BONDA");
     CHECK(shown.bond_of("INV1", "Q2") == "BONDB");
     CHECK(shown.bond_of("INV2", "Q1") == "BONDB");

@@ -37,8 +37,9 @@ std::string report(const std::string &fields) {
 // By docs/FORMATS.md, "Written messages", to an investor.
 TEST_CASE("requests open and end") {
     OpenRequests open;
-    const auto given = [&open](const std::string &fields) {
-        open.was_given("INV1", report(fields));
+    const auto given = [&open](const std::string &fields, const std::string &firm = "INV1") {
+        const std::string message = report(fields);
+        open.was_given(firm, GivenFields(message));
         return open.all().size();
     };
     check(given("131=A1|297=0|") == 1, "an accepted request is open");
@@ -56,8 +57,7 @@ TEST_CASE("requests open and end") {
     check(given("131=A3|297=0|") == 1 && given("131=A3|297=7|") == 0, "it expires");
     check(given("131=A3|297=0|") == 1 && given("131=A3|297=0|") == 1,
           "what is given again is the same");
-    open.was_given("INV2", report("131=A3|297=0|"));
-    check(open.all().size() == 2, "of two investors each has a request of that name");
+    check(given("131=A3|297=0|", "INV2") == 2, "of two investors each has a request of that name");
 }
 
 Delivery delivery(std::string type, std::string body) {

@@ -187,13 +187,14 @@ void Follower::venue_starts() {
 
 void Follower::venue_gave(const AnsweredEntry &entry, std::string name, std::string frame,
                           std::optional<VenueNote> note) {
-    day_.open_requests.was_given(name, frame);
-    day_.shown_quotes.was_given(name, frame);
-    day_.live_quotes.was_given(entry.line, name, frame);
+    const GivenFields fields(frame);
+    day_.open_requests.was_given(name, fields);
+    day_.shown_quotes.was_given(name, fields);
+    day_.live_quotes.was_given(entry.line, name, fields);
     if (note && note->kind == VenueNote::Kind::trade) {
         day_.trades.add(note->name);
     }
-    const std::uint32_t number = number_of(value_in(frame, "34")).value_or(0);
+    const std::uint32_t number = number_of(fields.number).value_or(0);
     if (number != ++given_[name]) {
         throw std::runtime_error(fmt::format("the venue gave {} message {} where {} was due", name,
                                              number, given_[name]));
@@ -203,7 +204,7 @@ void Follower::venue_gave(const AnsweredEntry &entry, std::string name, std::str
         told = told_by(*note, name, number, reasons_, day_.config.firms.date);
     }
     GivenMessage message{number, entry.place, static_cast<std::uint32_t>(entry.moment.milliseconds),
-                         std::string(value_in(frame, "35")),
+                         std::string(fields.type),
                          for_wire(frame, number, entry.number, told_field(told))};
     MessageSink *const sink = sink_;
     if (sink == nullptr && number > day_.session_notes.noted(name)) {

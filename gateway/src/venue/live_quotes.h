@@ -2,6 +2,8 @@
 #ifndef GATEWAY_VENUE_LIVE_QUOTES_H
 #define GATEWAY_VENUE_LIVE_QUOTES_H
 
+#include "venue/given_fields.h"
+
 #include <map>
 #include <mutex>
 #include <string>
@@ -22,7 +24,7 @@ class LiveQuotes {
     };
 
     // A message of the venue to a firm, as it gave it for the entry of this line; one thread.
-    void was_given(std::string_view line, const std::string &firm, std::string_view frame);
+    void was_given(std::string_view line, const std::string &firm, const GivenFields &message);
     // Those of a dealer, in the order of their entries; of any thread.
     std::vector<Live> of(const std::string &firm) const;
 

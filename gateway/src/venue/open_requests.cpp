@@ -1,25 +1,22 @@
 #include "venue/open_requests.h"
 
-#include "common/frame.h"
-
 namespace gateway {
 
 // docs/FORMATS.md, "Written messages": an investor is told of its request itself without 117 and
 // 453, and a report with 693 is of its hit or its pass.
-void OpenRequests::was_given(const std::string &firm, std::string_view frame) {
-    if (value_in(frame, "35") != "AI" || !value_in(frame, "453").empty()) {
+void OpenRequests::was_given(const std::string &firm, const GivenFields &message) {
+    if (message.type != "AI" || !message.dealers.empty()) {
         return;
     }
-    const std::string_view request = value_in(frame, "131");
-    const std::string_view status = value_in(frame, "297");
-    const bool of_response = !value_in(frame, "693").empty();
-    if (request.empty() || (!of_response && !value_in(frame, "117").empty())) {
+    const std::string_view status = message.status;
+    const bool of_response = !message.response.empty();
+    if (message.request.empty() || (!of_response && !message.quote.empty())) {
         return;
     }
     const std::lock_guard lock(mutex_);
-    const std::pair key(firm, std::string(request));
+    const std::pair key(firm, std::string(message.request));
     if (!of_response && status == "0") {
-        const std::string_view moment = value_in(frame, "52");
+        const std::string_view moment = message.moment;
         open_[key] = moment.substr(moment.find('-') + 1);
     } else if (status == "7" || (of_response && (status == "0" || status == "11"))) {
         open_.erase(key);

@@ -2,6 +2,8 @@
 #ifndef GATEWAY_VENUE_OPEN_REQUESTS_H
 #define GATEWAY_VENUE_OPEN_REQUESTS_H
 
+#include "venue/given_fields.h"
+
 #include <map>
 #include <mutex>
 #include <string>
@@ -23,7 +25,7 @@ class OpenRequests {
     };
 
     // A message of the venue to a firm, as it gave it; one thread.
-    void was_given(const std::string &firm, std::string_view frame);
+    void was_given(const std::string &firm, const GivenFields &message);
     // By investor, and by name; of any thread.
     std::vector<Open> all() const;
     bool are_none() const;

@@ -2,7 +2,7 @@
 #ifndef GATEWAY_VENUE_SHOWN_QUOTES_H
 #define GATEWAY_VENUE_SHOWN_QUOTES_H
 
-#include "common/frame.h"
+#include "venue/given_fields.h"
 
 #include <map>
 #include <mutex>
@@ -18,13 +18,13 @@ namespace gateway {
 class ShownQuotes {
   public:
     // A message of the venue to a firm, as it gave it; one thread.
-    void was_given(const std::string &firm, std::string_view frame) {
-        if (value_in(frame, "35") != "S") {
+    void was_given(const std::string &firm, const GivenFields &message) {
+        if (message.type != "S") {
             return;
         }
         const std::lock_guard lock(mutex_);
-        const std::string &bond = *bonds_.emplace(value_in(frame, "48")).first;
-        quotes_[{firm, std::string(value_in(frame, "117"))}] = &bond;
+        const std::string &bond = *bonds_.emplace(message.bond).first;
+        quotes_[{firm, std::string(message.quote)}] = &bond;
     }
     // The bond of the quote that an investor names; empty where it was shown none of this name. Of
     // any thread.
