@@ -1,5 +1,6 @@
 """The gateway as a service: what it tells systemd, and what /health and /ready say."""
 
+import errno
 import fcntl
 import os
 import shutil
@@ -20,6 +21,7 @@ import pytest
 from tests.gateway.door import Door
 from tests.gateway.stage import DEALER, Stage
 from tests.gateway.test_logon import context, with_tls
+from tests.gateway.test_reasons import behind
 from tests.gateway.wait import LONG, until
 from tests.harness.clock import Clock
 from tests.limits.flood import logged_on
@@ -28,6 +30,15 @@ from tests.operating.test_week import ENDS, OPENS, Week, first_friday
 
 DAY = 86_400  # seconds from midnight to midnight in UTC
 SILENCE = 15  # seconds after which a part that does not work is told of (gateway/README.md)
+
+# The venue's program. It reads no firm's message as long as there is a pipe `may-read` beside it, which somebody holds.
+WAITING = r"""#!/bin/sh
+case " $* " in *" live "*) ;; *) exec "$@" ;; esac
+while IFS= read -r line; do
+    case $line in hex*) [ ! -p "${0%/*}/may-read" ] || read -r _ <"${0%/*}/may-read" ;; esac
+    printf '%s\n' "$line"
+done | "$@"
+"""
 
 
 @dataclass
@@ -405,11 +416,46 @@ def test_a_journal_that_takes_nothing(stage: Stage) -> None:
             until("it says how many", LONG, is_told)
 
 
+@dataclass
+class Gate:
+    """A pipe at which the venue waits, until it is open."""
+
+    pipe: Path
+    held: int | None = None
+
+    def is_reached(self) -> bool:
+        """Whether the venue reads; it is held from then on."""
+        try:
+            self.held = os.open(self.pipe, os.O_WRONLY | os.O_NONBLOCK)
+        except OSError as fault:
+            assert fault.errno == errno.ENXIO, fault  # nobody reads
+        return self.held is not None
+
+    def open(self) -> None:
+        held = os.open(self.pipe, os.O_RDWR) if self.held is None else self.held
+        self.pipe.unlink()
+        os.close(held)
+
+
 def test_ready(stage: Stage) -> None:
-    stage.open()
+    """Once the venue has read the log, and not before: only then may firms log on."""
+    stage.door.programs = behind(WAITING, stage.folder, stage.tools).programs
+    stage.open(stage.dealer)
+    stage.ping(stage.dealer)
+    assert stage.door.stop() == 0, stage.door.last_words()
+    gate = Gate(stage.folder / "program" / "may-read")
+    os.mkfifo(gate.pipe)
+    try:
+        stage.door.start()
+        until("the venue has the first message", LONG, gate.is_reached)
+        status, line = asked(stage.door, "/ready")
+        assert status == 503 and not line.startswith("ready"), line
+    finally:
+        gate.open()
+    stage.door.wait_open()
+    until("it is ready", LONG, lambda: asked(stage.door, "/ready")[0] == 200)
+    assert asked(stage.door, "/ready")[1].startswith("ready: ")
     assert asked(stage.door, "/health")[0] == 200
-    status, line = asked(stage.door, "/ready")
-    assert status == 200 and line.startswith("ready: "), line
     assert stage.counters()["mireseason_ready"] == 1
     assert stage.counters()["mireseason_healthy"] == 1
 
