@@ -185,8 +185,17 @@ def act_and_kill(
     victim.start()
 
 
+def sent_request(investor: View) -> str:
+    """A request that the desk has sent, and that nobody has answered; its name."""
+    before = set(investor.requests)
+    words: Json = {"bond": "BONDA0000001", "side": "buy", "quantity": 1_000_000, "seconds": 600}
+    assert investor.act(do="ask", dealers=["DLR1"], **words) == ""
+    investor.until("the request is sent", lambda: len(investor.requests) > len(before))
+    return next(name for name in investor.requests if name not in before)
+
+
 def test_what_could_not_be_delivered_never_is(house: House) -> None:
-    """A quote and a hit that a stopped gateway did not read are told as never delivered; a cancel goes."""
+    """A quote, a hit and a request that a stopped gateway did not read are told as never delivered; a cancel goes."""
     investor, dealer, asked, shown = one_open(house)
     dealer.quote(shown, 99 * POINT)
     investor.until("the quote", lambda: investor.requests[asked]["quotes"])
@@ -202,6 +211,7 @@ def test_what_could_not_be_delivered_never_is(house: House) -> None:
     )
     assert dealer.act(do="withdraw", request=shown) == ""
     assert "Wait" in investor.hit(asked, "DLR1")
+    late = sent_request(investor)
     dealer.until("both are sent", lambda: len(dealer.requests[shown]["pending"]) == 2)
     sent = time.monotonic()
     until("it is too old", LONG, lambda: time.monotonic() > sent + DELIVERED_WITHIN + 1)
@@ -214,9 +224,11 @@ def test_what_could_not_be_delivered_never_is(house: House) -> None:
     for view in (investor, dealer):
         view.wait_on()
     investor.until("the hit is settled", lambda: not investor.requests[asked]["pending"])
+    investor.until("the request is settled", lambda: investor.requests[late]["state"] != "sent")
     dealer.until("the dealer's are settled", lambda: not dealer.requests[shown]["pending"])
     assert investor.requests[asked]["state"] == "open"
     assert "never delivered" in investor.requests[asked]["told"]["text"]
+    assert investor.requests[late]["state"] == "undelivered"
     states = [quote["state"] for quote in dealer.requests[shown]["quotes"]]
     assert states == ["withdrawn", "undelivered"], states
     investor.until(
