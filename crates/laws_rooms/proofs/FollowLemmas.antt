@@ -1,9 +1,10 @@
--- What an action leaves to be told of one dealer's answers: just those that take effect in the room by it.
-use Rattle.std.proofs.Common.{◌≡◌, ◌==◌, ◌&&◌, ℕ, Bool, true, false, List, [], ◌∷◌, ◌++◌, map, filter_map}
-use Rattle.std.proofs.Common.{Option, Some, None, IfSome, option_map, refl, sym, ap, ◌∙◌, subst, inl, inr}
+-- What an action leaves to be told of one dealer's quotes, withdrawals and declines: just those that take
+-- effect in the room by it.
+use Rattle.std.proofs.Common.{◌≡◌, ◌==◌, ◌&&◌, ◌⊎◌, ℕ, Bool, true, false, not, List, [], ◌∷◌, ◌++◌, map, filter_map}
+use Rattle.std.proofs.Common.{Option, Some, None, IfSome, is_some, option_map, refl, sym, ap, ◌∙◌, subst, inl, inr}
 use Rattle.std.proofs.Common.{if◌then◌else◌}
 use Rattle.std.specs.List.{cons_option}
-use Rattle.std.proofs.lemmas.Bool.{cases_Bool, eq-eqb}
+use Rattle.std.proofs.lemmas.Bool.{and_parts, cases_Bool, eq-eqb, not-true}
 use Rattle.dealer_desk.specs.DealerOutput.{is_same_room}
 use Rattle.dealer_desk.specs.declared.verdicts.DealerVerdict.{DealerVerdict}
 use Rattle.dealer_desk.specs.declared.verdicts.DealerVerdict.TheVariants as said
@@ -12,6 +13,7 @@ use Rattle.market_terms.specs.declared.duties.Duty.TheVariants as duty
 use Rattle.market_terms.specs.declared.rooms.RoomRef.{RoomRef}
 use Rattle.venue_rows.specs.Rows.{Configuration, dealer_numbered, has_room}
 use Rattle.venue_rows.specs.declared.dealer_rows.DealerRow.{DealerRow}
+use Rattle.venue_places.specs.Dealers.{dealer_of, has_word_for, word_for}
 use Rattle.venue_places.specs.declared.actors.Actor.{Actor}
 use Rattle.venue_places.specs.declared.actors.Actor.TheVariants as actor
 use Rattle.venue_steps.specs.RoomSteps.{where_follows}
@@ -20,13 +22,14 @@ use Rattle.investor_desk.specs.InvestorOutput as investor_output
 use Rattle.investor_desk.specs.InvestorRules.{InvestorMarket, investor_verdict}
 use Rattle.investor_desk.specs.declared.verdicts.InvestorVerdict.{InvestorVerdict}
 use Rattle.investor_desk.specs.declared.verdicts.InvestorVerdict.TheVariants as asks
-use Rattle.request_room.specs.Book.{event_facts, quote_posted, where_so}
-use Rattle.request_room.specs.RoomFacts.{Noted, Posted, RoomFact, hears, takes_quotes}
+use Rattle.request_room.specs.Book.{book_of, event_facts, expired, may_unpost, quote_posted, stands, where_so}
+use Rattle.request_room.specs.RoomFacts.{Ended, Noted, Posted, RoomFact, Unposted, hears, is_ended, request_of}
+use Rattle.request_room.specs.RoomFacts.{takes_quotes}
 use Rattle.request_room.specs.declared.quotes.PostedQuote.{PostedQuote}
-use Rattle.step_replay.specs.Actions.{Effect, declined_by, nothing, verdict_on}
+use Rattle.step_replay.specs.Actions.{Effect, declined_by, nothing, unposted_by, verdict_on}
 use Rattle.step_replay.specs.AuditTrail.{AuditTrail, is_same_actor}
 use Rattle.step_replay.specs.DealerTrail.{rooms_by}
-use Rattle.step_replay.specs.DutyEffects.{duty_effect, message_effect}
+use Rattle.step_replay.specs.DutyEffects.{duty_effect, message_effect, sweep_effect}
 use Rattle.step_replay.specs.GrowthLemmas.{same_room}
 use Rattle.step_replay.specs.Lists.{Every}
 use Rattle.step_replay.specs.PlaceLemmas.{other_room, own_room}
@@ -38,56 +41,55 @@ use Rattle.day_parts.specs.MayLeave.{MayLeave, MaySay}
 use Rattle.venue_laws.specs.Conditions.{is_met}
 use Rattle.venue_laws.proofs.VenueInvariant.{DutyOk}
 use Rattle.venue_laws.proofs.VenueKnown.{room_self}
-use Rattle.laws_rooms.specs.Answered.{Answer, Declines, Quotes, answers_in}
+use Rattle.laws_rooms.specs.Answered.{Answer, Declines, Quotes, Withdraws, answers_in}
 use Rattle.laws_rooms.specs.Offers.{quotes_in}
-use Rattle.laws_rooms.proofs.AnswerLemmas.{Goes, late, quiet, takes, turn_mine, turn_other}
+use Rattle.laws_rooms.specs.Tellings.{change_in, changes_in}
+use Rattle.laws_rooms.proofs.AnswerLemmas.{Goes, late, quiet, takes, turn_mine}
 use Rattle.laws_rooms.proofs.OfferLemmas.{post_same, relays}
 use Rattle.laws_rooms.proofs.ReplyDuties.{none_of}
-use Rattle.laws_rooms.proofs.RoomWalk.{duty_adds}
+use Rattle.laws_rooms.proofs.RoomWalk.{MayAdd, duty_adds, message_adds, sweep_adds}
+use Rattle.laws_rooms.proofs.TurnLists.{Fit, IsNoUnpost, plain_fit, same_changes, stands_after, stands_live}
 
--- what says nothing of answers adds none
-pub goes_none : (dealer : ℕ) (known added : List RoomFact) → Goes dealer known added []
-    → answers_in dealer added ≡ []
-goes_none dealer known added (quiet none no_items) = none
-goes_none dealer known added (takes says live) = says
-goes_none dealer known added (late none ended) = none
+-- a fact that is no decline and takes out no quote
+abbrev IsPosting : RoomFact → Type 0
+IsPosting (Noted dealer) = ⊥
+IsPosting (Unposted dealer word) = ⊥
+IsPosting other = Unit {0}
 
--- a fact that notes no decline
-abbrev IsNotNoted : RoomFact → Type 0
-IsNotNoted (Noted dealer) = ⊥
-IsNotNoted other = Unit {0}
-
--- where none is noted the answers are quotes
-quotes_alone : (dealer : ℕ) (facts : List RoomFact) → Every IsNotNoted facts
-    → answers_in dealer facts ≡ map Quotes (quotes_in dealer facts)
+-- where there is none of them what takes effect are quotes
+quotes_alone : (dealer : ℕ) (facts : List RoomFact) → Every IsPosting facts
+    → changes_in dealer facts ≡ map Quotes (quotes_in dealer facts)
 quotes_alone dealer [] every = refl
 quotes_alone dealer (Posted quote ∷ facts) every = elim (cases_Bool (quote.dealer == dealer)) [
   | inl same ↦ rw same (ap (λ (l : List Answer). Quotes quote ∷ l) (quotes_alone dealer facts every.1))
   | inr differs ↦ rw differs (quotes_alone dealer facts every.1)
 ]
 quotes_alone dealer (Noted other ∷ facts) every = absurd every.0
+quotes_alone dealer (Unposted other word ∷ facts) every = absurd every.0
 quotes_alone dealer (fact ∷ facts) every = quotes_alone dealer facts every.1
 
 module _ (dealer : ℕ) (config : Configuration) (row : DealerRow)
     (is : dealer_numbered config dealer ≡ Some row) (room : RoomRef) where
-  -- the answer that a duty tells, where it is of this room
+  -- what a duty tells, where it is of this room
   abbrev pub tells_of : Duty → Option Answer
   tells_of (duty.Relay at offer moment) =
       if is_same_room at room
       then Some (Quotes (quote_posted dealer offer.word offer.price offer.valid_until))
       else None
+  tells_of (duty.Gone at word moment) = if is_same_room at room then Some (Withdraws word) else None
   tells_of (duty.Declined at moment) = if is_same_room at room then Some Declines else None
   tells_of other = None
 
   abbrev pub tellings : List Duty → List Answer
   tellings duties = filter_map tells_of duties
 
-  abbrev pub IsNoDecline : Duty → Type 0
-  IsNoDecline (duty.Declined at moment) = ⊥
-  IsNoDecline other = Unit {0}
+  abbrev pub IsRelaying : Duty → Type 0
+  IsRelaying (duty.Gone at word moment) = ⊥
+  IsRelaying (duty.Declined at moment) = ⊥
+  IsRelaying other = Unit {0}
 
-  -- where no decline is told what is told are quotes
-  pub relays_alone : (duties : List Duty) → Every IsNoDecline duties
+  -- where no decline and no withdrawal is told what is told are quotes
+  pub relays_alone : (duties : List Duty) → Every IsRelaying duties
       → tellings duties ≡ map Quotes (relays dealer config row is room duties)
   relays_alone [] every = refl
   relays_alone (duty.Relay at offer moment ∷ duties) every = elim (cases_Bool (is_same_room at room)) [
@@ -95,36 +97,58 @@ module _ (dealer : ℕ) (config : Configuration) (row : DealerRow)
         Quotes (quote_posted dealer offer.word offer.price offer.valid_until) ∷ l) (relays_alone duties every.1))
     | inr differs ↦ rw differs (relays_alone duties every.1)
   ]
+  relays_alone (duty.Gone at word moment ∷ duties) every = absurd every.0
   relays_alone (duty.Declined at moment ∷ duties) every = absurd every.0
   relays_alone (other ∷ duties) every = relays_alone duties every.1
 
   -- what is left to be told is what takes effect
-  pub record Follows (effect : Effect) : Type 0 where
-    pub same : tellings effect.duties ≡ answers_in dealer (of_room room effect.facts)
+  record Same (effect : Effect) : Type 0 where
+    pub same : tellings effect.duties ≡ changes_in dealer (of_room room effect.facts)
 
-  idle : Follows nothing
+  idle : Same nothing
   unfolding of_room
   idle = record { same = refl }
+
+  none_idle : of_room room [] ≡ []
+  unfolding of_room
+  none_idle = refl
 
   module _ (facts : List Fact) where
     abbrev known : List RoomFact
     known = of_room room facts
 
-    post_follows : (at : RoomRef) (quote price : ℕ) (until : Option ℕ) (moment : ℕ)
-        → Follows (duty_effect config facts (actor.Firm dealer) (duty.Post at quote price until moment))
-    post_follows at quote price until moment =
+    abbrev changes : List RoomFact → List Answer
+    changes some = changes_in dealer some
+
+    abbrev added : Effect → List RoomFact
+    added effect = of_room room effect.facts
+
+    -- It fits what stands: each withdrawal is of the quote that stands. And it takes effect while the room
+    -- goes on.
+
+    abbrev pub FitsOn : Effect → Type 0
+    FitsOn effect = Fit None (changes known) → Fit (stands_after None (changes known)) (changes (added effect))
+
+    abbrev pub TakesOpen : Effect → Type 0
+    TakesOpen effect = (changes (added effect) ≡ []) ⊎ (is_ended known ≡ false)
+
+    post_same_too : (at : RoomRef) (quote price : ℕ) (until : Option ℕ) (moment : ℕ)
+        → Same (duty_effect config facts (actor.Firm dealer) (duty.Post at quote price until moment))
+    post_same_too at quote price until moment =
         let d = duty.Post at quote price until moment in
         let effect = duty_effect config facts (actor.Firm dealer) d in
         record {
           same = relays_alone effect.duties
-              (all_left IsNoDecline config facts (actor.Firm dealer) d (λ offer. tt)).each
+              (all_left IsRelaying config facts (actor.Firm dealer) d (λ offer. tt)).each
               ∙ ap (λ (l : List PostedQuote). map Quotes l)
               (post_same dealer config row is room facts at quote price until moment).same
               ∙ sym (quotes_alone dealer (of_room room effect.facts)
-              (duty_adds IsNotNoted config facts room (actor.Firm dealer) d (λ found row_is. tt)).each);
+              (duty_adds IsPosting config facts room (actor.Firm dealer) d (λ found row_is. tt)).each);
         }
 
-    here : (moment : ℕ) (is_room hears_it takes_it : Bool) → Follows (if is_room && hears_it
+    -- A decline.
+
+    here : (moment : ℕ) (is_room hears_it takes_it : Bool) → Same (if is_room && hears_it
         then record {
           facts = map (InRoom room) (where_so takes_it (Noted dealer));
           duties = where_follows (hears_it && takes_it) (duty.Declined room moment);
@@ -135,15 +159,15 @@ module _ (dealer : ℕ) (config : Configuration) (row : DealerRow)
         record {
           same = ap (λ (b : Bool). cons_option (if b then Some Declines else None) []) (room_self room)
               ∙ sym (ap (λ (b : Bool). cons_option (if b then Some Declines else None) []) own)
-              ∙ sym (ap (λ (l : List RoomFact). answers_in dealer l) (own_room room (Noted dealer ∷ [])));
+              ∙ sym (ap (λ (l : List RoomFact). changes_in dealer l) (own_room room (Noted dealer ∷ [])));
         }
     here moment true true false =
-        record { same = sym (ap (λ (l : List RoomFact). answers_in dealer l) (own_room room [])) }
+        record { same = sym (ap (λ (l : List RoomFact). changes_in dealer l) (own_room room [])) }
     here moment true false takes_it = idle
     here moment false hears_it takes_it = idle
 
     away : (at : RoomRef) → is_same_room at room ≡ false → (moment : ℕ) (is_room hears_it takes_it : Bool)
-        → Follows (if is_room && hears_it
+        → Same (if is_room && hears_it
         then record {
           facts = map (InRoom at) (where_so takes_it (Noted dealer));
           duties = where_follows (hears_it && takes_it) (duty.Declined at moment);
@@ -152,7 +176,7 @@ module _ (dealer : ℕ) (config : Configuration) (row : DealerRow)
     away at differs moment true true takes_it =
         record {
           same = none takes_it
-              ∙ sym (ap (λ (l : List RoomFact). answers_in dealer l)
+              ∙ sym (ap (λ (l : List RoomFact). changes_in dealer l)
               (other_room room at differs (where_so takes_it (Noted dealer))));
         }
       where
@@ -162,22 +186,108 @@ module _ (dealer : ℕ) (config : Configuration) (row : DealerRow)
     away at differs moment true false takes_it = idle
     away at differs moment false hears_it takes_it = idle
 
-    decline_follows : (at : RoomRef) (moment : ℕ)
-        → Follows (duty_effect config facts (actor.Firm dealer) (duty.Decline at moment))
+    decline_same : (at : RoomRef) (moment : ℕ)
+        → Same (duty_effect config facts (actor.Firm dealer) (duty.Decline at moment))
     unfolding duty_effect event_facts
-    decline_follows at moment = elim (cases_Bool (is_same_room at room)) [
-      | inl same ↦ numbered_does Follows idle config dealer (declined_by config facts at moment)
+    decline_same at moment = elim (cases_Bool (is_same_room at room)) [
+      | inl same ↦ numbered_does Same idle config dealer (declined_by config facts at moment)
           (λ found row_is. subst (λ (r : RoomRef).
-          Follows (declined_by config facts r moment (record { number = dealer; row = found })))
+          Same (declined_by config facts r moment (record { number = dealer; row = found })))
           (sym (same_room at room same))
           (here moment (has_room config room.investor room.n) (hears known dealer) (takes_quotes known)))
-      | inr differs ↦ numbered_does Follows idle config dealer (declined_by config facts at moment)
+      | inr differs ↦ numbered_does Same idle config dealer (declined_by config facts at moment)
           (λ found row_is. away at differs moment (has_room config at.investor at.n)
           (hears (of_room at facts) dealer) (takes_quotes (of_room at facts)))
     ]
 
+    -- A quote that is taken out.
+
+    record Unposts (effect : Effect) : Type 0 where
+      pub same : tellings effect.duties ≡ changes (added effect)
+      pub fit : FitsOn effect
+      pub takes_open : TakesOpen effect
+
+    none_unposts : (effect : Effect) → tellings effect.duties ≡ [] → changes (added effect) ≡ [] → Unposts effect
+    none_unposts effect untold none = record {
+      same = untold ∙ sym none;
+      fit = λ fits. subst (Fit (stands_after None (changes known))) (sym none) tt;
+      takes_open = inl none;
+    }
+
+    idle_unposts : Unposts nothing
+    idle_unposts = none_unposts nothing refl (ap (λ (l : List RoomFact). changes l) none_idle)
+
+    module _ (quote moment : ℕ) (found : DealerRow) where
+      abbrev its_word : ℕ
+      its_word = word_for config (dealer_of dealer found) quote
+
+      gone_here : (is_room has_word hears_it may_it : Bool) → may_unpost known dealer its_word ≡ may_it
+          → Unposts (if is_room && (has_word && hears_it)
+          then record {
+            facts = map (InRoom room) (where_so may_it (Unposted dealer its_word));
+            duties = where_follows (hears_it && may_it) (duty.Gone room its_word moment);
+          }
+          else nothing)
+      gone_here true true true true may =
+          let own : (dealer == dealer) ≡ true = eq-eqb dealer dealer refl in
+          let parts = and_parts (takes_quotes known) (stands (book_of known) dealer its_word) may in
+          let open_yet = and_parts (is_some (request_of known)) (not (is_ended known)) parts.0 in
+          let one : changes (of_room room (map (InRoom room) (Unposted dealer its_word ∷ []))) ≡ Withdraws its_word ∷ [] =
+          ap (λ (l : List RoomFact). changes l) (own_room room (Unposted dealer its_word ∷ []))
+          ∙ ap (λ (b : Bool). cons_option (if b then Some (Withdraws its_word) else None) []) own in
+          record {
+            same = ap (λ (b : Bool). cons_option (if b then Some (Withdraws its_word) else None) []) (room_self room)
+                ∙ sym one;
+            fit = λ fits. subst (Fit (stands_after None (changes known))) (sym one)
+                (stands_live dealer its_word known None fits parts.1, tt);
+            takes_open = inr (not-true (is_ended known) open_yet.1);
+          }
+      gone_here true true true false may =
+          none_unposts _ refl (ap (λ (l : List RoomFact). changes l) (own_room room []))
+      gone_here true true false may_it may = idle_unposts
+      gone_here true false hears_it may_it may = idle_unposts
+      gone_here false has_word hears_it may_it may = idle_unposts
+
+      gone_away : (at : RoomRef) → is_same_room at room ≡ false → (is_room has_word hears_it may_it : Bool)
+          → Unposts (if is_room && (has_word && hears_it)
+          then record {
+            facts = map (InRoom at) (where_so may_it (Unposted dealer its_word));
+            duties = where_follows (hears_it && may_it) (duty.Gone at its_word moment);
+          }
+          else nothing)
+      gone_away at differs true true true may_it =
+          none_unposts _ (none may_it) (ap (λ (l : List RoomFact). changes l)
+          (other_room room at differs (where_so may_it (Unposted dealer its_word))))
+        where
+          none : (b : Bool) → tellings (where_follows b (duty.Gone at its_word moment)) ≡ []
+          none true = rw differs refl
+          none false = refl
+      gone_away at differs true true false may_it = idle_unposts
+      gone_away at differs true false hears_it may_it = idle_unposts
+      gone_away at differs false has_word hears_it may_it = idle_unposts
+
+    unpost_takes : (at : RoomRef) (quote moment : ℕ)
+        → Unposts (duty_effect config facts (actor.Firm dealer) (duty.Unpost at quote moment))
+    unfolding duty_effect event_facts
+    unpost_takes at quote moment = elim (cases_Bool (is_same_room at room)) [
+      | inl same ↦ numbered_does Unposts idle_unposts config dealer (unposted_by config facts at quote moment)
+          (λ found row_is. subst (λ (r : RoomRef).
+          Unposts (unposted_by config facts r quote moment (dealer_of dealer found)))
+          (sym (same_room at room same))
+          (gone_here quote moment found (has_room config room.investor room.n)
+          (has_word_for config (dealer_of dealer found) quote) (hears known dealer)
+          (may_unpost known dealer (word_for config (dealer_of dealer found) quote)) refl))
+      | inr differs ↦ numbered_does Unposts idle_unposts config dealer (unposted_by config facts at quote moment)
+          (λ found row_is. gone_away quote moment found at differs (has_room config at.investor at.n)
+          (has_word_for config (dealer_of dealer found) quote) (hears (of_room at facts) dealer)
+          (may_unpost (of_room at facts) dealer (word_for config (dealer_of dealer found) quote)))
+    ]
+
+    -- All others.
+
     abbrev IsQuiet : Duty → Type 0
     IsQuiet (duty.Post at quote price until moment) = ⊥
+    IsQuiet (duty.Unpost at quote moment) = ⊥
     IsQuiet (duty.Decline at moment) = ⊥
     IsQuiet other = Unit {0}
 
@@ -198,7 +308,7 @@ module _ (dealer : ℕ) (config : Configuration) (row : DealerRow)
         may a (duty.Ready at moment) so = tt
         may a (duty.Post at quote price until moment) so = absurd so
         may a (duty.Relay at offer moment) so = tt
-        may a (duty.Unpost at quote moment) so = λ word. refl
+        may a (duty.Unpost at quote moment) so = absurd so
         may a (duty.Gone at word moment) so = tt
         may a (duty.Decline at moment) so = absurd so
         may a (duty.Declined at moment) so = tt
@@ -233,21 +343,121 @@ module _ (dealer : ℕ) (config : Configuration) (row : DealerRow)
         asks_none moment market (asks.Passes request response) = refl
         asks_none moment market other = tt
 
-    pub mine_follows : (venue : AuditTrail) → venue.facts ≡ facts → (by : Actor) (d : Duty)
-        → DutyOk config by d venue → is_met config facts by d ≡ true → by ≡ actor.Firm dealer
-        → Follows (duty_effect config facts by d)
-    mine_follows venue at_facts by (duty.Post at quote price until moment) ok fit one =
-        subst (λ (a : Actor). Follows (duty_effect config facts a (duty.Post at quote price until moment))) (sym one)
-        (post_follows at quote price until moment)
-    mine_follows venue at_facts by (duty.Decline at moment) ok fit one =
-        subst (λ (a : Actor). Follows (duty_effect config facts a (duty.Decline at moment))) (sym one)
-        (decline_follows at moment)
-    mine_follows venue at_facts by other ok fit one = record {
-      same = tells_none by other tt
-          ∙ sym (goes_none dealer known _
-          (turn_mine dealer config row is room facts venue at_facts by other ok fit one));
-    }
+    -- a fact that says nothing of this dealer
+    abbrev SaysNot : RoomFact → Type 0
+    SaysNot fact = change_in dealer fact ≡ None
+
+    changes_none : (some : List RoomFact) → Every SaysNot some → changes some ≡ []
+    changes_none some every = none_of (change_in dealer) some every
+
+    quiet_adds : (by : Actor) (d : Duty) → IsQuiet d → MayAdd SaysNot config facts room by d
+    quiet_adds by (duty.Open at ask dealers moment) so = refl
+    quiet_adds by (duty.Ready at moment) so = refl
+    quiet_adds by (duty.Post at quote price until moment) so = absurd so
+    quiet_adds by (duty.Unpost at quote moment) so = absurd so
+    quiet_adds by (duty.Decline at moment) so = absurd so
+    quiet_adds by (duty.Hit at response word moment) so = λ end. refl
+    quiet_adds by (duty.Pass at response moment) so = refl
+    quiet_adds by other so = tt
+
+    quiet_none : (by : Actor) (d : Duty) → IsQuiet d → changes (added (duty_effect config facts by d)) ≡ []
+    quiet_none by d isnt =
+        changes_none (added (duty_effect config facts by d))
+        (duty_adds SaysNot config facts room by d (quiet_adds by d isnt)).each
+
+    other_adds : (by : Actor) → is_same_actor by (actor.Firm dealer) ≡ false → (d : Duty)
+        → MayAdd SaysNot config facts room by d
+    other_adds by differs (duty.Open at ask dealers moment) = refl
+    other_adds by differs (duty.Ready at moment) = refl
+    other_adds (actor.Firm number) differs (duty.Post at quote price until moment) = λ found row_is. rw differs refl
+    other_adds actor.Clock differs (duty.Post at quote price until moment) = tt
+    other_adds (actor.Firm number) differs (duty.Unpost at quote moment) = λ found row_is. rw differs refl
+    other_adds actor.Clock differs (duty.Unpost at quote moment) = tt
+    other_adds (actor.Firm number) differs (duty.Decline at moment) = λ found row_is. rw differs refl
+    other_adds actor.Clock differs (duty.Decline at moment) = tt
+    other_adds by differs (duty.Hit at response word moment) = λ end. refl
+    other_adds by differs (duty.Pass at response moment) = refl
+    other_adds by differs other = tt
 
     pub others_none : (by : Actor) (d : Duty) → is_same_actor by (actor.Firm dealer) ≡ false
-        → answers_in dealer (of_room room (duty_effect config facts by d).facts) ≡ []
-    others_none by d differs = goes_none dealer known _ (turn_other dealer config row is room facts by d differs)
+        → changes (added (duty_effect config facts by d)) ≡ []
+    others_none by d differs =
+        changes_none (added (duty_effect config facts by d))
+        (duty_adds SaysNot config facts room by d (other_adds by differs d)).each
+
+    pub message_none : (firm moment : ℕ) (bytes : List ℕ)
+        → changes (added (message_effect config facts firm moment bytes)) ≡ []
+    message_none firm moment bytes =
+        changes_none (added (message_effect config facts firm moment bytes))
+        (message_adds SaysNot config facts room firm moment bytes).each
+
+    pub sweep_none : (at : RoomRef) (moment : ℕ) → changes (added (sweep_effect config facts at moment)) ≡ []
+    sweep_none at moment =
+        changes_none (added (sweep_effect config facts at moment))
+        (sweep_adds SaysNot config facts room at moment refl).each
+
+    -- what adds none fits
+    pub none_fits : (effect : Effect) → changes (added effect) ≡ [] → FitsOn effect
+    none_fits effect none = λ fits. subst (Fit (stands_after None (changes known))) (sym none) tt
+
+    -- A duty of the dealer.
+
+    -- what an action of the dealer leaves to be told is what takes effect, and that fits
+    pub record Follows (effect : Effect) : Type 0 where
+      pub same : tellings effect.duties ≡ changes (added effect)
+      pub fit : FitsOn effect
+
+    pub mine_follows : (by : Actor) (d : Duty) → by ≡ actor.Firm dealer → Follows (duty_effect config facts by d)
+    mine_follows by (duty.Post at quote price until moment) one =
+        subst (λ (a : Actor). Follows (duty_effect config facts a (duty.Post at quote price until moment))) (sym one)
+        (record {
+          same = (post_same_too at quote price until moment).same;
+          fit = λ fits. plain_fit dealer (stands_after None (changes known))
+              (added (duty_effect config facts (actor.Firm dealer) (duty.Post at quote price until moment)))
+              (duty_adds IsNoUnpost config facts room (actor.Firm dealer)
+              (duty.Post at quote price until moment) (λ found row_is. tt)).each;
+        })
+    mine_follows by (duty.Decline at moment) one =
+        subst (λ (a : Actor). Follows (duty_effect config facts a (duty.Decline at moment))) (sym one)
+        (record {
+          same = (decline_same at moment).same;
+          fit = λ fits. plain_fit dealer (stands_after None (changes known))
+              (added (duty_effect config facts (actor.Firm dealer) (duty.Decline at moment)))
+              (duty_adds IsNoUnpost config facts room (actor.Firm dealer) (duty.Decline at moment)
+              (λ found row_is. tt)).each;
+        })
+    mine_follows by (duty.Unpost at quote moment) one =
+        subst (λ (a : Actor). Follows (duty_effect config facts a (duty.Unpost at quote moment))) (sym one)
+        (record { same = (unpost_takes at quote moment).same; fit = (unpost_takes at quote moment).fit })
+    mine_follows by other one = record {
+      same = tells_none by other tt ∙ sym (quiet_none by other tt);
+      fit = none_fits (duty_effect config facts by other) (quiet_none by other tt);
+    }
+
+    by_goes : (some : List RoomFact) (items : List Answer) → changes some ≡ answers_in dealer some
+        → Goes dealer known some items → (changes some ≡ []) ⊎ (is_ended known ≡ false)
+    by_goes some items same (quiet none no_items) = inl (same ∙ none)
+    by_goes some items same (takes says lives) = inr lives
+    by_goes some items same (late none ended) = inl (same ∙ none)
+
+    pub mine_opens : (venue : AuditTrail) → venue.facts ≡ facts → (by : Actor) (d : Duty)
+        → DutyOk config by d venue → is_met config facts by d ≡ true → by ≡ actor.Firm dealer
+        → TakesOpen (duty_effect config facts by d)
+    mine_opens venue at_facts by (duty.Unpost at quote moment) ok fit one =
+        subst (λ (a : Actor). TakesOpen (duty_effect config facts a (duty.Unpost at quote moment))) (sym one)
+        (unpost_takes at quote moment).takes_open
+    mine_opens venue at_facts by (duty.Post at quote price until moment) ok fit one =
+        by_goes (added (duty_effect config facts by (duty.Post at quote price until moment))) _
+        (subst (λ (a : Actor). changes (added (duty_effect config facts a (duty.Post at quote price until moment)))
+        ≡ answers_in dealer (added (duty_effect config facts a (duty.Post at quote price until moment)))) (sym one)
+        (same_changes dealer _ (duty_adds IsNoUnpost config facts room (actor.Firm dealer)
+        (duty.Post at quote price until moment) (λ found row_is. tt)).each))
+        (turn_mine dealer config row is room facts venue at_facts by (duty.Post at quote price until moment) ok fit one)
+    mine_opens venue at_facts by (duty.Decline at moment) ok fit one =
+        by_goes (added (duty_effect config facts by (duty.Decline at moment))) _
+        (subst (λ (a : Actor). changes (added (duty_effect config facts a (duty.Decline at moment)))
+        ≡ answers_in dealer (added (duty_effect config facts a (duty.Decline at moment)))) (sym one)
+        (same_changes dealer _ (duty_adds IsNoUnpost config facts room (actor.Firm dealer)
+        (duty.Decline at moment) (λ found row_is. tt)).each))
+        (turn_mine dealer config row is room facts venue at_facts by (duty.Decline at moment) ok fit one)
+    mine_opens venue at_facts by other ok fit one = inl (quiet_none by other tt)

@@ -9,17 +9,19 @@ use Rattle.market_terms.specs.declared.duties.Duty.{Duty}
 use Rattle.market_terms.specs.declared.duties.Duty.TheVariants as duty
 use Rattle.market_terms.specs.declared.rooms.RoomRef.{RoomRef}
 use Rattle.request_room.specs.RoomFacts.{RoomFact, is_ended}
-use Rattle.venue_rows.specs.Rows.{Configuration, dealer_numbered, investor_numbered, may_request}
+use Rattle.venue_rows.specs.Rows.{Configuration, KeepsLimits, dealer_numbered, investor_numbered, may_request}
 use Rattle.venue_rows.specs.declared.dealer_rows.DealerRow.{DealerRow}
 use Rattle.venue_rows.specs.declared.investor_rows.InvestorRow.{InvestorRow}
 use Rattle.venue_places.specs.declared.actors.Actor.{Actor}
 use Rattle.venue_places.specs.declared.actors.Actor.TheVariants as actor
 use Rattle.investor_desk.specs.InvestorDesk.{market_of}
+use Rattle.investor_desk.specs.InvestorFacts.{request_numbered}
 use Rattle.step_replay.specs.Actions.{Effect}
 use Rattle.step_replay.specs.AuditTrail.{AuditTrail, after_turn, is_same_actor, pending, after_step}
 use Rattle.step_replay.specs.AuditTrail.{audit_trail}
 use Rattle.step_replay.specs.DutyEffects.{duty_effect, message_effect, sweep_effect}
 use Rattle.step_replay.specs.InvestorTrail.{InvestorEntry, facts_of}
+use Rattle.step_replay.specs.Lists.{Every}
 use Rattle.step_replay.specs.PlaceLemmas.{behind_dealers, room_grown}
 use Rattle.step_replay.specs.QueueLemmas.{same_actor}
 use Rattle.step_replay.specs.VenueFacts.{Fact, of_investor, of_room}
@@ -33,14 +35,15 @@ use Rattle.venue_laws.proofs.VenueParts.{did_in, duties_by, later_same}
 use Rattle.venue_laws.proofs.VenueSteps.{Here, day}
 use Rattle.venue_laws.proofs.VenueTurns.{beside, doing_now, turn, turns_of}
 use Rattle.laws_rooms.specs.Answered.{Answer, answers_in}
-use Rattle.laws_rooms.specs.Tellings.{Tell, AreAllTold, IsLive}
-use Rattle.laws_rooms.proofs.AnswerLemmas.{Goes, late, quiet, takes, turn_mine}
+use Rattle.laws_rooms.specs.Tellings.{AreAllTold, AreAllToldInTurn, IsLive, TellAll, TellQuotes, as_told, changes_in}
 use Rattle.laws_rooms.proofs.EndLemmas.{NoEnding, ended_split, ends_none, message_ends_none}
-use Rattle.laws_rooms.proofs.FollowLemmas.{mine_follows, tellings, tells_of}
+use Rattle.laws_rooms.proofs.FollowLemmas.{TakesOpen, mine_follows, mine_opens, tellings, tells_of}
+use Rattle.laws_rooms.proofs.GoneDays.{desk_fits}
 use Rattle.laws_rooms.proofs.ShutLemmas.{shut_in}
-use Rattle.laws_rooms.proofs.TellingDays.{shown_ok, left_are}
-use Rattle.laws_rooms.proofs.TellingLemmas.{Brings, duly, idly, message_brings, mine_brings, none_then}
-use Rattle.laws_rooms.proofs.TellingLemmas.{others_bring, sweep_brings, tell_then, vainly}
+use Rattle.laws_rooms.proofs.TellingDays.{all_kept, done_fits, gone_ok, shown_ok}
+use Rattle.laws_rooms.proofs.TellingLemmas.{Brings, DeskFits, GoneOk, Heard, Hears, duly, heard_still, heard_then}
+use Rattle.laws_rooms.proofs.TellingLemmas.{idly, message_brings, mine_brings, others_bring, sweep_brings, vainly}
+use Rattle.laws_rooms.proofs.TurnLists.{Fit, plain_changes, plains}
 use Rattle.laws_rooms.proofs.TurnShares.{anothers, its_own, share}
 use Rattle.std.proofs.lemmas.List.Concat.{flat_map-append}
 use Rattle.step_replay.specs.LiveDays.{actor_of, live_steps, live_trail, with_turns}
@@ -82,11 +85,12 @@ module _ (lone : LoneQuotes) (words : WordsOfDay) (config : Configuration) (deal
   abbrev BringsOf : List Fact → List Fact → List Answer → Type 0
   BringsOf facts added items = Brings dealer config row is room investor is_investor facts added items
 
-  -- what is told by these entries, where these facts stand
-  abbrev TellOf : List Fact → List Answer → List InvestorEntry → Type 0
-  TellOf facts answers entries =
-      Tell config (market_of config room.investor investor) dealer row.name room.n (facts_of (trail facts)) answers
-      entries
+  -- what these facts tell, and what is added behind them
+  abbrev HeardOf : List Fact → List Answer → Type 0
+  HeardOf facts told = Heard dealer config row is room investor is_investor facts told
+
+  abbrev HearsOf : List Fact → List Fact → List Answer → Type 0
+  HearsOf facts added items = Hears dealer config row is room investor is_investor facts added items
 
   telling_both : (duties more : List Duty) → telling (duties ++ more) ≡ telling duties ++ telling more
   telling_both duties more = filter_map-append (tells_of dealer config row is room) duties more
@@ -100,11 +104,11 @@ module _ (lone : LoneQuotes) (words : WordsOfDay) (config : Configuration) (deal
   record Live (acts : Actor) (venue : AuditTrail) : Type 0 where
     pub idle : (other : Actor) → is_same_actor acts other ≡ false
         → did_in venue other ≡ duties_by other venue.caused
-    pub all : TellOf venue.facts (telling (did_in venue me)) (trail venue.facts)
+    pub all : HeardOf venue.facts (telling (did_in venue me))
     pub waits : Waits venue
 
   -- what brings nothing tells nothing
-  brings_none : (facts added : List Fact) → BringsOf facts added [] → TellOf facts [] (trail added)
+  brings_none : (facts added : List Fact) → BringsOf facts added [] → HearsOf facts added []
   brings_none facts added (idly none no_items) = none
   brings_none facts added (duly tell live) = tell
   brings_none facts added (vainly none closed) = none
@@ -112,20 +116,25 @@ module _ (lone : LoneQuotes) (words : WordsOfDay) (config : Configuration) (deal
   -- what is done while the request is open is told
   brings_all : (facts added : List Fact) (items : List Answer)
       → (shut_in room.n (facts_of (trail facts)) ≡ true → items ≡ []) → BringsOf facts added items
-      → TellOf facts items (trail added)
+      → HearsOf facts added items
   brings_all facts added items open_yet (idly none no_items) =
-      subst (λ (l : List Answer). TellOf facts l (trail added)) (sym no_items) none
+      subst (λ (l : List Answer). HearsOf facts added l) (sym no_items) none
   brings_all facts added items open_yet (duly tell live) = tell
   brings_all facts added items open_yet (vainly none closed) =
-      subst (λ (l : List Answer). TellOf facts l (trail added)) (sym (open_yet closed)) none
+      subst (λ (l : List Answer). HearsOf facts added l) (sym (open_yet closed)) none
 
   -- what an action has to bring
   record Adds (h : Here) (effect : Effect) : Type 0 where
-    pub mine : h.by ≡ me → TellOf h.venue.facts (telling (doing_now h.venue h.by h.doing)) (trail effect.facts)
+    pub mine : h.by ≡ me → HearsOf h.venue.facts effect.facts (telling (doing_now h.venue h.by h.doing))
         × Waits (day h effect)
-    pub others : is_same_actor h.by me ≡ false → TellOf h.venue.facts [] (trail effect.facts)
+    pub others : is_same_actor h.by me ≡ false → HearsOf h.venue.facts effect.facts []
 
-  module _ (h : Here) (effect : Effect) (adds : Adds h effect) (live : Live h.by h.venue) where
+  -- what was done fits
+  abbrev DoneFits : AuditTrail → Type 0
+  DoneFits venue = Fit None (telling (did_in venue me))
+
+  module _ (h : Here) (effect : Effect) (adds : Adds h effect) (live : Live h.by h.venue)
+      (fits : DoneFits (day h effect)) where
     abbrev then_day : AuditTrail
     then_day = day h effect
 
@@ -138,19 +147,21 @@ module _ (lone : LoneQuotes) (words : WordsOfDay) (config : Configuration) (deal
           did_is ∙ ap (λ (l : List Duty). l ++ []) (live.idle other differs) ∙ sym left_is
     ]
 
-    all_then : TellOf then_day.facts (telling (did_in then_day me)) (trail then_day.facts)
+    all_then : HeardOf then_day.facts (telling (did_in then_day me))
     all_then = elim (share h effect me) [
       | its_own one did_is left_is ↦
-          subst (λ (l : List Answer). TellOf then_day.facts l (trail then_day.facts))
-          (sym (ap (λ (l : List Duty). telling l) did_is
-          ∙ telling_both (did_in h.venue me) (doing_now h.venue h.by h.doing)))
-          (tell_then dealer config row is room investor is_investor h.venue.facts effect.facts
-          (telling (did_in h.venue me)) (telling (doing_now h.venue h.by h.doing)) live.all (adds.mine one).0)
+          (let doing = doing_now h.venue h.by h.doing in
+          let both : telling (did_in then_day me) ≡ telling (did_in h.venue me) ++ telling doing =
+          ap (λ (l : List Duty). telling l) did_is ∙ telling_both (did_in h.venue me) doing in
+          subst (λ (l : List Answer). HeardOf then_day.facts l) (sym both)
+          (heard_then dealer config row is room investor is_investor h.venue.facts effect.facts
+          (telling (did_in h.venue me)) (telling doing) (subst (Fit None) both fits) live.all (adds.mine one).0))
       | anothers differs did_is left_is ↦
-          subst (λ (l : List Answer). TellOf then_day.facts l (trail then_day.facts))
-          (sym (ap (λ (l : List Duty). telling l) (did_is ∙ append-nil (did_in h.venue me))))
-          (none_then dealer config row is room investor is_investor h.venue.facts effect.facts
-          (telling (did_in h.venue me)) live.all (adds.others differs))
+          (let same : telling (did_in then_day me) ≡ telling (did_in h.venue me) =
+          ap (λ (l : List Duty). telling l) (did_is ∙ append-nil (did_in h.venue me)) in
+          subst (λ (l : List Answer). HeardOf then_day.facts l) (sym same)
+          (heard_still dealer config row is room investor is_investor h.venue.facts effect.facts
+          (telling (did_in h.venue me)) (subst (Fit None) same fits) live.all (adds.others differs)))
     ]
 
     waits_then : Waits then_day
@@ -199,6 +210,8 @@ module _ (lone : LoneQuotes) (words : WordsOfDay) (config : Configuration) (deal
 
   module _ (venue : AuditTrail) (stood : VenueOk config venue) (showed : DayOk config venue)
       (closes_so : shut_in room.n (facts_of (trail venue.facts)) ≡ true → is_ended (known venue.facts) ≡ true)
+      (desk : DeskFits dealer config row is room investor is_investor venue.facts)
+      (gones : (a : Actor) → Every (GoneOk config a) (duties_by a venue.caused))
       (by : Actor) (d : Duty) (rest : List Duty) (waits : pending by venue ≡ d ∷ rest) where
     abbrev here : Here
     here = record { config = config; venue = venue; stood = stood; by = by; doing = turn d rest waits }
@@ -256,12 +269,11 @@ module _ (lone : LoneQuotes) (words : WordsOfDay) (config : Configuration) (deal
               ∙ sym (ap (λ (l : List Duty). telling l) did_is))
         ]
 
-        by_goes : (items : List Answer) → Goes dealer (known venue.facts) (known brought.facts) items
-            → telling brought.duties ≡ answers_in dealer (known brought.facts) → NoEnding d
+        by_opens : TakesOpen dealer config row is room venue.facts brought
+            → telling brought.duties ≡ changes_in dealer (known brought.facts) → NoEnding d
             → Waits (day here brought)
-        by_goes items (quiet none no_answer) follows isnt = none_left (follows ∙ none) isnt
-        by_goes items (takes says lives) follows isnt = inr (on_then lives isnt)
-        by_goes items (late none ended) follows isnt = none_left (follows ∙ none) isnt
+        by_opens (inl none) follows isnt = none_left (follows ∙ none) isnt
+        by_opens (inr lives) follows isnt = inr (on_then lives isnt)
 
     turn_adds : Live by venue → Adds here brought
     turn_adds live =
@@ -270,32 +282,38 @@ module _ (lone : LoneQuotes) (words : WordsOfDay) (config : Configuration) (deal
         let fit = met stood by words d ok fits.1 in
         let shows = shown_ok lone words config dealer row is room investor is_investor venue stood showed by d rest
         waits in
+        let gone = gone_ok lone words config dealer row is room investor is_investor venue stood showed by d rest
+        waits gones in
         record {
           mine = λ one. (
             brings_all venue.facts brought.facts (telling (d ∷ [])) (open_yet one live)
-                (mine_brings dealer config row is room investor is_investor venue.facts by d shows fit one),
+                (mine_brings dealer config row is room investor is_investor venue.facts desk by d shows gone fit one),
             elim (share here brought me) [
               | its_own same did_is left_is ↦
-                  by_goes one live did_is left_is _
-                  (turn_mine dealer config row is room venue.facts venue refl by d ok fit one)
-                  (mine_follows dealer config row is room venue.facts venue refl by d ok fit one).same
+                  by_opens one live did_is left_is
+                  (mine_opens dealer config row is room venue.facts venue refl by d ok fit one)
+                  (mine_follows dealer config row is room venue.facts by d one).same
                   (ends_nothing d ok one)
               | anothers differs did_is left_is ↦ absurd (false≢true (sym differs
                   ∙ ap (λ (a : Actor). is_same_actor a me) one ∙ same_actor me))
             ],
           );
           others = λ differs. brings_none venue.facts brought.facts
-              (others_bring dealer config row is room investor is_investor venue.facts by d shows differs);
+              (others_bring dealer config row is room investor is_investor venue.facts desk by d shows gone fit differs);
         }
 
   turn_live : (venue : AuditTrail) (stood : VenueOk config venue) (showed : DayOk config venue)
       → (shut_in room.n (facts_of (trail venue.facts)) ≡ true → is_ended (known venue.facts) ≡ true)
-      → (by : Actor) (duties : List Duty) → pending by venue ≡ duties → Live by venue
+      → DeskFits dealer config row is room investor is_investor venue.facts
+      → ((a : Actor) → Every (GoneOk config a) (duties_by a venue.caused))
+      → (by : Actor) (duties : List Duty) → pending by venue ≡ duties
+      → DoneFits (after_turn config by venue duties) → Live by venue
       → Live by (after_turn config by venue duties)
-  turn_live venue stood showed closes_so by [] waits live = live
-  turn_live venue stood showed closes_so by (d ∷ rest) waits live =
-      live_then (here venue stood showed closes_so by d rest waits) (brought venue stood showed closes_so by d rest waits)
-      (turn_adds venue stood showed closes_so by d rest waits live) live
+  turn_live venue stood showed closes_so desk gones by [] waits fits live = live
+  turn_live venue stood showed closes_so desk gones by (d ∷ rest) waits fits live =
+      live_then (here venue stood showed closes_so desk gones by d rest waits)
+      (brought venue stood showed closes_so desk gones by d rest waits)
+      (turn_adds venue stood showed closes_so desk gones by d rest waits live) live fits
 
   -- A message and a sweep.
 
@@ -304,11 +322,13 @@ module _ (lone : LoneQuotes) (words : WordsOfDay) (config : Configuration) (deal
       record { config = config; venue = venue; stood = stood; by = by; doing = beside }
 
   message_live : (venue : AuditTrail) (stood : VenueOk config venue) (firm moment : ℕ) (bytes : List ℕ)
+      → DoneFits
+      (day (here_beside venue stood (actor.Firm firm)) (message_effect config venue.facts firm moment bytes))
       → Live (actor.Firm firm) venue
       → Live (actor.Firm firm)
       (day (here_beside venue stood (actor.Firm firm)) (message_effect config venue.facts firm moment bytes))
-  message_live venue stood firm moment bytes live =
-      live_then acts effect (record { mine = λ one. (tells, waits one); others = λ differs. tells }) live
+  message_live venue stood firm moment bytes fits live =
+      live_then acts effect (record { mine = λ one. (tells, waits one); others = λ differs. tells }) live fits
     where
       effect : Effect
       effect = message_effect config venue.facts firm moment bytes
@@ -316,7 +336,7 @@ module _ (lone : LoneQuotes) (words : WordsOfDay) (config : Configuration) (deal
       acts : Here
       acts = here_beside venue stood (actor.Firm firm)
 
-      tells : TellOf venue.facts [] (trail effect.facts)
+      tells : HearsOf venue.facts effect.facts []
       tells = brings_none venue.facts effect.facts
           (message_brings dealer config row is room investor is_investor venue.facts firm moment bytes)
 
@@ -337,31 +357,45 @@ module _ (lone : LoneQuotes) (words : WordsOfDay) (config : Configuration) (deal
       ]
 
   sweep_live : (venue : AuditTrail) (stood : VenueOk config venue) (at : RoomRef) (moment : ℕ)
+      → DoneFits (day (here_beside venue stood actor.Clock) (sweep_effect config venue.facts at moment))
       → Live actor.Clock venue
       → Live actor.Clock (day (here_beside venue stood actor.Clock) (sweep_effect config venue.facts at moment))
-  sweep_live venue stood at moment live =
+  sweep_live venue stood at moment fits live =
       live_then (here_beside venue stood actor.Clock) (sweep_effect config venue.facts at moment)
       (record {
         mine = λ one. cc;
         others = λ differs. brings_none venue.facts _
             (sweep_brings dealer config row is room investor is_investor venue.facts at moment);
-      }) live
+      }) live fits
 
-  step_live : (steps : List Step) (more : Step) → Live (actor_of more) (audit_trail config steps)
+  -- what was done fits after every list of steps
+  fits_after : (steps : List Step) → DoneFits (audit_trail config steps)
+  fits_after steps =
+      let kept = all_kept lone words config dealer row is room investor is_investor untold steps in
+      done_fits lone words config dealer row is room investor is_investor (audit_trail config steps)
+      (subst (Fit None) (sym kept.left) kept.fit)
+
+  step_live : (steps : List Step) (more : Step) → DoneFits (after_step config (audit_trail config steps) more)
+      → Live (actor_of more) (audit_trail config steps)
       → Live (actor_of more) (after_step config (audit_trail config steps) more)
   unfolding after_step
-  step_live steps (step.In firm moment bytes) live =
-      message_live (audit_trail config steps) (venue_ok lone words config steps) firm moment bytes live
-  step_live steps (step.Turn by) live =
+  step_live steps (step.In firm moment bytes) fits live =
+      message_live (audit_trail config steps) (venue_ok lone words config steps) firm moment bytes fits live
+  step_live steps (step.Turn by) fits live =
       turn_live (audit_trail config steps) (venue_ok lone words config steps) (day_ok config steps)
-      (shut_ended lone words config room steps) by (pending by (audit_trail config steps)) refl live
-  step_live steps (step.Expire at moment) live =
-      sweep_live (audit_trail config steps) (venue_ok lone words config steps) at moment live
+      (shut_ended lone words config room steps)
+      (desk_fits config dealer row is room investor is_investor steps)
+      (all_kept lone words config dealer row is room investor is_investor untold steps).gones by
+      (pending by (audit_trail config steps)) refl fits live
+  step_live steps (step.Expire at moment) fits live =
+      sweep_live (audit_trail config steps) (venue_ok lone words config steps) at moment fits live
 
   more_live : (steps : List Step) (more : Step) → Live (actor_of more) (audit_trail config steps)
       → Live (actor_of more) (audit_trail config (steps ++ more ∷ []))
   more_live steps more live =
-      subst (Live (actor_of more)) (sym (one_more lone words config steps more)) (step_live steps more live)
+      subst (Live (actor_of more)) (sym (one_more lone words config steps more))
+      (step_live steps more (subst DoneFits (one_more lone words config steps more) (fits_after (steps ++ more ∷ [])))
+      live)
 
   turns_live : (acts : Actor) (steps : List Step) (count : ℕ) → Live acts (audit_trail config steps)
       → Live acts (audit_trail config (steps ++ replicate count (step.Turn acts)))
@@ -375,7 +409,7 @@ module _ (lone : LoneQuotes) (words : WordsOfDay) (config : Configuration) (deal
   -- A day.
 
   abbrev AllTold : AuditTrail → Type 0
-  AllTold venue = TellOf venue.facts (telling (did_in venue me)) (trail venue.facts)
+  AllTold venue = HeardOf venue.facts (telling (did_in venue me))
 
   all_steps : (steps : List Step) (next : Step) → live_steps (steps ++ next ∷ [])
       ≡ (live_steps steps ++ next ∷ []) ++ replicate MOST_TURNS_BEHIND (step.Turn (actor_of next))
@@ -409,19 +443,35 @@ module _ (lone : LoneQuotes) (words : WordsOfDay) (config : Configuration) (deal
       (next_told before next (live before (next ∷ steps) refl) told))
 
   start_told : AllTold (live_trail config [])
-  unfolding audit_trail of_investor
-  start_told = refl
+  unfolding audit_trail of_investor request_numbered
+  start_told = record { quotes = refl; all = λ limits. (tt, refl) }
 
-  pub live_told : (steps : List Step) → IsLive config steps
-      → AreAllTold config (market_of config room.investor investor) dealer row.name room.n
-      (known (live_trail config steps).facts) (trail (live_trail config steps).facts)
-  live_told steps live =
-      let venue = live_trail config steps in
-      let done = did_all lone words config (live_steps steps)
-      (live steps [] (sym (append-nil steps))) room me in
-      record {
-        tell = subst (λ (l : List Answer). TellOf venue.facts l (trail venue.facts))
-            (ap (λ (l : List Duty). telling l) done
-            ∙ left_are lone words config dealer row is room investor is_investor untold (live_steps steps))
-            (steps_told [] steps live start_told);
-      }
+  module _ (steps : List Step) (live : IsLive config steps) where
+    abbrev at_end : AuditTrail
+    at_end = live_trail config steps
+
+    done_are : telling (did_in at_end me) ≡ changes_in dealer (known at_end.facts)
+    done_are =
+        ap (λ (l : List Duty). telling l) (did_all lone words config (live_steps steps)
+        (live steps [] (sym (append-nil steps))) room me)
+        ∙ (all_kept lone words config dealer row is room investor is_investor untold (live_steps steps)).left
+
+    told_at_end : AllTold at_end
+    told_at_end = steps_told [] steps live start_told
+
+    pub live_told : AreAllTold config (market_of config room.investor investor) dealer row.name room.n
+        (known at_end.facts) (trail at_end.facts)
+    live_told = record {
+      tell = subst (λ (l : List Answer). TellQuotes config (market_of config room.investor investor) dealer row.name
+          room.n (facts_of (trail at_end.facts)) l (trail at_end.facts))
+          (ap (λ (l : List Answer). plains l) done_are ∙ plain_changes dealer (known at_end.facts))
+          told_at_end.quotes;
+    }
+
+    pub live_in_turn : KeepsLimits config → AreAllToldInTurn config (market_of config room.investor investor) dealer
+        row.name room.n (known at_end.facts) (trail at_end.facts)
+    live_in_turn limits = record {
+      tell = subst (λ (l : List Answer). TellAll config (market_of config room.investor investor) dealer row.name
+          room.n (facts_of (trail at_end.facts)) (as_told None l) (trail at_end.facts)) done_are
+          (told_at_end.all limits).0;
+    }

@@ -68,7 +68,7 @@ use Rattle.laws_rooms.proofs.TellLemmas.{market_grown}
 
 abbrev only_quote : Answer → Option PostedQuote
 only_quote (Quotes quote) = Some quote
-only_quote Declines = None
+only_quote other = None
 
 quotes_are : (dealer : ℕ) (facts : List RoomFact)
     → quotes_in dealer facts ≡ filter_map only_quote (answers_in dealer facts)

@@ -1,5 +1,5 @@
--- What a dealer answers on a request, a quote or that it declines: as its messages leave it, and as it
--- takes effect in the room of the request.
+-- What a dealer answers on a request: its quotes and declines as its messages leave them, and as they take
+-- effect in the room of the request. (Of withdrawals `Tellings` speaks.)
 use Rattle.std.specs.Prelude.{◌≡◌, ℕ, ◌==◌, false, List, [], ◌++◌, ◌∷◌, filter_map, Option, Some, None}
 use Rattle.std.specs.Prelude.{if◌then◌else◌}
 use Rattle.dealer_desk.specs.DealerOutput.{is_same_room}
@@ -17,14 +17,16 @@ use Rattle.venue_places.specs.Dealers.{dealer_of, word_for}
 use Rattle.venue_rows.specs.Rows.{Configuration}
 use Rattle.venue_rows.specs.declared.dealer_rows.DealerRow.{DealerRow}
 
--- an answer: a quote, by its dealer, its word, its price and its valid-until, or a decline
+-- an answer: a quote, by its dealer, its word, its price and its valid-until, that the quote with a word
+-- is withdrawn, or a decline
 pub data Answer : Type 0 where
   Quotes : PostedQuote → Answer
+  Withdraws : ℕ → Answer
   Declines : Answer
 
 -- What was left.
 
--- the answer that a duty of this dealer brings to this room, where it brings one
+-- the quote or the decline that a duty of this dealer brings to this room, where it brings one
 abbrev pub answer_of : Configuration → ℕ → DealerRow → RoomRef → Duty → Option Answer
 answer_of config dealer row room (duty.Post at quote price valid_until moment) =
     if is_same_room at room
@@ -56,7 +58,7 @@ answers_left config dealer row room steps = left_from config dealer row room no_
 
 -- What took effect.
 
--- the answer of this dealer that a fact of a room says, where it says one
+-- the quote or the decline of this dealer that a fact of a room says, where it says one
 abbrev pub answer_in : ℕ → RoomFact → Option Answer
 answer_in dealer (Posted quote) = if quote.dealer == dealer then Some (Quotes quote) else None
 answer_in dealer (Noted other) = if other == dealer then Some Declines else None

@@ -16,6 +16,9 @@
 //!   told on a request are the first of those that took effect, in their order, and all of them while the
 //!   request is open at its desk.
 //! - [`answers_are_all_told_on_a_live_day`]: on a day whose steps come one by one they are all of them.
+//! - [`each_answer_is_told_in_its_turn`]: then withdrawals are told so too, and a quote that another one
+//!   replaces is gone just before that one is shown.
+//! - [`each_answer_is_told_on_a_live_day`]: on a day whose steps come one by one all of them are.
 //! - [`an_ended_room_is_closed_at_its_desk`]: then the request of a room that has ended is closed at its
 //!   investor's desk.
 //! - [`a_closed_request_has_an_ended_room`]: at each moment, a request that is closed at its investor's desk
@@ -43,6 +46,7 @@ mod responses;
 mod rooms;
 mod shown;
 mod told;
+mod turns;
 
 pub use answers::each_answer_takes_effect_in_its_order;
 pub use asked::each_accepted_request_is_shown;
@@ -56,3 +60,4 @@ pub use responses::each_response_is_answered;
 pub use rooms::no_room_is_left_opening;
 pub use shown::quotes_are_shown_as_they_took_effect;
 pub use told::{answers_are_all_told_on_a_live_day, answers_are_told_as_they_took_effect};
+pub use turns::{each_answer_is_told_in_its_turn, each_answer_is_told_on_a_live_day};

@@ -21,7 +21,8 @@ use dealer_desk::{limits_are_kept, what_is_asked_is_of_the_day};
 /// where it was shown, and a decline where 35=AI with 297=11, the request's 131 and the dealer's
 /// 448 was sent (`specs/Tellings`). It was told all of them while the request is open at its desk.
 ///
-/// It ends at: days on which a duty is left; withdrawals; that no other message says a decline.
+/// It ends at: days on which a duty is left; that no other message says a decline. (Withdrawals:
+/// `laws_rooms::each_answer_is_told_in_its_turn`.)
 pub fn answers_are_told_as_they_took_effect()
     ensures { (config : Configuration) (steps : List Step) (dealer : ℕ) (row : DealerRow)
         (room : RoomRef) (investor : InvestorRow) → dealer_numbered config dealer ≡ Some row
@@ -40,7 +41,8 @@ pub fn answers_are_told_as_they_took_effect()
 ///
 /// The steps of such a day come one by one, and none of them leaves a duty.
 ///
-/// It ends at: withdrawals; that no other message says a decline.
+/// It ends at: that no other message says a decline. (Withdrawals:
+/// `laws_rooms::each_answer_is_told_on_a_live_day`.)
 pub fn answers_are_all_told_on_a_live_day()
     ensures { (config : Configuration) (steps : List Step) (dealer : ℕ) (row : DealerRow)
         (room : RoomRef) (investor : InvestorRow) → dealer_numbered config dealer ≡ Some row
