@@ -133,6 +133,7 @@ ROWS = {
         "laws_rooms::answers_are_all_told_on_a_live_day",
         "laws_rooms::each_answer_is_told_in_its_turn",
         "laws_rooms::each_answer_is_told_on_a_live_day",
+        "laws_rooms::each_quote_that_is_gone_is_reported",
         "laws_rooms::an_ended_room_is_closed_at_its_desk",
         "laws_rooms::a_closed_request_has_an_ended_room",
         "laws_rooms::each_expiry_is_told_once",

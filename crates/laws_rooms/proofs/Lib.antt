@@ -23,6 +23,7 @@ mod OpenWalk
 mod ReplyDays
 mod ReplyDuties
 mod ReplyLemmas
+mod ReportDays
 mod RoomLemmas
 mod RoomWalk
 mod SaidLemmas

@@ -122,7 +122,7 @@ module _ {X : Type 0} (f : ℕ → OutMessage → Option X) where
         ∙ ap (λ (l : List X). items ++ l) other.items_are;
   }
 
-  says_written : (market : InvestorMarket) (number moment : ℕ) (messages : List OutMessage)
+  pub says_written : (market : InvestorMarket) (number moment : ℕ) (messages : List OutMessage)
       → Says market (investor_output.written_from market number moment messages)
       (filter_map (f moment) messages)
   says_written market number moment [] = says_none market

@@ -3,6 +3,7 @@ pub mod Declines
 pub mod Ends
 pub mod Expiries
 pub mod Offers
+pub mod Reports
 pub mod Responses
 pub mod Shown
 pub mod Tellings

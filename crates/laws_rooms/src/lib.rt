@@ -26,6 +26,8 @@
 //! - [`each_quote_comes_to_its_investor`]: then each quote in a room was shown to its investor, or the
 //!   request was closed there.
 //! - [`each_decline_comes_to_its_investor`]: then of each decline in a room, too.
+//! - [`each_quote_that_is_gone_is_reported`]: an investor's messages 297=17 are those of the quotes that are
+//!   gone by the facts at its desk.
 //! - [`each_expiry_is_told_once`]: then 297=7 was sent once for each room that a sweep ended, and for no
 //!   other.
 //! - [`each_response_is_answered`]: then each hit and each pass of an investor was answered, in their
@@ -42,6 +44,7 @@ mod ends;
 mod expiries;
 mod named;
 mod quotes;
+mod reports;
 mod responses;
 mod rooms;
 mod shown;
@@ -56,6 +59,7 @@ pub use ends::an_ended_room_is_closed_at_its_desk;
 pub use expiries::each_expiry_is_told_once;
 pub use named::a_request_is_shown_to_no_other_dealer;
 pub use quotes::each_quote_comes_to_its_investor;
+pub use reports::each_quote_that_is_gone_is_reported;
 pub use responses::each_response_is_answered;
 pub use rooms::no_room_is_left_opening;
 pub use shown::quotes_are_shown_as_they_took_effect;

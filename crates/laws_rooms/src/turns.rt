@@ -23,9 +23,10 @@ use dealer_desk::{limits_are_kept, what_is_asked_is_of_the_day};
 /// gone (`specs/Tellings`). Of a quote that another one of the dealer replaces it was told so just
 /// before that one was shown. It was told all of them while the request is open at its desk.
 ///
-/// It ends at: days on which a duty is left; that no other message says a decline; which message
-/// says that a quote is gone; two firms of one name, which no program takes (`KeepsLimits`); the
-/// dealer's own desk (of quotes and declines `laws_rooms::each_answer_takes_effect_in_its_order`).
+/// It ends at: days on which a duty is left; that no other message says a decline; two firms of one
+/// name, which no program takes (`KeepsLimits`); the dealer's own desk (of quotes and declines
+/// `laws_rooms::each_answer_takes_effect_in_its_order`). (The message that says that a quote is
+/// gone: `laws_rooms::each_quote_that_is_gone_is_reported`.)
 pub fn each_answer_is_told_in_its_turn()
     ensures { (config : Configuration) (steps : List Step) (dealer : ℕ) (row : DealerRow)
         (room : RoomRef) (investor : InvestorRow) → KeepsLimits config
@@ -45,8 +46,8 @@ pub fn each_answer_is_told_in_its_turn()
 ///
 /// The steps of such a day come one by one, and none of them leaves a duty.
 ///
-/// It ends at: that no other message says a decline; which message says that a quote is gone; two
-/// firms of one name, which no program takes (`KeepsLimits`); the dealer's own desk.
+/// It ends at: that no other message says a decline; two firms of one name, which no program takes
+/// (`KeepsLimits`); the dealer's own desk.
 pub fn each_answer_is_told_on_a_live_day()
     ensures { (config : Configuration) (steps : List Step) (dealer : ℕ) (row : DealerRow)
         (room : RoomRef) (investor : InvestorRow) → KeepsLimits config
