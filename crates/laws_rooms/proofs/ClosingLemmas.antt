@@ -1,9 +1,9 @@
 -- What leaves a duty that closes a request at its desk ends the room of the request.
 use Rattle.std.proofs.Common.{◌≡◌, ◌&&◌, ◌||◌, ℕ, Bool, true, false, List, [], ◌∷◌, ◌++◌, map}
-use Rattle.std.proofs.Common.{Option, Some, None, IfSome, refl, sym, ap, ◌∙◌, subst, inl, inr}
+use Rattle.std.proofs.Common.{Option, IfSome, refl, sym, ap, ◌∙◌, subst, inl, inr}
 use Rattle.std.proofs.Common.{if◌then◌else◌, Result, Ok, Err}
 use Rattle.std.specs.List.{list_any}
-use Rattle.std.proofs.lemmas.Bool.{and_parts, cases_Bool, false≢true}
+use Rattle.std.proofs.lemmas.Bool.{cases_Bool, false≢true}
 use Rattle.dealer_desk.specs.DealerOutput.{is_same_room}
 use Rattle.dealer_desk.specs.declared.verdicts.DealerVerdict.{DealerVerdict}
 use Rattle.dealer_desk.specs.declared.verdicts.DealerVerdict.TheVariants as said
@@ -14,11 +14,10 @@ use Rattle.market_terms.specs.declared.rooms.ResponseRef.{ResponseRef}
 use Rattle.market_terms.specs.declared.rooms.RoomRef.{RoomRef}
 use Rattle.quote_word.specs.declared.settled.Settled.{Settled}
 use Rattle.venue_rows.specs.Rows.{Configuration}
-use Rattle.venue_places.specs.Dealers.{QuoteRef, quote_with_word}
+use Rattle.venue_places.specs.Dealers.{quote_with_word}
 use Rattle.venue_places.specs.declared.actors.Actor.{Actor}
 use Rattle.venue_places.specs.declared.actors.Actor.TheVariants as actor
-use Rattle.venue_steps.specs.RoomSteps.{duties_of_expire, duties_of_pass, hit_duties, reply_to_pass, told_in}
-use Rattle.venue_steps.specs.RoomSteps.{told_of_hit}
+use Rattle.venue_steps.specs.RoomSteps.{hit_duties, reply_to_pass, told_in}
 use Rattle.investor_desk.specs.InvestorDesk.{market_of}
 use Rattle.investor_desk.specs.InvestorOutput as investor_output
 use Rattle.investor_desk.specs.InvestorRules.{InvestorMarket, investor_verdict}
@@ -37,7 +36,7 @@ use Rattle.step_replay.specs.VenueFacts.{Fact, InRoom, of_dealer, of_room}
 use Rattle.day_parts.specs.ActionCases.{if_does}
 use Rattle.day_parts.specs.KeptItems.{every_all}
 use Rattle.day_parts.specs.LeftDuties.{duty_leaves as all_left, message_leaves as message_left, sweep_leaves}
-use Rattle.day_parts.specs.MayLeave.{MayLeave, MaySay, outcome_each, told_each}
+use Rattle.day_parts.specs.MayLeave.{MayLeave, MaySay}
 use Rattle.laws_rooms.proofs.EndLemmas.{NoEnding, closes_it, settled}
 use Rattle.laws_rooms.proofs.RoomWalk.{lifted_none}
 

@@ -1,31 +1,30 @@
 -- What ends a room, and what is left and done of its end: its request is closed at the desk of its
 -- investor.
-use Rattle.std.proofs.Common.{◌≡◌, ◌==◌, ◌&&◌, ℕ, Bool, true, false, not, List, [], ◌∷◌, ◌++◌, map}
+use Rattle.std.proofs.Common.{◌≡◌, ◌&&◌, ℕ, Bool, true, false, List, [], ◌∷◌, ◌++◌, map}
 use Rattle.std.proofs.Common.{Option, Some, None, is_none, is_some, option_map, refl, sym, ap, ◌∙◌, subst, inl, inr}
 use Rattle.std.proofs.Common.{◌⊎◌, if◌then◌else◌, Result, Ok, Err}
 use Rattle.std.specs.List.{list_any}
 use Rattle.std.specs.Option.{option_or}
-use Rattle.std.proofs.lemmas.Bool.{and_parts, cases_Bool, eq-eqb, eqb-true, false≢true}
+use Rattle.std.proofs.lemmas.Bool.{and_parts, cases_Bool, false≢true}
 use Rattle.dealer_desk.specs.DealerOutput.{is_same_room}
 use Rattle.market_terms.specs.declared.closes.HitRefusal.{HitRefusal}
 use Rattle.market_terms.specs.declared.closes.Reply.{Reply}
-use Rattle.market_terms.specs.declared.closes.Reply.TheVariants as reply
 use Rattle.market_terms.specs.declared.duties.Duty.{Duty}
 use Rattle.market_terms.specs.declared.duties.Duty.TheVariants as duty
 use Rattle.market_terms.specs.declared.rooms.ResponseRef.{ResponseRef}
 use Rattle.market_terms.specs.declared.rooms.RoomRef.{RoomRef}
 use Rattle.quote_word.specs.declared.settled.Settled.{Settled}
-use Rattle.venue_rows.specs.Rows.{Configuration, has_room, investor_numbered}
+use Rattle.venue_rows.specs.Rows.{Configuration, investor_numbered}
 use Rattle.venue_rows.specs.declared.investor_rows.InvestorRow.{InvestorRow}
-use Rattle.venue_places.specs.Dealers.{QuoteRef, quote_with_word}
+use Rattle.venue_places.specs.Dealers.{quote_with_word}
 use Rattle.venue_places.specs.declared.actors.Actor.{Actor}
 use Rattle.venue_places.specs.declared.actors.Actor.TheVariants as actor
 use Rattle.venue_steps.specs.InvestorSteps.{replies_to}
 use Rattle.venue_steps.specs.RoomSteps.{duties_of_expire, duties_of_pass, hit_duties, hit_word}
 use Rattle.venue_steps.specs.RoomSteps.{reply_to_pass, told_in}
 use Rattle.investor_desk.specs.InvestorDesk.{market_of}
-use Rattle.investor_desk.specs.InvestorFacts.{Asked, Closed, InvestorBook, InvestorFact, StandingRequest, book_of}
-use Rattle.investor_desk.specs.InvestorFacts.{closes, first_said, knows_quote, offer_numbered, request_numbered}
+use Rattle.investor_desk.specs.InvestorFacts.{Closed, InvestorBook, InvestorFact}
+use Rattle.investor_desk.specs.InvestorFacts.{knows_quote, offer_numbered, request_numbered}
 use Rattle.investor_desk.specs.InvestorFacts.{was_shown_on}
 use Rattle.investor_desk.specs.InvestorOutput as investor_output
 use Rattle.investor_desk.specs.declared.events.InvestorEvent.{InvestorEvent}
@@ -42,12 +41,11 @@ use Rattle.step_replay.specs.Actions.{Effect, answer_to_hit, answered_by, at_mar
 use Rattle.step_replay.specs.Actions.{nothing, quote_asked, where_known}
 use Rattle.step_replay.specs.DutyEffects.{duty_effect, message_effect, sweep_effect}
 use Rattle.step_replay.specs.GrowthLemmas.{same_room}
-use Rattle.step_replay.specs.InvestorGrowth.{facts_grown}
 use Rattle.step_replay.specs.InvestorTrail as investor_trail
 use Rattle.step_replay.specs.InvestorTrail.{InvestorEntry}
 use Rattle.step_replay.specs.Lists.{Every}
-use Rattle.step_replay.specs.PlaceLemmas.{investor_grown, other_room, own_investor, own_room, room_grown}
-use Rattle.step_replay.specs.VenueFacts.{AtInvestor, Fact, InRoom, of_investor, of_room}
+use Rattle.step_replay.specs.PlaceLemmas.{other_room, own_room, room_grown}
+use Rattle.step_replay.specs.VenueFacts.{Fact, InRoom, of_investor, of_room}
 use Rattle.day_parts.specs.ActionCases.{if_does}
 use Rattle.trade_laws.specs.Trades.{at_investor as market_facts}
 use Rattle.venue_laws.specs.Conditions.{holds_for, is_known, is_known_to, is_met}

@@ -1,7 +1,7 @@
 -- What an action leaves to be told of one dealer's quotes, withdrawals and declines: just those that take
 -- effect in the room by it.
-use Rattle.std.proofs.Common.{◌≡◌, ◌==◌, ◌&&◌, ◌⊎◌, ℕ, Bool, true, false, not, List, [], ◌∷◌, ◌++◌, map, filter_map}
-use Rattle.std.proofs.Common.{Option, Some, None, IfSome, is_some, option_map, refl, sym, ap, ◌∙◌, subst, inl, inr}
+use Rattle.std.proofs.Common.{◌≡◌, ◌==◌, ◌&&◌, ◌⊎◌, ℕ, Bool, true, false, not, List, [], ◌∷◌, map, filter_map}
+use Rattle.std.proofs.Common.{Option, Some, None, IfSome, is_some, refl, sym, ap, ◌∙◌, subst, inl, inr}
 use Rattle.std.proofs.Common.{if◌then◌else◌}
 use Rattle.std.specs.List.{cons_option}
 use Rattle.std.proofs.lemmas.Bool.{and_parts, cases_Bool, eq-eqb, not-true}
@@ -22,8 +22,8 @@ use Rattle.investor_desk.specs.InvestorOutput as investor_output
 use Rattle.investor_desk.specs.InvestorRules.{InvestorMarket, investor_verdict}
 use Rattle.investor_desk.specs.declared.verdicts.InvestorVerdict.{InvestorVerdict}
 use Rattle.investor_desk.specs.declared.verdicts.InvestorVerdict.TheVariants as asks
-use Rattle.request_room.specs.Book.{book_of, event_facts, expired, may_unpost, quote_posted, stands, where_so}
-use Rattle.request_room.specs.RoomFacts.{Ended, Noted, Posted, RoomFact, Unposted, hears, is_ended, request_of}
+use Rattle.request_room.specs.Book.{book_of, event_facts, may_unpost, quote_posted, stands, where_so}
+use Rattle.request_room.specs.RoomFacts.{Noted, Posted, RoomFact, Unposted, hears, is_ended, request_of}
 use Rattle.request_room.specs.RoomFacts.{takes_quotes}
 use Rattle.request_room.specs.declared.quotes.PostedQuote.{PostedQuote}
 use Rattle.step_replay.specs.Actions.{Effect, declined_by, nothing, unposted_by, verdict_on}

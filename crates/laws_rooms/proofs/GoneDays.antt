@@ -1,7 +1,7 @@
 -- A duty to tell a withdrawal stands in the queue of the dealer whose quote it is; and what stands at the desk
 -- of an investor of the quotes that it was shown.
-use Rattle.std.proofs.Common.{◌≡◌, ◌==◌, ◌&&◌, ℕ, Bool, true, false, nat_le, List, [], ◌∷◌, ◌++◌, map}
-use Rattle.std.proofs.Common.{◌+◌, arith, Option, Some, None, IfSome, is_some, refl, sym, ap, ◌∙◌, subst}
+use Rattle.std.proofs.Common.{◌≡◌, ◌&&◌, ℕ, true, nat_le, List, map}
+use Rattle.std.proofs.Common.{◌+◌, arith, Some, IfSome, refl, sym, ap, ◌∙◌, subst}
 use Rattle.std.proofs.lemmas.Option.{same_Some}
 use Rattle.dealer_desk.specs.DealerFacts.{DealerFact, Quoted}
 use Rattle.dealer_desk.specs.declared.verdicts.DealerVerdict.{DealerVerdict}
@@ -44,7 +44,7 @@ use Rattle.shown_laws.proofs.ShownParts.{DealerOk}
 use Rattle.venue_laws.proofs.VenueInvariant.{DutyOk, UnpostsIn}
 use Rattle.laws_rooms.proofs.GoneLemmas.{of_offer}
 use Rattle.laws_rooms.proofs.NumberDays.{numbered}
-use Rattle.laws_rooms.proofs.TellingLemmas.{DeskFits, GoneOk, GoesBy}
+use Rattle.laws_rooms.proofs.TellingLemmas.{DeskFits, GoneOk}
 
 module _ (config : Configuration) (facts : List Fact) where
   none : (by : Actor) → Leaves (GoneOk config by) nothing

@@ -2,7 +2,7 @@
 -- quote of the dealer stands, it is gone.
 use Rattle.std.proofs.Common.{◌≡◌, ◌==◌, ◌&&◌, ◌+◌, ℕ, Bool, true, false, nat_le, List, [], ◌∷◌, ◌++◌, filter_map, find}
 use Rattle.std.proofs.Common.{Option, Some, None, is_some, option_map, option_to_list, refl, sym, ap, ◌∙◌, subst}
-use Rattle.std.proofs.Common.{inl, inr, ◌⊎◌, if◌then◌else◌, arith}
+use Rattle.std.proofs.Common.{inl, inr, ◌⊎◌, arith}
 use Rattle.std.specs.List.{cons_option}
 use Rattle.std.proofs.lemmas.Bool.{cases_Bool, eq-eqb, eqb-true, false≢true}
 use Rattle.std.proofs.lemmas.List.{append-nil, append_assoc}
@@ -14,7 +14,7 @@ use Rattle.venue_rows.specs.Texts.{same_text}
 use Rattle.venue_rows.specs.declared.dealer_rows.DealerRow.{DealerRow}
 use Rattle.venue_places.specs.Dealers.{QuoteRef, dealer_of, offer_of, quote_with_word}
 use Rattle.investor_desk.specs.InvestorFacts.{Gone, InvestorFact, Offered, StandingRequest, book_of}
-use Rattle.investor_desk.specs.InvestorFacts.{offer_of_dealer, offer_with_word, offers_of, offers_shown}
+use Rattle.investor_desk.specs.InvestorFacts.{offers_of}
 use Rattle.investor_desk.specs.InvestorFacts.{offer_numbered, request_numbered}
 use Rattle.investor_desk.specs.InvestorOutput as investor_output
 use Rattle.investor_desk.specs.InvestorRules.{InvestorMarket}
@@ -26,12 +26,12 @@ use Rattle.step_replay.specs.OwnerLemmas.{owner_among, quote_at}
 use Rattle.shown_laws.proofs.ListLemmas.{AreFrom}
 use Rattle.trade_laws.proofs.NameLemmas.{same_dealer}
 use Rattle.venue_laws.proofs.ListLemmas.{found_in}
-use Rattle.laws_rooms.specs.Answered.{Answer, Declines, Quotes, Withdraws}
+use Rattle.laws_rooms.specs.Answered.{Answer, Quotes, Withdraws}
 use Rattle.laws_rooms.specs.Offers.{is_of, shown_of}
-use Rattle.laws_rooms.specs.Tellings.{IsAnothers, IsIts, IsOther, as_told, gone_first}
+use Rattle.laws_rooms.specs.Tellings.{IsAnothers, IsIts, IsOther, as_told}
 use Rattle.laws_rooms.proofs.DeclineLemmas.{found_there}
 use Rattle.laws_rooms.proofs.FoundLemmas.{found_none, found_one}
-use Rattle.laws_rooms.proofs.StandLemmas.{IsElsewhere, elsewhere_all, found_more, gone_words, kept_words}
+use Rattle.laws_rooms.proofs.StandLemmas.{IsElsewhere, found_more, gone_words, kept_words}
 use Rattle.laws_rooms.proofs.StandLemmas.{number_of, numbered_one, offered_words, stand_in, stand_there}
 use Rattle.laws_rooms.proofs.StandLemmas.{standing_at, words_in}
 use Rattle.laws_rooms.proofs.TellingParts.{FactsSay}

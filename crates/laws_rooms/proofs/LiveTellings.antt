@@ -34,7 +34,7 @@ use Rattle.venue_laws.proofs.VenueKnown.{known_room, pending_ok}
 use Rattle.venue_laws.proofs.VenueParts.{did_in, duties_by, later_same}
 use Rattle.venue_laws.proofs.VenueSteps.{Here, day}
 use Rattle.venue_laws.proofs.VenueTurns.{beside, doing_now, turn, turns_of}
-use Rattle.laws_rooms.specs.Answered.{Answer, answers_in}
+use Rattle.laws_rooms.specs.Answered.{Answer}
 use Rattle.laws_rooms.specs.Tellings.{AreAllTold, AreAllToldInTurn, IsLive, TellAll, TellQuotes, as_told, changes_in}
 use Rattle.laws_rooms.proofs.EndLemmas.{NoEnding, ended_split, ends_none, message_ends_none}
 use Rattle.laws_rooms.proofs.FollowLemmas.{TakesOpen, mine_follows, mine_opens, tellings, tells_of}

@@ -1,5 +1,5 @@
 -- What an action says to an investor of its hits and passes: only an answer to one says anything.
-use Rattle.std.proofs.Common.{◌≡◌, ℕ, true, false, List, [], ◌∷◌, ◌++◌, filter_map}
+use Rattle.std.proofs.Common.{◌≡◌, ℕ, true, List, [], ◌∷◌, ◌++◌, filter_map}
 use Rattle.std.proofs.Common.{Option, Some, None, is_some, option_map, refl, sym, ap, subst}
 use Rattle.std.specs.List.{cons_option}
 use Rattle.std.specs.Option.{option_to_list}

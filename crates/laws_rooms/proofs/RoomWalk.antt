@@ -1,5 +1,5 @@
 -- What each action adds to one room, whatever is to be shown of it: one line a duty.
-use Rattle.std.proofs.Common.{◌≡◌, ◌&&◌, ℕ, Bool, true, false, List, [], ◌∷◌, ◌++◌, map}
+use Rattle.std.proofs.Common.{◌≡◌, ◌&&◌, ℕ, Bool, true, false, List, [], map}
 use Rattle.std.proofs.Common.{Option, Some, None, is_some, option_map, refl, sym, subst, inl, inr}
 use Rattle.std.proofs.Common.{if◌then◌else◌, Result, Ok, Err}
 use Rattle.std.proofs.lemmas.Bool.{cases_Bool}

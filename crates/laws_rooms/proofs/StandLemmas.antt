@@ -1,5 +1,5 @@
 -- The quotes that stand on a request at the desk of its investor, as one fact more comes.
-use Rattle.std.proofs.Common.{◌≡◌, ◌==◌, ◌&&◌, ◌+◌, ℕ, Bool, true, false, not, List, [], ◌∷◌, ◌++◌, filter}
+use Rattle.std.proofs.Common.{◌≡◌, ◌==◌, ◌+◌, ℕ, Bool, true, false, not, List, [], ◌∷◌, ◌++◌, filter}
 use Rattle.std.proofs.Common.{filter_map, find, Option, Some, None, is_some, refl, sym, ap, ◌∙◌, subst}
 use Rattle.std.proofs.Common.{inl, inr, ◌⊎◌, if◌then◌else◌}
 use Rattle.std.specs.List.{list_any}

@@ -37,7 +37,7 @@ use Rattle.venue_laws.proofs.VenueKnown.{pending_ok}
 use Rattle.venue_laws.proofs.VenueParts.{did_in, duties_by, later_same}
 use Rattle.venue_laws.proofs.VenueSteps.{Here, day}
 use Rattle.venue_laws.proofs.VenueTurns.{beside, doing_now, turn, turns_of}
-use Rattle.laws_rooms.specs.Answered.{Answer, answers_in}
+use Rattle.laws_rooms.specs.Answered.{Answer}
 use Rattle.laws_rooms.specs.Tellings.{AreToldFirst, AreToldInTurn, change_in, changes_in}
 use Rattle.laws_rooms.proofs.FollowLemmas.{FitsOn, message_none, mine_follows, none_fits, others_none}
 use Rattle.laws_rooms.proofs.FollowLemmas.{sweep_none, tellings, tells_of}
@@ -46,7 +46,7 @@ use Rattle.laws_rooms.proofs.RoomLemmas.{did_all, one_more}
 use Rattle.laws_rooms.proofs.ShutLemmas.{open_live}
 use Rattle.laws_rooms.proofs.TellingLemmas.{Brings, DeskFits, GoneOk, Told, message_brings, mine_brings}
 use Rattle.laws_rooms.proofs.TellingLemmas.{others_bring, sweep_brings, told_more}
-use Rattle.laws_rooms.proofs.TurnLists.{Fit, fit_both, fit_left, plain, plain_changes, plains, stands_after}
+use Rattle.laws_rooms.proofs.TurnLists.{Fit, fit_both, fit_left, plain, plain_changes, plains}
 use Rattle.laws_rooms.proofs.TurnShares.{anothers, every_then, its_own, share}
 
 module _ (lone : LoneQuotes) (words : WordsOfDay) (config : Configuration) (dealer : ℕ)

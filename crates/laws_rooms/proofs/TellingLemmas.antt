@@ -1,5 +1,5 @@
 -- What an action tells an investor of one dealer's quotes, withdrawals and declines on one request.
-use Rattle.std.proofs.Common.{◌≡◌, ◌==◌, ◌+◌, ◌&&◌, ℕ, Bool, true, false, List, [], ◌∷◌, ◌++◌, map}
+use Rattle.std.proofs.Common.{◌≡◌, ◌==◌, ◌+◌, ℕ, Bool, true, false, List, [], ◌∷◌, ◌++◌, map}
 use Rattle.std.proofs.Common.{Option, Some, None, is_none, is_some, length, option_to_list, refl, sym, ap, ◌∙◌}
 use Rattle.std.proofs.Common.{subst, inl, inr, if◌then◌else◌}
 use Rattle.std.proofs.lemmas.Bool.{and_parts, cases_Bool, eq-eqb, eqb-true, false≢true}
@@ -20,7 +20,7 @@ use Rattle.venue_places.specs.Dealers.{QuoteRef, quote_with_word}
 use Rattle.venue_places.specs.declared.actors.Actor.{Actor}
 use Rattle.venue_places.specs.declared.actors.Actor.TheVariants as actor
 use Rattle.investor_desk.specs.InvestorDesk.{market_of}
-use Rattle.investor_desk.specs.InvestorFacts.{InvestorBook, InvestorFact, Offered, StandingRequest, book_of}
+use Rattle.investor_desk.specs.InvestorFacts.{InvestorBook, InvestorFact, Offered, StandingRequest}
 use Rattle.investor_desk.specs.InvestorFacts.{offer_of_dealer, offer_with_word, offers_of, open_request}
 use Rattle.investor_desk.specs.InvestorFacts.{request_numbered, while_open}
 use Rattle.investor_desk.specs.InvestorOutput as investor_output
@@ -33,7 +33,7 @@ use Rattle.investor_desk.specs.declared.verdicts.InvestorVerdict.{InvestorVerdic
 use Rattle.investor_desk.specs.declared.verdicts.InvestorVerdict.TheVariants as asks
 use Rattle.request_room.specs.Book.{quote_posted}
 use Rattle.request_room.specs.declared.quotes.PostedQuote.{PostedQuote}
-use Rattle.step_replay.specs.Actions.{at_market, nothing}
+use Rattle.step_replay.specs.Actions.{at_market}
 use Rattle.step_replay.specs.AuditTrail.{is_same_actor}
 use Rattle.step_replay.specs.DutyEffects.{duty_effect, message_effect, sweep_effect}
 use Rattle.step_replay.specs.GrowthLemmas.{same_room}
@@ -43,7 +43,7 @@ use Rattle.step_replay.specs.Lists.{Every, In}
 use Rattle.step_replay.specs.OwnerLemmas.{quote_at}
 use Rattle.step_replay.specs.PlaceLemmas.{investor_grown, own_investor}
 use Rattle.step_replay.specs.VenueFacts.{Fact, of_investor}
-use Rattle.shown_laws.proofs.ListLemmas.{AreFrom, some_of}
+use Rattle.shown_laws.proofs.ListLemmas.{AreFrom}
 use Rattle.shown_laws.proofs.ShownMarket.{entries_facts, requests_in}
 use Rattle.shown_laws.proofs.ShownParts.{DutyOk as ShownOk, Relays}
 use Rattle.trade_laws.specs.Trades.{at_investor as market_facts}
@@ -55,7 +55,7 @@ use Rattle.laws_rooms.specs.Responses.{Said, said_to}
 use Rattle.laws_rooms.specs.Tellings.{IsDecline, SaysDecline, TellAll, TellQuotes, as_told}
 use Rattle.laws_rooms.proofs.DeclineLemmas.{found_there}
 use Rattle.laws_rooms.proofs.DeskWalk as desk_walk
-use Rattle.laws_rooms.proofs.FollowLemmas.{relays_alone, tellings}
+use Rattle.laws_rooms.proofs.FollowLemmas.{tellings}
 use Rattle.laws_rooms.proofs.GoneLemmas.{OfDealer, beside, comes, elsewhere_others, of_offer, withdrawn}
 use Rattle.laws_rooms.proofs.GoneLemmas.{withdrawn_beside, word_of, words}
 use Rattle.laws_rooms.proofs.OfferLemmas.{Tells, behind, calm, message_tells, relays, shown, shows, sweep_tells}

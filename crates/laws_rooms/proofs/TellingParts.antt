@@ -19,7 +19,7 @@ use Rattle.shown_laws.proofs.ShownParts.{offers_both}
 use Rattle.venue_laws.proofs.ListLemmas.{find_grown}
 use Rattle.laws_rooms.specs.Answered.{Answer, Declines, Quotes, Withdraws}
 use Rattle.laws_rooms.specs.Offers.{quotes_shown, shown_of}
-use Rattle.laws_rooms.specs.Tellings.{IsAnothers, IsDecline, IsIts, IsOther, SayNone, Says, SaysDecline}
+use Rattle.laws_rooms.specs.Tellings.{IsAnothers, IsIts, IsOther, SayNone, Says, SaysDecline}
 use Rattle.laws_rooms.specs.Tellings.{ShowNone, Tell, TellAll, TellQuotes}
 
 -- Entries that tell.
