@@ -18,8 +18,9 @@ use dealer_desk::{limits_are_kept, what_is_asked_is_of_the_day};
 /// dealer, word, price and valid-until; or the request was closed at the investor's desk
 /// (`specs/Told`).
 ///
-/// It ends at: days on which a duty is left; withdrawals. (The order of quotes:
-/// `laws_rooms::quotes_are_shown_as_they_took_effect`.)
+/// It ends at: days on which a duty is left. (The order of quotes:
+/// `laws_rooms::quotes_are_shown_as_they_took_effect`. Withdrawals:
+/// `laws_rooms::each_answer_is_told_in_its_turn`.)
 pub fn each_quote_comes_to_its_investor()
     ensures { (config : Configuration) (steps : List Step) (room : RoomRef) (quote : PostedQuote)
         → NoDutyIsLeft (venue.audit_trail config steps)

@@ -18,8 +18,9 @@ use dealer_desk::{limits_are_kept, what_is_asked_is_of_the_day};
 /// request are the first of those that took effect in the room, in their order. They are all of them
 /// while the request is open at the investor's desk.
 ///
-/// It ends at: days on which a duty is left; withdrawals. (The place of a decline among the quotes:
-/// `laws_rooms::answers_are_told_as_they_took_effect`.)
+/// It ends at: days on which a duty is left. (The place of a decline among the quotes:
+/// `laws_rooms::answers_are_told_as_they_took_effect`, that of a withdrawal:
+/// `laws_rooms::each_answer_is_told_in_its_turn`.)
 pub fn quotes_are_shown_as_they_took_effect()
     ensures { (config : Configuration) (steps : List Step) (dealer : ℕ) (row : DealerRow)
         (room : RoomRef) → dealer_numbered config dealer ≡ Some row
