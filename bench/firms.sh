@@ -5,9 +5,9 @@
 # what TMPDIR says. Needs what gateway/packages.sh names, PostgreSQL and libpq-dev.
 #
 #     bench/firms.sh [GATEWAY [VENUE WORDS ..]]
-# @figure all that a day accepts (65,536 quotes, 4,096 requests, and a hit of each) from 64 firms, SQLite on a disk, beside one firm's burst at the echo | 4 times, the 99th percentile under 20 ms | load 9: 11,557 messages a second, 3.5 times; 36 ms. Before, at load 17: 7,076; 55 ms. `live --marks` by pipes 57,000. Of a message the firms take 19 us of a processor
-# @figure the same with the log in PostgreSQL and its standby, beside one writer that copies the same batches | 20,000 a second, under 50 ms | load 8: 7,508; 88 ms; the writer 37,560. Before, at load 16: 3,916; 103 ms; 19,832
-# @figure four venues behind one gateway, beside one, each with 64 firms on the same processors | 1.8 times | load 8: 1.13 times (15,142 and 14,821 messages a second, beside 12,372 and 14,274); before 1.33
+# @figure all that a day accepts (65,536 quotes, 4,096 requests, and a hit of each) from 64 firms, SQLite on a disk, beside one firm's burst at the echo | 4 times, the 99th percentile under 20 ms | load 1 to 3: 10,649 and 13,884 messages a second, 8.9 and 12 times (the echo 1,194, its disk disturbed; beside its 3,326 of another day 3.2 and 4.2); 49 and 29 ms. `live --marks` by pipes 58,752. Of a message the firms take 15 us of a processor
+# @figure the same with the log in PostgreSQL and its standby, beside one writer that copies the same batches | 20,000 a second, under 50 ms | load 3: 8,820 and 9,290; 62 and 54 ms; the writer 31,180 and 34,061
+# @figure four venues behind one gateway, beside one, each with 64 firms on the same processors | 1.8 times | load 1 to 3: 1.29 and 1.09 times (19,064 and 17,896 messages a second, beside 14,749 and 16,364)
 set -eu
 here=$(cd "$(dirname "$0")" && pwd)
 root=$(cd "$here/.." && pwd)

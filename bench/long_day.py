@@ -11,7 +11,7 @@ and started: the seconds from its process to the answer of the first Logon, and 
 day alone by `replay --live`, and by `live` as the gateway runs it. Takes two minutes on an idle machine.
 """
 
-# @figure a gateway's start on a day of 300,000 entries, from its process to the first Logon answered, beside `replay --live` of it; the gateway's memory with 128 sessions as the day grows | none; flat | on a busy machine (load 34) 25 and 45 s, `replay --live` 4.3 s; 58 MB at most. With 128 sessions 71 MB after 50,000 entries, 104 MB after 300,000 (the venue 34 and 179)
+# @figure a gateway's start on a long day, from its process to the first Logon answered, beside `replay --live` of it; the gateway's memory with 128 sessions as the day grows | twice; flat | 100,000 entries, load 3 to 9: 5.2 and 3.8 s, of which 3.2 s of a processor the gateway's and 0.7 the venue's; `replay --live` 0.94 s; 52 MB at most. With 128 sessions 66 MB after 50,000 entries, 76 after 100,000 (the venue 34 and 63), 104 after 300,000 in an earlier run
 
 import argparse
 import os
