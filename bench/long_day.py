@@ -11,7 +11,7 @@ and started: the seconds from its process to the answer of the first Logon, and 
 day alone by `replay --live`, and by `live` as the gateway runs it. Takes two minutes on an idle machine.
 """
 
-# @figure a gateway's start on a long day, from its process to the first Logon answered, beside `replay --live` of it; the gateway's memory with 128 sessions as the day grows | twice; flat | 100,000 entries, load 3 to 9: 5.2 and 3.8 s, of which 3.2 s of a processor the gateway's and 0.7 the venue's; `replay --live` 0.94 s; 52 MB at most. With 128 sessions 66 MB after 50,000 entries, 76 after 100,000 (the venue 34 and 63), 104 after 300,000 in an earlier run
+# @figure a gateway's start on a day of 300,000 entries, from its process to the first Logon answered, beside `replay --live` of it; the gateway's memory with 128 sessions as the day grows | twice; flat | load 50: 14.0 and 15.2 s, 2.9 times the replay's 5.0; of a processor 7.6 s the gateway's, 2.6 the venue's, beside 2.6; 58 MB at most. With 128 sessions 82 MB after 50,000 entries, 97 after 200,000, 102 after 300,000 (the venue 34, 123, 180). On 100,000 entries at load 3 to 9: 5.2 and 3.8 s, the replay 0.94
 
 import argparse
 import os
