@@ -5,7 +5,7 @@
 # what TMPDIR says. Needs what gateway/packages.sh names, PostgreSQL and libpq-dev.
 #
 #     bench/firms.sh [GATEWAY [VENUE WORDS ..]]
-# @figure all that a day accepts (65,536 quotes, 4,096 requests, and a hit of each) from 64 firms, SQLite on a disk, beside one firm's burst at the echo | 4 times, the 99th percentile under 20 ms | load 1 to 3: 10,649 and 13,884 messages a second, 8.9 and 12 times (the echo 1,194, its disk disturbed; beside its 3,326 of another day 3.2 and 4.2); 49 and 29 ms. `live --marks` by pipes 58,752. Of a message the firms take 15 us of a processor
+# @figure all that a day accepts (65,536 quotes, 4,096 requests, and a hit of each) from 64 firms, SQLite on a disk, beside one firm's burst at the echo | 4 times, the 99th percentile under 20 ms | load 1 to 3: 10,705 and 14,515 messages a second, 1.9 and 2.6 times (the echo 5,564); 53 and 27 ms. `live --marks` by pipes 57,823 and 70,212. Of a message the firms take 17 us of a processor
 # @figure the same with the log in PostgreSQL and its standby, beside one writer that copies the same batches | 20,000 a second, under 50 ms | load 3: 8,820 and 9,290; 62 and 54 ms; the writer 31,180 and 34,061
 # @figure four venues behind one gateway, beside one, each with 64 firms on the same processors | 1.8 times | load 1 to 3: 1.29 and 1.09 times (19,064 and 17,896 messages a second, beside 14,749 and 16,364)
 set -eu

@@ -7,7 +7,7 @@
 #     bench/gateway.sh [GATEWAY [VENUE WORDS ..]]
 #
 # The venue `-` is gateway_venue.cpp, which does nothing but answer: the gateway's own part.
-# @figure a quote from a stock initiator to its 297=0 through gateway, log (SQLite) and venue (or a stand-in that answers at once), beside a bare QuickFIX echo with an fdatasync, in five pairs that take turns: the median; the 99th percentile | 1.15 times; 1.5 times | load 2 to 6, the disk with other work (the echo 0.42 ms, its 99th percentile 15): 2.19 times (1.65 to 2.32); 2.50 times (1.04 to 21). On an idle machine, before, 1.47 and 5.3 times
+# @figure a quote from a stock initiator to its 297=0 through gateway, log (SQLite) and venue (or a stand-in that answers at once), beside a bare QuickFIX echo with an fdatasync, in five pairs that take turns: the median; the 99th percentile | 1.15 times; 1.5 times | load 0.5: 1.08 times (0.94 to 1.23; 0.33 ms and 0.30); 1.13 times (0.40 to 1.30). Beside other work on the disk (the echo's 99th percentile 15 ms) 2.19 and 2.50; before, on an idle machine, 1.47 and 5.3
 set -eu
 here=$(cd "$(dirname "$0")" && pwd)
 root=$(cd "$here/.." && pwd)
