@@ -7,11 +7,11 @@ usage: prove_venue.py [--jobs N]
 
 It copies the crates below these out of the repository, without tests and without wrong bodies. An `rt ci`
 over the whole copy proves them side by side, as far as memory allows, and proves, builds and runs the
-program; an `rt lib` makes each library. If the kit's `rt ci` takes names and keeps what it proves, an
-`rt ci CRATE` proves each crate before that, as soon as those below it are proved. (Over libraries of
-`rt lib` it would load the proofs of the crates below, too, and take a third more processor time.) It
-takes what an earlier run or a gate has proved, and what is newer than all its sources. In the end it says whether all
-are the bytes that crates/proved.sha256 has for these sources.
+program. Over what that leaves, the kit's compiler builds each library; `rt lib` would prove every crate below
+once more. If the kit's `rt ci` takes names and keeps what it proves, an `rt ci CRATE` proves each crate
+before that, as soon as those below it are proved. It takes what an earlier run or a gate has proved,
+and what is newer than all its sources. In the end it says whether all are the bytes that
+crates/proved.sha256 has for these sources.
 """
 
 import argparse
@@ -28,9 +28,11 @@ from pathlib import Path
 from typing import IO
 
 ROOT = Path(__file__).resolve().parent.parent
-sys.path.insert(0, str(ROOT / "tools"))
+sys.path[:0] = [str(ROOT), str(ROOT / "tools")]
 
 from proved import LIBRARIES, MADE, below, compare, crates_of, made_of
+
+from tests.harness.kit import Libraries
 
 MEMORY_OF_A_CRATE = 3 << 30  # bytes
 MINUTES_OF_ONE = 175  # for all, as if on one processor
@@ -211,18 +213,10 @@ def prove_all(place: Path) -> None:
 
 
 def make_library(place: Path, name: str) -> None:
-    """Builds a library from the crates that are proved there."""
-    told = subprocess.run(
-        ["rt", "lib"],
-        cwd=place / "crates" / name,
-        stdin=subprocess.DEVNULL,
-        capture_output=True,
-        text=True,
-        check=False,
-    )
-    if told.returncode != 0:
-        last = (told.stdout + told.stderr).splitlines()[-20:]
-        sys.exit("%s gives no library:\n%s" % (name, "\n".join(last)))
+    """Builds a library over the crates that `rt ci` has built there."""
+    told = Libraries.of(place).build_static(name)
+    if not made_of(name, place).is_file():
+        sys.exit("%s gives no library:\n%s" % (name, "\n".join(told[-20:])))
 
 
 def keep(place: Path, name: str) -> None:

@@ -33,56 +33,56 @@ ONE_PAGE = "in one page"
 # The rows of each table, in their order: a function, CRATE::FUNCTION, and others that carry the same sentence.
 ROWS = {
     ONE_PAGE: (
-        "silence_laws::dealers_are_silent_to_each_other",
-        "laws_presence::presence_is_not_told_on_live_days",
-        "venue_laws::price_law",
+        "laws_isolation::dealers_are_silent_to_each_other",
+        "laws_isolation::presence_is_not_told_on_live_days",
+        "laws_days::price_law",
         "request_room::a_room_ends_once",
-        "trade_laws::both_sides_of_a_trade_agree",
-        "laws_answers::an_award_is_in_time",
+        "laws_trades::both_sides_of_a_trade_agree",
+        "laws_trades::an_award_is_in_time",
         "step_replay::dealers_are_sent_their_view step_replay::dealers_are_isolated",
         "investor_views::investors_are_isolated",
-        "wire_laws::dealers_are_isolated_on_the_wire",
+        "laws_wire::dealers_are_isolated_on_the_wire",
         "laws_trades::a_trade_has_a_time",
         "laws_trades::what_is_withdrawn_is_never_traded",
-        "shown_laws::what_is_shown_was_quoted",
-        "laws_answers::each_message_in_its_turn_is_answered",
+        "laws_shown::what_is_shown_was_quoted",
+        "laws_days::each_message_in_its_turn_is_answered",
         "laws_rooms::each_response_is_answered",
         "laws_rooms::each_accepted_request_is_shown",
         "laws_rooms::a_request_is_shown_to_no_other_dealer",
-        "laws_answers::a_longer_log_takes_nothing_back",
-        "session_laws::nothing_without_a_logon",
-        "session_laws::no_message_is_counted_and_dropped",
+        "laws_days::a_longer_log_takes_nothing_back",
+        "laws_sessions::nothing_without_a_logon",
+        "laws_sessions::no_message_is_counted_and_dropped",
         "laws_sessions::a_resend_comes_to_its_end",
-        "laws_recovery::recovered_is_the_session",
-        "laws_recovery::nothing_is_lost_or_taken_twice",
-        "laws_recovery::what_left_stands",
+        "laws_sessions::recovered_is_the_session",
+        "laws_sessions::nothing_is_lost_or_taken_twice",
+        "laws_sessions::what_left_stands",
     ),
     "the headline": (
         "step_replay::dealers_are_sent_their_view",
         "step_replay::dealers_are_isolated",
         "session_worker::dealers_are_isolated_on_threads",
         "venue_text::what_was_due_is_read_back",
-        "due_laws::what_is_due_can_be_said due_laws::messages_have_bytes",
-        "due_laws::alone_prints_what_replay_prints",
+        "laws_dues::what_is_due_can_be_said laws_dues::messages_have_bytes",
+        "laws_dues::alone_prints_what_replay_prints",
         "venue_text::a_dealer_is_printed_what_its_desk_notes",
-        "venue_laws::words_are_settled_as_the_view_says",
-        "venue_laws::notices_come_once_after_their_requests",
-        "venue_laws::each_named_dealer_is_told_once",
-        "venue_laws::a_hit_notice_names_the_lifted_quote",
+        "laws_days::words_are_settled_as_the_view_says",
+        "laws_days::notices_come_once_after_their_requests",
+        "laws_days::each_named_dealer_is_told_once",
+        "laws_days::a_hit_notice_names_the_lifted_quote",
         "step_replay::no_quote_is_lifted_and_withdrawn",
-        "venue_laws::price_law",
+        "laws_days::price_law",
         "dealer_desk::no_verdict_asks_a_price",
         "investor_desk::no_verdict_asks_a_price",
         "request_room::no_step_asks_a_price",
-        "silence_laws::dealers_are_silent_to_each_other",
-        "silence_laws::a_hit_takes_a_message",
-        "laws_presence::presence_is_not_told",
-        "laws_presence::presence_is_not_told_on_live_days",
-        "step_laws::settled_words_were_asked",
-        "step_laws::actions_that_fail_their_tests_do_nothing",
-        "venue_laws::steps_meet_their_tests",
-        "step_laws::a_dealers_desk_hears_no_unread_bytes",
-        "step_laws::an_investors_desk_hears_no_unread_bytes",
+        "laws_isolation::dealers_are_silent_to_each_other",
+        "laws_isolation::a_hit_takes_a_message",
+        "laws_isolation::presence_is_not_told",
+        "laws_isolation::presence_is_not_told_on_live_days",
+        "laws_days::settled_words_were_asked",
+        "laws_days::actions_that_fail_their_tests_do_nothing",
+        "laws_days::steps_meet_their_tests",
+        "laws_days::a_dealers_desk_hears_no_unread_bytes",
+        "laws_days::an_investors_desk_hears_no_unread_bytes",
     ),
     "investors": (
         "investor_views::investors_are_sent_their_view",
@@ -91,41 +91,42 @@ ROWS = {
         "investor_views::investors_are_noted_their_view",
         "investor_views::notes_are_isolated",
         "investor_texts::what_was_due_to_an_investor_is_read_back",
-        "investor_due_laws::what_is_due_to_an_investor_can_be_said",
-        "threaded_views::investors_of_a_day_are_sent_their_view",
-        "threaded_views::lists_of_a_replay_fit",
+        "laws_dues::what_is_due_to_an_investor_can_be_said",
+        "laws_isolation::investors_of_a_day_are_sent_their_view",
+        "laws_isolation::lists_of_a_replay_fit",
         "investor_views::desks_send_their_view",
-        "threaded_views::investors_are_isolated_on_threads",
-        "apart_laws::investors_are_apart",
+        "laws_isolation::investors_are_isolated_on_threads",
+        "laws_isolation::investors_are_apart",
     ),
     "trades": (
-        "trade_laws::both_sides_of_a_trade_agree",
-        "trade_laws::both_sides_of_a_trade_are_sent_it",
-        "trade_laws::both_sides_of_a_trade_are_sent_it_on_threads",
-        "trade_laws::a_trade_has_one_name",
-        "trade_laws::a_trade_is_named_on_both_sides",
+        "laws_trades::both_sides_of_a_trade_agree",
+        "laws_trades::both_sides_of_a_trade_are_sent_it",
+        "laws_trades::both_sides_of_a_trade_are_sent_it_on_threads",
+        "laws_trades::a_trade_has_one_name",
+        "laws_trades::a_trade_is_named_on_both_sides",
         "laws_trades::a_trade_is_printed_to_its_investor",
         "laws_trades::a_trade_is_printed_to_its_dealer",
         "laws_trades::a_trade_is_printed_under_one_name",
-        "trade_laws::no_duty_is_left_on_a_live_day",
-        "shown_laws::what_is_shown_was_quoted",
-        "shown_laws::requests_are_shown_as_written",
-        "shown_laws::quotes_are_shown_as_written",
-        "shown_laws::quotes_are_shown_once",
-        "shown_laws::quotes_are_shown_in_order",
+        "laws_days::no_duty_is_left_on_a_live_day",
+        "laws_shown::what_is_shown_was_quoted",
+        "laws_shown::requests_are_shown_as_written",
+        "laws_shown::quotes_are_shown_as_written",
+        "laws_shown::quotes_are_shown_once",
+        "laws_shown::quotes_are_shown_in_order",
     ),
     "answers": (
-        "laws_answers::each_message_in_its_turn_is_answered",
+        "laws_days::each_message_in_its_turn_is_answered",
         "laws_rooms::each_response_is_answered",
         "laws_trades::a_cancel_of_all_is_answered",
-        "laws_answers::an_award_is_in_time",
-        "laws_answers::an_award_names_the_best_cover",
+        "laws_trades::an_award_is_in_time",
+        "laws_trades::an_award_names_the_best_cover",
         "laws_trades::a_trade_has_a_time",
-        "laws_answers::a_sweep_leaves_nothing_overdue",
+        "laws_days::a_sweep_leaves_nothing_overdue",
         "laws_rooms::no_room_is_left_opening",
         "laws_rooms::each_accepted_request_is_shown",
         "laws_rooms::a_request_is_shown_to_no_other_dealer",
         "laws_rooms::each_answer_takes_effect_in_its_order",
+        "laws_rooms::each_answer_takes_effect_on_a_live_day",
         "laws_rooms::each_quote_comes_to_its_investor",
         "laws_rooms::quotes_are_shown_as_they_took_effect",
         "laws_rooms::each_decline_comes_to_its_investor",
@@ -138,10 +139,10 @@ ROWS = {
         "laws_rooms::a_closed_request_has_an_ended_room",
         "laws_rooms::each_expiry_is_told_once",
         "laws_trades::what_is_withdrawn_is_never_traded",
-        "laws_answers::a_longer_log_takes_nothing_back",
+        "laws_days::a_longer_log_takes_nothing_back",
     ),
     "days on threads": (
-        "threaded_views::words_of_a_day_have_one_settlement",
+        "laws_isolation::words_of_a_day_have_one_settlement",
         "session_worker::checks_decide_what_is_promised",
         "session_worker::dealers_of_a_day_are_sent_their_view",
         "recorded_days::recorded_dealers_are_sent_their_view",
@@ -185,51 +186,51 @@ ROWS = {
         "venue_text::without_marks_a_day_is_its_messages",
         "venue_text::lines_bring_the_same_however_they_come",
         "command_arguments::these_arguments_are_commands",
-        "venue_laws::definitions_give_the_worked_days",
-        "venue_laws::definitions_give_the_priced_days",
-        "venue_laws::limits_are_as_written",
+        "laws_days::definitions_give_the_worked_days",
+        "laws_days::definitions_give_the_priced_days",
+        "laws_days::limits_are_as_written",
         "venue_commands::inputs_have_these_limits",
     ),
     "a firm's session": (
-        "session_laws::nothing_without_a_logon",
-        "session_laws::each_message_is_taken_once",
+        "laws_sessions::nothing_without_a_logon",
+        "laws_sessions::each_message_is_taken_once",
         "fix_sessions::a_stream_is_cut_where_messages_stand",
-        "session_laws::no_message_is_counted_and_dropped",
-        "session_laws::what_leaves_was_given",
+        "laws_sessions::no_message_is_counted_and_dropped",
+        "laws_sessions::what_leaves_was_given",
         "laws_sessions::a_resend_comes_to_its_end",
-        "session_laws::what_is_kept_was_given",
-        "session_laws::what_leaves_is_what_is_kept",
-        "session_laws::session_limits_are_as_written fix_sessions_c::lengths_are_as_written",
-        "session_laws::a_session_is_bounded",
-        "session_laws::a_restart_changes_nothing",
-        "session_laws::a_message_is_given_again_as_it_was",
+        "laws_sessions::what_is_kept_was_given",
+        "laws_sessions::what_leaves_is_what_is_kept",
+        "laws_sessions::session_limits_are_as_written fix_sessions_c::lengths_are_as_written",
+        "laws_sessions::a_session_is_bounded",
+        "laws_sessions::a_restart_changes_nothing",
+        "laws_sessions::a_message_is_given_again_as_it_was",
         "fix_sessions_c::sessions_are_read_back",
     ),
     "what a start recovers": (
-        "laws_recovery::a_start_is_a_fold",
-        "laws_recovery::recovered_is_the_session",
-        "laws_recovery::nothing_is_lost_or_taken_twice",
-        "laws_recovery::what_left_is_recovered",
-        "laws_recovery::what_left_stands",
-        "laws_recovery::rejects_stand",
-        "laws_recovery::numbers_leave_once",
-        "laws_recovery::nothing_is_denied",
-        "laws_recovery::times_stand",
+        "laws_sessions::a_start_is_a_fold",
+        "laws_sessions::recovered_is_the_session",
+        "laws_sessions::nothing_is_lost_or_taken_twice",
+        "laws_sessions::what_left_is_recovered",
+        "laws_sessions::what_left_stands",
+        "laws_sessions::rejects_stand",
+        "laws_sessions::numbers_leave_once",
+        "laws_sessions::nothing_is_denied",
+        "laws_sessions::times_stand",
     ),
     "between the wire and the venue": (
         "wire_messages::the_wire_reads_back",
         "wire_messages::the_wire_tells_messages_apart",
         "wire_messages::the_rest_is_the_firms",
-        "crossing_laws::what_is_taken_crosses",
-        "laws_sessions::what_a_session_takes_is_counted",
+        "laws_wire::what_is_taken_crosses",
+        "laws_wire::what_a_session_takes_is_counted",
         "laws_wire::each_message_is_of_a_type_of_the_venue",
         "laws_wire::each_message_can_be_carried",
         "laws_wire::no_message_has_a_bar",
-        "wire_laws::what_is_kept_reads_back",
+        "laws_wire::what_is_kept_reads_back",
         "laws_wire::what_is_kept_of_the_venue_reads_back",
-        "wire_laws::what_leaves_is_the_venues",
-        "wire_laws::dealers_are_read_back",
-        "wire_laws::dealers_are_isolated_on_the_wire",
+        "laws_wire::what_leaves_is_the_venues",
+        "laws_wire::dealers_are_read_back",
+        "laws_wire::dealers_are_isolated_on_the_wire",
     ),
 }
 
@@ -246,6 +247,8 @@ DEFINITIONS = {
         "step_replay/AuditTrail",
         "step_replay/Actions",
         "step_replay/DutyEffects",
+        "venue_places/Table",
+        "step_replay/Coming",
         "step_replay/VenueFacts",
         "step_replay/DealerTrail",
         "step_replay/DueList",
@@ -275,6 +278,7 @@ DEFINITIONS = {
 }
 
 CITED = re.compile(r" \((?:`\w+`(?:, )?)+\)")  # the clauses of a sentence
+NAMED = re.compile(r"`(\w+)::(\w+)`")  # a law, by its crate
 FUNCTION = re.compile(r"((?:^///.*\n)*)(?:^#\[.*\n)*^pub fn (\w+)\(", re.MULTILINE)
 
 
@@ -341,12 +345,25 @@ class Laws:
         return law
 
 
-def on_page(text: str) -> str:
+def where_it_stands(root: Path, text: str) -> str:
+    """A text that names a law by a crate which is gone, with the crate in which the law stands. A law may
+    move while the crate whose comment names it stays as it was proved."""
+
+    def named(found: re.Match[str]) -> str:
+        law = laws_of(root).get(found[2])
+        if law is None or (root / "crates" / found[1]).is_dir():
+            return found[0]
+        return f"`{law.file.relative_to(root / 'crates').parts[0]}::{law.name}`"
+
+    return NAMED.sub(named, text)
+
+
+def on_page(root: Path, text: str) -> str:
     """A text of a comment as a cell of the page: its links lead from the page's folder, and no full stop
     ends it."""
     folder = PAGE.rpartition("/")[0]
-    said = in_cell(text).replace(f"]({PAGE}#", "](#").replace(f"]({folder}/", "](")
-    return said.removesuffix(".")
+    said = in_cell(where_it_stands(root, text)).removesuffix(".")
+    return said.replace(f"]({PAGE}#", "](#").replace(f"]({folder}/", "](")
 
 
 def rounded(lines: int) -> str:
@@ -359,7 +376,8 @@ def row_in_short(root: Path, laws: list[Law]) -> list[str]:
     names = tuple(law.name for law in laws)
     cited = ", ".join(f"`{name}`" for name in names)
     sentence = CITED.sub("", laws[0].sentence)
-    return [on_page(sentence), cited, on_page(laws[0].ends), rounded(lines_to_read(root, names))]
+    ends = on_page(root, laws[0].ends)
+    return [on_page(root, sentence), cited, ends, rounded(lines_to_read(root, names))]
 
 
 def row_in_full(root: Path, laws: list[Law]) -> list[str]:
@@ -368,7 +386,8 @@ def row_in_full(root: Path, laws: list[Law]) -> list[str]:
     cited = ", ".join(law.cited() for law in laws)
     names = tuple(law.name for law in laws)
     lines = lines_to_read(root, names) if all(name in laws_of(root) for name in names) else 0
-    return [on_page(said), cited, on_page(laws[0].ends), rounded(lines) if lines else ""]
+    ends = on_page(root, laws[0].ends)
+    return [on_page(root, said), cited, ends, rounded(lines) if lines else ""]
 
 
 def comment_above(text: str, name: str) -> str:
@@ -385,8 +404,9 @@ def row_of_definition(root: Path, path: str) -> list[str]:
     file, _, name = rest.partition(".")
     source = root / "crates" / crate / "specs" / f"{file}.antt"
     if not name:
-        return [f"`{file}` of `{crate}`", on_page(head_of(source).split("  ")[0])]
-    return [f"`{name}` of `{file}`", on_page(comment_above(source.read_text("utf-8"), name))]
+        return [f"`{file}` of `{crate}`", on_page(root, head_of(source).split("  ")[0])]
+    said = comment_above(source.read_text("utf-8"), name)
+    return [f"`{name}` of `{file}`", on_page(root, said)]
 
 
 def definition_lines(root: Path, name: str) -> Iterator[str]:

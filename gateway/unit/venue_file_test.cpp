@@ -61,10 +61,19 @@ constexpr std::array cases = {
          "letters and digits"},
     Case{"a grid that is none", "grid = 32", "grid = 33",
          "venue.toml: line 4: bond BONDA0000001: grid = 33: it has to be 32, 64, 128 or 256"},
+    Case{"no grid", "grid = 32\n", "",
+         "venue.toml: line 2: bond BONDA0000001: grid is missing: it has to be 32, 64, 128 or 256"},
+    Case{"no grid in version 3", "version = 2\n[[bond]]\nid = \"BONDA0000001\"\ngrid = 32\n",
+         "version = 3\n[[bond]]\nid = \"BONDA0000001\"\n",
+         "venue.toml: line 2: bond BONDA0000001: grid is missing: it has to be 32, 64, 128 or 256"},
     Case{"a grid in version 1", "version = 2", "version = 1",
          "venue.toml: line 4: bond BONDA0000001: grid = 32: it has no effect before version 2"},
-    Case{"a version of tomorrow", "version = 2", "version = 3",
-         "venue.toml: line 1: version = 3: it has to be 1 or 2"},
+    Case{"a version of tomorrow", "version = 2", "version = 4",
+         "venue.toml: line 1: version = 4: it has to be 1, 2 or 3"},
+    Case{
+        "a band in version 2", "grid = 32", "grid = 32\nlow = \"99\"\nhigh = \"101\"",
+        "venue.toml: line 5: bond BONDA0000001: low = \"99\": it has no effect before version 3\n"
+        "venue.toml: line 6: bond BONDA0000001: high = \"101\": it has no effect before version 3"},
     Case{"a date that is none", "version = 2", "version = 2\ndate = \"2025-03-14\"",
          "venue.toml: line 2: date = \"2025-03-14\": it has to be a day as eight digits, such as "
          "20250314"},
@@ -165,6 +174,38 @@ TEST_CASE("each fault names its line, its row, its key, the value and what is al
             CAPTURE(told);
             CHECK(told.find(each.told) != std::string::npos);
         }
+    }
+}
+
+TEST_CASE("each fault of a band is told, in version 3") {
+    struct Band {
+        std::string_view ends;
+        std::string told; // behind the bond
+    };
+    const std::string form = "it has to be a price in quotation marks, such as \"99.5\"";
+    for (const Band &band :
+         {Band{"low = \"99\"\nhigh = \"101\"\n", ""}, Band{"low = \"99\"\nhigh = \"099.0\"\n", ""},
+          Band{"low = \"0.03125\"\nhigh = \"999.96875\"\n", ""},
+          Band{"low = \"99\"\n", "high is missing: a band has low and high"},
+          Band{"high = \"99\"\n", "low is missing: a band has low and high"},
+          Band{"low = 99\nhigh = \"101\"\n", "low = 99: " + form},
+          Band{"low = \"99-16\"\nhigh = \"101\"\n", "low = \"99-16\": " + form},
+          Band{"low = \"99\"\nhigh = \"1000\"\n", "high = \"1000\": " + form},
+          Band{"low = \"-99\"\nhigh = \"101\"\n", "low = \"-99\": " + form},
+          Band{"low = \"99\"\nhigh = \"99.501\"\n", "high = \"99.501\": " + form},
+          Band{"low = \"99\"\nhigh = \"99.515625\"\n",
+               "high = \"99.515625\": it has to be on the bond's grid of 1/32"},
+          Band{"low = \"101.5\"\nhigh = \"101\"\n",
+               "low = \"101.5\": it has to be at most high, \"101\""}}) {
+        CAPTURE(band.ends);
+        std::string text = changed("version = 2", "version = 3");
+        text.insert(text.find("name ="), band.ends);
+        const std::string told = told_of(text);
+        CAPTURE(told);
+        const std::string title = ": bond BONDA0000001: ";
+        CHECK((band.told.empty() ? told == "no fault"
+                                 : told.ends_with(title + std::string(band.told))));
+        CHECK(told.find('\n') == std::string::npos);
     }
 }
 

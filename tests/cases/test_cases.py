@@ -13,12 +13,14 @@ from tests.harness.options import ROOT
 
 CRATE = ROOT / "crates" / "all_cases"
 AT_LIMITS = (
+    "blotter-limits",
     "commands-greatest",
     "commands-limits",
     "commands-long_days",
     "dealer-full-days",
     "due-limits",
     "investor-full-days",
+    "replay-limits",
 )
 SECONDS = 900  # of the program, by rt's own limit
 LIMIT = 1800  # seconds of its compiler, too

@@ -29,9 +29,7 @@ echo "rt $* in ${PWD##*/}" >>"$CALLS"
 case "$1 ${2:-}" in
 'version ') echo 'kit-1 logic 1' ;;
 'help ') echo '  rt ci NAME..   the same for these crates' ;;
-'lib ')
-    [ -z "${NO_LIBRARY:-}" ] || { echo 'rt: no memory for a library'; exit 1; }
-    mkdir -p out && echo library >"out/lib${PWD##*/}.a" ;;
+'doc ') echo "$TOP/kit/START.md" ;;
 'ci ')
     for crate in crates/*/; do echo "rt: $(basename "$crate") proved"; done
     [ ! -d crates/rfq_venue ] || { mkdir -p crates/rfq_venue/out && echo venue >crates/rfq_venue/out/rfq_venue; } ;;
@@ -39,6 +37,13 @@ case "$1 ${2:-}" in
     [ "$2" != "${FAILS:-}" ] || { echo "src/lib.rt:1: error: not proved"; exit 1; }
     echo "rt: $2 proved, and that is kept" ;;
 esac
+"""
+
+# The kit's compiler, which makes a library of the crate that it is called in.
+RATTLE = """#!/bin/sh
+echo "rattle $1 in ${PWD##*/}" >>"$CALLS"
+[ -z "${NO_LIBRARY:-}" ] || { echo 'rattle: no memory for a library'; exit 1; }
+mkdir -p out && echo library >"out/lib${PWD##*/}.a"
 """
 
 # The gateway says which sessions it was linked with.
@@ -56,6 +61,13 @@ AUCTION = """#!/bin/sh
 echo "an auction of $VENUE" >>"$CALLS"
 """
 
+COPIED = (
+    "examples/prove_venue.py",
+    "examples/first-run.sh",
+    "tools/proved.py",
+    "tests/harness/kit.py",
+)
+
 
 def write(path: Path, text: str, mode: int = 0o755) -> None:
     path.parent.mkdir(parents=True, exist_ok=True)
@@ -72,16 +84,16 @@ class SmallRepository:
         write(self.top / "HANDLES", "Handles allowed: none.\n")
         for name in (line.split()[0].rstrip(":") for line in CRATES.splitlines()):
             write(self.top / "crates" / name / "src" / "lib.rt", "//! %s\n" % name)
-        for name in ("examples/prove_venue.py", "examples/first-run.sh", "tools/proved.py"):
-            (self.top / name).parent.mkdir(exist_ok=True)
+        for name in COPIED:
+            (self.top / name).parent.mkdir(parents=True, exist_ok=True)
             shutil.copy2(ROOT / name, self.top / name)
         write(self.top / "VERSION", "1.2.0\n")
         write(self.top / "CHANGELOG.md", "# Changes\n\n## Next\n\n## 1.2.0\n")
         write(self.top / "examples" / "gateway" / "run.sh", AUCTION)
         for name in ("tests/packages.sh", "gateway/packages.sh"):
             write(self.top / name, "#!/bin/sh\n")
-        for name, text in (("rt", RT), ("cmake", CMAKE)):
-            write(self.top / "bin" / name, text)
+        for name, text in (("bin/rt", RT), ("bin/cmake", CMAKE), ("kit/bin/rattle", RATTLE)):
+            write(self.top / name, text)
 
     @property
     def calls(self) -> list[str]:

@@ -21,6 +21,7 @@ from tests.model.prices import price_text
 from tests.model.replay import CLOCK, Actor, Venue
 
 BONDS = ("BONDA0000001", "BONDB0000002")
+BAND = ('low = "99.96875"', 'high = "100.03125"')  # narrower than the prices of a story
 OPENING, CLOSING = 32_400_000, 60_000_000  # 09:00:00, and 16:40:00, behind every story
 MOST = 10**15  # of an exposure
 WORDS = ["ask"] * 4 + ["quote"] * 9 + ["hit"] * 3 + ["race"] * 2 + ["cancel"] * 2
@@ -53,6 +54,7 @@ class Story:
         self.silent = set(draw.sample(self.dealers, draw.randrange(len(self.dealers))))
         self.row = draw.choice((3, 20)), draw.choice((1, 3, 20))  # requests of the day, and open
         self.grids = [draw.choice((32, 64, 128, 256)) for _ in BONDS]
+        self.bands = [draw.choice(((), BAND)) for _ in BONDS]
         self.chapters, moment = [Chapter("ask", OPENING, draw.getrandbits(60))], OPENING
         for _ in range(draw.randint(2, 24)):
             moment += draw.randrange(1, 9_000)
@@ -91,9 +93,9 @@ class Day:
     # ---------------------------------------------------------------- the configuration
 
     def rows(self) -> list[str]:
-        draw, text = self.draw, ["version = 2", 'date = "20250314"']
-        for bond, grid in zip(BONDS, self.story.grids):
-            text += ["[[bond]]", 'id = "%s"' % bond, "grid = %d" % grid]
+        draw, text = self.draw, ["version = 3", 'date = "20250314"']
+        for bond, grid, band in zip(BONDS, self.story.grids, self.story.bands):
+            text += ["[[bond]]", 'id = "%s"' % bond, "grid = %d" % grid, *band]
         for dealer in self.story.dealers:
             poor = dealer in self.story.silent and draw.random() < 0.5
             text += self.firm_row("dealer", dealer, "T%d" % draw.randrange(2, 99))

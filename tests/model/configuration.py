@@ -10,7 +10,7 @@ from typing import Any, TypeVar
 import tomllib
 
 from .frames import is_date
-from .prices import GRIDS
+from .prices import ANY_PRICE, GRIDS, Band, is_price, on_grid, read_price
 
 NAME = re.compile(r"[A-Z][A-Z0-9]{0,7}\Z")
 BOND = re.compile(r"[A-Z0-9]{12}\Z")
@@ -33,6 +33,7 @@ class ConfigFault(Exception):
 class Bond:
     id: bytes
     grid: int
+    band: Band = ANY_PRICE
 
 
 @dataclass(frozen=True)
@@ -148,6 +149,50 @@ def traders_of(row: Table) -> tuple[bytes, ...]:
     return tuple(new_name(trader, is_name, named) for trader in array)
 
 
+# ---------------------------------------------------------------- bonds
+
+
+def bonds_of(table: Table, version: int) -> Iterator[Bond]:
+    """The rows of the bonds; in version 1 each has 256ths, and before version 3 none has a band."""
+    ids: set[str] = set()
+    for row in rows(table, "bond", MOST_BONDS):
+        bond = new_name(row.get("id"), is_bond, ids)
+        grid = grid_of(row, version) if version > 1 else 256
+        yield Bond(bond, grid, band_of(row, grid) if version > 2 else ANY_PRICE)
+
+
+def grid_of(row: Table, version: int) -> int:
+    """The grid of a bond; absent in version 3 it is Limit, as when that was no version."""
+    if version > 2 and "grid" not in row:
+        raise ConfigFault("Limit")
+    grid = value_of(row, "grid", int)
+    if grid not in GRIDS:
+        raise ConfigFault("Limit")
+    return grid
+
+
+def band_of(row: Table, grid: int) -> Band:
+    """The band of a bond, which has both ends or neither."""
+    low, high = end_of(row, "low", grid), end_of(row, "high", grid)
+    if low is None and high is None:
+        return ANY_PRICE
+    if low is None or high is None or low > high:
+        raise ConfigFault("Limit")
+    return Band(low, high)
+
+
+def end_of(row: Table, key: str, grid: int) -> int | None:
+    """A price on the bond's grid, or None where there is none."""
+    if key not in row:
+        return None
+    price = read_price(value_of(row, key, str).encode())
+    if price is None:
+        raise ConfigFault("Name")
+    if not is_price(price) or not on_grid(price, grid):
+        raise ConfigFault("Limit")
+    return price
+
+
 # ---------------------------------------------------------------- the whole
 
 
@@ -174,20 +219,12 @@ def read_configuration(data: bytes) -> Configuration:
     """The configuration that these bytes spell; ConfigFault with the name of its first fault."""
     table = read_toml(data)
     version = value_of(table, "version", int)
-    if version not in (1, 2):
+    if version not in (1, 2, 3):
         raise ConfigFault("Limit")
     date = value_of(table, "date", str).encode()
     if not is_date(date):
         raise ConfigFault("Name")
-    ids: set[str] = set()
-    bonds: list[Bond] = []
-    for row in rows(table, "bond", MOST_BONDS):
-        bond, grid = new_name(row.get("id"), is_bond, ids), 256
-        if version == 2:
-            grid = value_of(row, "grid", int)
-            if grid not in GRIDS:
-                raise ConfigFault("Limit")
-        bonds.append(Bond(bond, grid))
+    bonds = list(bonds_of(table, version))
     names: set[str] = set()
     dealers: list[Dealer] = []
     investors: list[Investor] = []

@@ -22,6 +22,7 @@ if TYPE_CHECKING:
 
 Row = TypeVar("Row")
 OPENING = 32_400_000  # 09:00:00
+MIDDLE = 25_472  # about which prices are drawn: 99.5
 SOH = b"\x01"
 
 
@@ -47,7 +48,7 @@ def names(draw: Draw, count: int, prefix: str) -> list[str]:
 
 def draw_configuration(draw: Draw) -> list[str]:
     """A lawful configuration, as a list of lines."""
-    version = draw.of(1, 2)
+    version = draw.of(1, 2, 3)
     lines = [
         "version = %d" % version,
         'date = "%s"' % draw.of("20250314", "20250314", "20241231", "00000101", "20250231"),
@@ -82,11 +83,23 @@ def keyed(draw: Draw, head: str, pairs: Sequence[tuple[str, str | int]]) -> list
 
 def bond_table(draw: Draw, name: str, version: int) -> list[str]:
     pairs: list[tuple[str, str | int]] = [("id", '"%s"' % name)]
-    if version == 2:
-        pairs.append(("grid", draw.choice([32, 64, 128, 256])))
+    grid = draw.choice([32, 64, 128, 256])
+    if version > 1:
+        pairs.append(("grid", grid))
     elif draw.chance(0.2):
         pairs.append(("grid", draw.of("5", '"x"', "32")))
+    if version == 3 and draw.chance(0.6):
+        pairs += band_pairs(draw, 256 // grid)
+    elif version < 3 and draw.chance(0.2):
+        pairs.append((draw.of("low", "high"), draw.of("5", '"x"', '"99.501"', '"100"', "[]")))
     return keyed(draw, "[[bond]]", pairs)
+
+
+def band_pairs(draw: Draw, step: int) -> list[tuple[str, str]]:
+    """Both ends of a band about the prices of the day, seldom far from them."""
+    below, above = (step * draw.of(0, 0, 1, 1, 2, 3, 9, 300) for _ in range(2))
+    ends = ("low", MIDDLE - below), ("high", MIDDLE + above)
+    return [(key, '"%s"' % spelled_price(draw, ticks)) for key, ticks in ends]
 
 
 def trader_list(draw: Draw, traders: list[str]) -> str:
@@ -701,7 +714,7 @@ class Day:
             return draw.choice(BAD_PRICES)
         grid = request.ask.grid if request and draw.chance(0.9) else draw.of(32, 64, 128, 256)
         step = 256 // grid
-        return spelled_price(draw, 25_472 + draw.randint(-self.spread, self.spread) * step)
+        return spelled_price(draw, MIDDLE + draw.randint(-self.spread, self.spread) * step)
 
     def extras(self, request: Request | None) -> list[tuple[int, int | str]]:
         """Fields of a quote that need not be there."""

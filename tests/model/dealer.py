@@ -11,7 +11,7 @@ from typing import TYPE_CHECKING
 
 from .desk import Desk, Duty, Reason, Trade, first, party, price_field, price_tag, terms
 from .frames import moment_text
-from .prices import is_price, on_grid, thirty_seconds
+from .prices import in_band, is_price, on_grid, thirty_seconds
 from .session import DEALER_TYPES, Message
 
 if TYPE_CHECKING:
@@ -29,6 +29,7 @@ QUOTE_REASONS = {
     "DeadlinePassed": 4,
     "OtherBond": 1,
     "InvalidPrice": 8,
+    "OutsideBand": 8,
     "OtherQuantity": 99,
     "NotTradeable": 99,
     "DuplicateQuote": 6,
@@ -161,6 +162,7 @@ class DealerDesk(Desk):
         yield moment >= ask.deadline, "DeadlinePassed"
         yield message[48] != ask.bond, "OtherBond"
         yield not is_asked_price(message, ask), "InvalidPrice"
+        yield not in_band(message[price_tag(ask.side)], ask.band), "OutsideBand"
         yield any(
             message.get(tag, ask.quantity) != ask.quantity for tag in (134, 135)
         ), "OtherQuantity"

@@ -7,7 +7,7 @@ from dataclasses import dataclass
 from typing import TYPE_CHECKING, Any
 
 from .frames import moment_text, read_frame, write_frame
-from .prices import price_text
+from .prices import ANY_PRICE, Band, price_text
 from .session import Inbox, Message, Reject, Types
 
 if TYPE_CHECKING:
@@ -27,6 +27,7 @@ class Ask:
     quantity: int
     deadline: int
     grid: int
+    band: Band = ANY_PRICE
 
 
 @dataclass(frozen=True)

@@ -12,11 +12,36 @@ from .replay import alone
 if TYPE_CHECKING:
     from .days import Day, Draw
 
+BAD_ENDS = [
+    "",
+    "low = 99",
+    "low = 99.5",
+    "high = true",
+    "high = []",
+    'low = ""',
+    'low = "99-16"',
+    'high = "x"',
+    'high = "9e1"',
+    'low = "0"',
+    'low = "-1"',
+    'high = "1000"',
+    'high = "99.501"',
+    'low = "99.50390625"',
+    'high = "99.50390625"',
+    'low = "0.00390625"',
+    'high = "999.99609375"',
+    'low = "0099.50"',
+    'high = "99.5"',
+    'high = "99."',
+    'low = "100"',
+    'high = "1234567890123456"',
+]
 BAD_LINES = {
     "version": [
         "",
         "version = 0",
         "version = 3",
+        "version = 4",
         'version = "1"',
         "version = 1.0",
         "version = true",
@@ -64,6 +89,8 @@ BAD_LINES = {
         "grid = 64",
         "grid = true",
     ],
+    "low": BAD_ENDS,
+    "high": BAD_ENDS,
     "name": [
         "",
         'name = "dlr1"',
@@ -189,10 +216,10 @@ def spoilt_configuration(draw: Draw) -> list[str]:
 
 def crowded_configuration(draw: Draw) -> list[str]:
     """At or past the limits of rows and sums."""
-    version, count = draw.of(1, 2), draw.of(15, 16, 17, 63, 64, 65)
+    version, count = draw.of(1, 2, 3), draw.of(15, 16, 17, 63, 64, 65)
     lines = ["version = %d" % version, 'date = "20250314"']
     for n in range(draw.of(1, 1, 1, 1024, 1025)):
-        lines += ["[[bond]]", 'id = "BOND%08d"' % n] + (["grid = 256"] if version == 2 else [])
+        lines += ["[[bond]]", 'id = "BOND%08d"' % n] + (["grid = 256"] if version > 1 else [])
     for n in range(draw.of(1, count)):
         lines += [
             "[[dealer]]",
@@ -214,6 +241,16 @@ def crowded_configuration(draw: Draw) -> list[str]:
 
 
 # ---------------------------------------------------------------- due lists that no venue brings about
+
+
+BANDS = (
+    " 99 99.07421875",
+    " 99 99",
+    " 099.00 99.25",
+    " 99.00390625 999.99609375",
+    " 0.00390625 999.99609375",
+    " 99.25 99",
+)
 
 
 class MadeUp:
@@ -286,9 +323,9 @@ class MadeUp:
             deadline,
             self.time(),
         ]
-        self.put(
-            "shown " + " ".join(words) + draw.of("", "", " 32", " 64", " 128", " 256", " 00256")
-        )
+        grid = draw.of("", "", " 32", " 64", " 128", " 256", " 00256")
+        band = draw.of("", "", *BANDS) if grid else ""
+        self.put("shown " + " ".join(words) + grid + band)
 
     def message(self, kind: str, fields: list[tuple[int, str | int]]) -> None:
         draw, texts = self.draw, [(tag, str(value)) for tag, value in fields]
@@ -575,6 +612,11 @@ ODD_LINES = [
     b"own 09:00:00 ",
     b"shown INV1 BONDA0000001 1 1 09:00:00 09:00:00 16",
     b"shown VENUE BONDA0000001 1 1 09:00:00 09:00:00",
+    b"shown INV1 BONDA0000001 1 1 09:00:00 09:00:00 256 99",
+    b"shown INV1 BONDA0000001 1 1 09:00:00 09:00:00 256 99 99.501",
+    b"shown INV1 BONDA0000001 1 1 09:00:00 09:00:00 256 100 99",
+    b"shown INV1 BONDA0000001 1 1 09:00:00 09:00:00 256 99 100 101",
+    b"shown INV1 BONDA0000001 1 1 09:00:00 09:00:00 99 100",
 ]
 
 

@@ -103,7 +103,8 @@ class InvestorDesk(Desk):
             return []
         bond = self.bond(message[48])
         assert bond is not None
-        ask = Ask(self.row.name, bond.id, int(message[54]), message[38], message[126], bond.grid)
+        terms = int(message[54]), message[38], message[126]
+        ask = Ask(self.row.name, bond.id, *terms, bond.grid, bond.band)
         request = Request(len(self.requests) + 1, message[131], ask, moment, message[50])
         self.requests.append(request)
         self.send(moment, b"AI", answer + [(297, b"0")])

@@ -21,6 +21,8 @@ from .lines import (
     Framer,
     LineFault,
     due_line,
+    grid_and_band,
+    grid_and_band_text,
     is_said,
     limited,
     named,
@@ -28,10 +30,11 @@ from .lines import (
     numbered,
     one_of,
     parts_of,
+    price_of,
     read_due_line,
     time_of,
 )
-from .prices import GRIDS, is_price, price_text, read_price
+from .prices import price_text
 from .replay import Item, Seen
 from .session import ID
 
@@ -94,12 +97,13 @@ def read_row(line: bytes) -> Investor:
 
 def read_bond(line: bytes, bonds: list[Bond]) -> None:
     """A bond more, which none before it is."""
-    _, bond, grid = parts_of(line, 3)
+    parts = line.split(b" ")
+    _, bond = parts_of(b" ".join(parts[:2]), 2)
     named(bond, is_bond)
-    steps = number_of(grid)
-    if steps not in GRIDS or bond in (other.id for other in bonds) or len(bonds) == MOST_BONDS:
+    row = Bond(bond, *grid_and_band(parts[2:]))
+    if bond in (other.id for other in bonds) or len(bonds) == MOST_BONDS:
         raise LineFault("form")
-    bonds.append(Bond(bond, steps))
+    bonds.append(row)
 
 
 def read_dealer(line: bytes, own: bytes, dealers: list[bytes]) -> None:
@@ -141,9 +145,7 @@ def with_last(line: bytes, count: int) -> tuple[list[bytes], bytes | None]:
 
 def read_quoted(line: bytes) -> Item:
     (_, n, dealer, price, time), until = with_last(line, 5)
-    ticks = read_price(price)
-    if not is_price(ticks):
-        raise LineFault("form")
+    ticks = price_of(price)
     end = None if until is None else time_of(until)
     return "quoted", number_of(n), named(dealer, is_firm_name), ticks, end, time_of(time)
 
@@ -166,7 +168,7 @@ def investor_text(seen: Seen, due: list[Item]) -> Iterator[bytes]:
         [b"investor", row.name, b"%d %d %d" % (row.requests, row.open, row.quantity), *row.traders]
     )
     for bond in bonds:
-        yield b"bond %s %d" % (bond.id, bond.grid)
+        yield b" ".join([b"bond", bond.id, *grid_and_band_text(bond)])
     for name in dealers:
         yield b"dealer " + name
     for item in due:

@@ -13,6 +13,7 @@ if TYPE_CHECKING:
 OPENING = 9 * 3_600_000
 BOND = "BONDA0000001"
 PARTIES = "453=%d%s"
+BANDS = (" 99 100", " 99 99", " 0.00390625 999.99609375", " 0100. 99", " 99.50390625 99.5", " 99")
 
 
 class MadeUpInvestor:
@@ -26,7 +27,7 @@ class MadeUpInvestor:
         traders = draw.of("T8", "T8 T9", "VENUE T8")
         self.lines = ["date 20250314", "investor INV1 %d %d %d %s" % (*limits, traders)]
         self.lines += [
-            "bond %s %s" % (BOND, draw.of("32", "256", "0064")),
+            "bond %s %s%s" % (BOND, draw.of("32", "256", "0064"), draw.of("", "", *BANDS)),
             "bond BONDB0000002 128",
         ][: draw.of(0, 1, 2, 2)]
         self.lines += ["dealer " + name for name in self.names]
@@ -144,6 +145,8 @@ class MadeUpInvestor:
             "declined 1 dlr1 %s",
             "lifted 1",
             "bond BONDC0000003 32",
+            "bond BONDC0000003 32 99",
+            "bond BONDC0000003 32 99 x",
             "dealer DLR7",
             "closed 1 1 %s",
             "expired 1 %s 1",

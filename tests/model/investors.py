@@ -25,6 +25,7 @@ from .replay import Venue, investor_alone, seen_by
 
 Lines = list[bytes]
 BONDS = ("BONDA0000001", "BONDB0000002")
+LOW, HIGH = "99.5", "99.96875"  # a band that has all prices of the days but the highest
 
 
 # ---------------------------------------------------------------- views
@@ -132,9 +133,10 @@ def dealer_limits(draw: Draw) -> tuple[int, int]:
 
 
 def drawn_head(draw: Draw, limits: list[tuple[int, int]], investors: int) -> Lines:
-    lines = ["version = 2", 'date = "20250314"']
+    lines = ["version = 3", 'date = "20250314"']
     for bond in BONDS:
         lines += ["[[bond]]", 'id = "%s"' % bond, "grid = 32"]
+        lines += draw.of([], ['low = "%s"' % LOW, 'high = "%s"' % HIGH])
     for n, (quotes, exposure) in enumerate(limits, 1):
         lines += ["[[dealer]]", 'name = "DLR%d"' % n, 'traders = ["T1"]']
         lines += ["quotes = %d" % quotes, "exposure = %d" % exposure]

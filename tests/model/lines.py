@@ -29,11 +29,11 @@ from .frames import (
     time_text,
     write_frame,
 )
-from .prices import GRIDS
+from .prices import ANY_PRICE, GRIDS, Band, is_price, price_text, read_price
 from .replay import CLOCK, Item
 
 if TYPE_CHECKING:
-    from .configuration import Configuration
+    from .configuration import Bond, Configuration
     from .dealer import DealerDesk
     from .investor import InvestorDesk
 
@@ -290,21 +290,37 @@ def read_due_line(line: bytes, name: bytes, framer: Framer) -> Item:
     raise LineFault("form")
 
 
-def read_shown(line: bytes) -> tuple[str, Ask, int]:
-    grid = b"256"
-    if line.count(b" ") == 7:
-        line, grid = line.rsplit(b" ", 1)
-    _, investor, bond, side, quantity, deadline, time = parts_of(line, 7)
-    steps = number_of(grid)
+def price_of(text: bytes) -> int:
+    ticks = read_price(text)
+    if not is_price(ticks):
+        raise LineFault("form")
+    return ticks
+
+
+def grid_and_band(parts: list[bytes]) -> tuple[int, Band]:
+    """`GRID [LOW HIGH]`, whatever the ends of the band are."""
+    if len(parts) not in (1, 3):
+        raise LineFault("form")
+    steps = number_of(parts[0])
     if steps not in GRIDS:
         raise LineFault("form")
+    return steps, Band(price_of(parts[1]), price_of(parts[2])) if parts[1:] else ANY_PRICE
+
+
+def grid_and_band_text(of: Ask | Bond) -> list[bytes]:
+    ends = [] if of.band == ANY_PRICE else [price_text(end) for end in of.band]
+    return [b"%d" % of.grid, *ends]
+
+
+def read_shown(line: bytes) -> tuple[str, Ask, int]:
+    parts = line.split(b" ")
+    _, investor, bond, side, quantity, deadline, time = parts_of(b" ".join(parts[:7]), 7)
+    steps, band = grid_and_band(parts[7:] or [b"256"])
     named(investor, is_firm_name)
     named(bond, is_bond)
     one_of(side, (b"1", b"2"))
-    ask = Ask(
-        investor, bond, int(side), limited(quantity, MOST_QUANTITY, 16), time_of(deadline), steps
-    )
-    return "shown", ask, time_of(time)
+    terms = int(side), limited(quantity, MOST_QUANTITY, 16), time_of(deadline)
+    return "shown", Ask(investor, bond, *terms, steps, band), time_of(time)
 
 
 def due_text(date: bytes, row: Dealer, due: list[Item]) -> Iterator[bytes]:
@@ -331,7 +347,8 @@ def due_line(kind: str, *item: Any) -> bytes:
             time_text(ask.deadline),
             time_text(moment),
         ]
-        return b" ".join(words + ([] if ask.grid == 256 else [b"%d" % ask.grid]))
+        last = grid_and_band_text(ask)
+        return b" ".join(words + ([] if last == [b"256"] else last))
     if kind == "lifted":
         return b"lifted %d" % item[0]
     if kind == "drop":

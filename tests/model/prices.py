@@ -1,16 +1,26 @@
-"""Prices: whole 256ths of a point, 1 to 255,999, and the grids of bonds."""
+"""Prices: whole 256ths of a point, 1 to 255,999, and the grids and bands of bonds."""
 
 from __future__ import annotations
 
 import re
 from fractions import Fraction
-from typing import TypeGuard
+from typing import NamedTuple, TypeGuard
 
 HIGHEST = 255_999
 GRIDS = (32, 64, 128, 256)
 PRICE = re.compile(rb"(-?)([0-9]*)(?:\.([0-9]*))?\Z")
 QUANTITY = re.compile(rb"([0-9]*)(?:\.([0-9]*))?\Z")
 MOST_DIGITS = 15
+
+
+class Band(NamedTuple):
+    """The lawful prices of a bond, both ends among them."""
+
+    low: int
+    high: int
+
+
+ANY_PRICE = Band(1, HIGHEST)  # of a bond without a band
 
 
 def decimal(whole: bytes, part: bytes | None) -> Fraction | None:
@@ -43,6 +53,10 @@ def is_price(value: object) -> TypeGuard[int]:
 
 def on_grid(ticks: int, grid: int) -> bool:
     return ticks % (256 // grid) == 0
+
+
+def in_band(ticks: int, band: Band) -> bool:
+    return band.low <= ticks <= band.high
 
 
 def read_quantity(text: bytes) -> Fraction | None:

@@ -246,6 +246,15 @@ def withdrawals_are_not_told() -> Planted:
     return Venue, "do_unpost", do_unpost
 
 
+def withdrawals_take_no_effect() -> Planted:
+    """A quote that its dealer withdrew stays in the book of its room."""
+
+    def do_unpost(_venue: Venue, *_unpost: Any) -> list[Duty]:
+        return []
+
+    return Venue, "do_unpost", do_unpost
+
+
 def replaced_quotes_are_not_told() -> Planted:
     """A quote that its dealer replaced is not reported gone before the new one is shown."""
     right = InvestorDesk.quote_came
@@ -374,6 +383,7 @@ WRONG: dict[str, Callable[[], Planted]] = {
         refusals_close_requests,
         declines_overtake_quotes,
         withdrawals_are_not_told,
+        withdrawals_take_no_effect,
         replaced_quotes_are_not_told,
         requests_reach_dealers_asked_before,
         the_first_dealers_are_asked,

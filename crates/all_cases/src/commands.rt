@@ -62,8 +62,8 @@ impl<'h, H: Threads + Wait + Sync> Commands<'h, H> {
         self.made_once(Call::of(alloc, line))
     }
 
-    /// `FROM TO CALL`: makes CALL once for each number from FROM to TO, which stands in it for `<n>`.
-    /// It gives what the last one answers.
+    /// `FROM TO CALL`: makes CALL once for each number from FROM to TO, which stands in it for `<n>`,
+    /// and its double for `<2n>`. It gives what the last one answers.
     fn made_often(&mut self, alloc: Global, line: &str) -> Result<String, CaseFault> {
         let mut words = Words::of(line);
         let from = words.number()?;
@@ -72,7 +72,9 @@ impl<'h, H: Threads + Wait + Sync> Commands<'h, H> {
         let mut last = String::new(alloc);
         for n in from..=to {
             let number = format!(in alloc; "{n}")?;
+            let double = format!(in alloc; "{}", n.saturating_mul(2))?;
             let call = call.replace(alloc, "<n>", number.as_str())?;
+            let call = call.as_str().replace(alloc, "<2n>", double.as_str())?;
             last = self.made_once(Call::of(alloc, call.as_str()))?;
         }
         Ok(last)

@@ -1,7 +1,7 @@
 //! What a case gives to its runs: the input, and how the streams behave.
 use crate::runs::Paces;
 use crate::streams::Pace;
-use case_lines::{Call, CaseFault, Words, bytes_of};
+use case_lines::{Call, CaseFault, Words, bytes_of, frame_of, piped_bytes_of};
 use std::alloc::Global;
 
 /// How many times at most a text is put into an input by one call.
@@ -33,6 +33,7 @@ impl Inputs {
             "<+" => self.put(call.alloc, call.words.rest(), ""),
             "<*" => self.put_often(call, "\n"),
             "<+*" => self.put_often(call, ""),
+            "framed" => self.put_framed(call.alloc, call.words.rest()),
             "empty" => self.empty(),
             "reader" => set(&mut self.paces.input, &mut call.words),
             "writer" => set(&mut self.paces.out, &mut call.words),
@@ -52,6 +53,20 @@ impl Inputs {
         let bytes = bytes_of(alloc, text)?;
         self.bytes.extend_from_slice(bytes.as_slice())?;
         self.bytes.extend_from_slice(end.as_bytes())?;
+        Ok(())
+    }
+
+    /// `framed LINE BODY`: a line that ends in the frame of BODY, which begins `35=`.
+    fn put_framed(&mut self, alloc: Global, text: &str) -> Result<(), CaseFault> {
+        let Some((line, fields)) = text.split_once(" 35=") else {
+            return Err(CaseFault::Form);
+        };
+        let body = format!(in alloc; "35={fields}")?;
+        let body = piped_bytes_of(alloc, body.as_str())?;
+        let frame = frame_of(alloc, body.as_slice())?;
+        self.put(alloc, line, " ")?;
+        self.bytes.extend_from_slice(frame.as_slice())?;
+        self.bytes.push(b'\n')?;
         Ok(())
     }
 

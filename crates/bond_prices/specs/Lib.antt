@@ -1,3 +1,4 @@
+pub mod Band
 pub mod Decimal
 pub mod Grid
 pub mod Price

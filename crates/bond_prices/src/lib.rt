@@ -1,10 +1,11 @@
-//! Bond prices as whole numbers of 256ths of a point, and the grids that bonds are quoted on.
+//! Bond prices as whole numbers of 256ths of a point, and the grids and bands that bonds are quoted
+//! in.
 //!
 //! A price is quoted in points, and the finest step is 1/256 of a point. So a price is held as a
 //! whole number of those steps, a [`Ticks`], from 1 to 255,999, and never as a binary fraction.
 //! Only text has points and decimals: [`read_price`] reads it and [`price_text`] prints it.
 //! [`thirty_seconds`] prints a price as a trader says it. A bond is quoted on a [`Grid`]: in 32nds,
-//! 64ths, 128ths or 256ths of a point.
+//! 64ths, 128ths or 256ths of a point, and in a [`Band`] of prices.
 //!
 //! ```text
 //! let price = read_price(b"99.50390625")?;
@@ -27,13 +28,16 @@
 //!   alike.
 //! - `thirty_seconds` prints whole points, 32nds and eighths of a 32nd that are this price.
 //! - `on_grid` is true exactly where the price is a whole number of the grid's steps.
+//! - `in_band` is true exactly where the price is neither below the lowest nor above the highest of
+//!   the band.
 //! - No function here takes memory from an allocator.
 //!
 //! `specs/Price.antt` has the rules of the text in points, and `price_of` and `price_digits`, which
 //! say the same as functions; `specs/ThirtySeconds.antt` the text in 32nds, `specs/Grid.antt` the
-//! grids.
+//! grids and `specs/Band.antt` the bands.
 #![tactic(auto)]
 
+mod band;
 mod decimal;
 mod fault;
 mod grid;
@@ -42,6 +46,7 @@ mod read;
 mod text;
 mod ticks;
 
+pub use band::{Band, in_band};
 pub use fault::PriceFault;
 pub use grid::{Grid, on_grid};
 pub use quoting::thirty_seconds;

@@ -27,6 +27,12 @@ pub(crate) const MIN_COUNT: u32 = 1;
 pub(crate) const MAX_COUNT: u32 = 255_999;
 
 impl Ticks {
+    /// The lowest price: 0.00390625 points.
+    pub const LOWEST: Ticks = Ticks { count: MIN_COUNT };
+
+    /// The highest price: 999.99609375 points.
+    pub const HIGHEST: Ticks = Ticks { count: MAX_COUNT };
+
     /// The price of `count` ticks of 1/256 point, or `None` where `count` is 0 or above 255,999.
     pub fn new(count: u32) -> Option<Ticks>
         ensures in_range { IsSome result ↔ ((1 ≤ count) × (count ≤ 255999)) }

@@ -1,6 +1,7 @@
 //! A list of steps that is replayed, a due list, and a dealer's day alone.
 use super::values::{ACCEPTED, QUOTE, REQUEST, ask, behind_nine};
 use case_lines::VENUE;
+use laws_days::price_law;
 use market_terms::{Close, FirmLines, RoomRef};
 use quote_messages::{FirmMessage, Message, SentMessage};
 use std::alloc::Global;
@@ -8,7 +9,6 @@ use std::process::Abort;
 use std::test::Fail;
 use step_replay::{Actor, Due, ReplayFault, Step, World, alone, due, run};
 use venue_config::read_config;
-use venue_laws::price_law;
 
 /// INV1 asks, and its four duties are done; DLR1 quotes, and its two are; then the room is swept
 /// before its deadline.

@@ -186,6 +186,10 @@ fn a_configuration_is_read(rt: HostRuntime) -> Result<(), Fail> {
         Err(fault) => config_check(fault),
     };
     assert_eq!(rt; fault, 1);
+    // No input brings this one about.
+    assert_eq!(rt; ConfigFault::Memory.name(), "Memory");
+    let told = format!(in rt.alloc(); "{}", ConfigFault::Memory)?;
+    assert_eq!(rt; told.as_str(), "Memory");
     Ok(())
 }
 

@@ -1,5 +1,5 @@
 //! Values and frames that the calls share.
-use bond_prices::{Grid, Ticks};
+use bond_prices::{Band, Grid, Ticks};
 use fix_fields::{Date, Moment};
 use market_terms::{Ask, Id, IdBuf, Offer, Quantity, ResponseRef, Side};
 use std::process::Abort;
@@ -40,6 +40,7 @@ pub(crate) fn ask(rt: &impl Abort) -> Ask {
         quantity: Quantity::new(2_000_000).expect(rt, "a quantity"),
         deadline: behind_nine(rt, 300),
         grid: Grid::FINEST,
+        band: Band::WHOLE,
     }
 }
 

@@ -54,6 +54,8 @@ pub use frames::{check_sum_of, day, frame_of, stream_fault_name};
 pub use place::Place;
 pub use report::Report;
 pub use running::{Running, Step};
-pub use terms::{ask_of, bond_of, close_of, name_of, price_of, quantity_of, refusal_of, side_of};
+pub use terms::{
+    ask_of, band_of, bond_of, close_of, name_of, price_of, quantity_of, refusal_of, side_of,
+};
 pub use venue::VENUE;
 pub use words::Words;

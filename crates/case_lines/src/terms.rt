@@ -1,7 +1,7 @@
 //! Words of a call that stand for terms of the market.
 use crate::faults::CaseFault;
 use crate::words::Words;
-use bond_prices::{Grid, Ticks};
+use bond_prices::{Band, Grid, Ticks};
 use market_terms::{Ask, Close, HitRefusal, Quantity, Side};
 use venue_rows::{BondId, Name};
 
@@ -36,6 +36,17 @@ pub fn quantity_of(words: &mut Words<'_>) -> Result<Quantity, CaseFault> {
 pub fn price_of(words: &mut Words<'_>) -> Result<Ticks, CaseFault> {
     let count = words.short_number()?;
     Ticks::new(count).ok_or(CaseFault::Condition)
+}
+
+/// The last two words, as the ends of a band in ticks of 1/256 point, or the band of every price
+/// where there are none.
+pub fn band_of(words: &mut Words<'_>) -> Result<Band, CaseFault> {
+    if words.is_at_end() {
+        return Ok(Band::WHOLE);
+    }
+    let low = price_of(words)?;
+    let high = price_of(words)?;
+    Ok(Band { low, high })
 }
 
 /// The next word, as the end of a request: `hit`, `expired`, `cover`, `away` or `pass`, or the digit
@@ -78,5 +89,6 @@ pub fn ask_of(words: &mut Words<'_>) -> Result<Ask, CaseFault> {
         quantity,
         deadline,
         grid: Grid::FINEST,
+        band: Band::WHOLE,
     })
 }

@@ -6,7 +6,7 @@ lines are
   date YYYYMMDD
   dealer NAME QUOTES EXPOSURE TRADER ..
 and then, in the order in which it happens,
-  shown INVESTOR BOND SIDE QUANTITY DEADLINE TIME [GRID]
+  shown INVESTOR BOND SIDE QUANTITY DEADLINE TIME [GRID [LOW HIGH]]
                                  a request that the dealer is shown
   say TRADER TIME TYPE BODY      a message of the firm's own
   own TIME FRAME                 its bytes, with a vertical bar for each SOH
@@ -18,7 +18,7 @@ and then, in the order in which it happens,
 Of an investor the first lines are
   date YYYYMMDD
   investor NAME REQUESTS OPEN QUANTITY TRADER ..
-  bond BOND GRID                 each bond of the venue
+  bond BOND GRID [LOW HIGH]      each bond of the venue
   dealer NAME                    each dealer of the venue, behind the bonds
 and then `say`, `own`, `hex` and
   quoted N DEALER PRICE TIME [UNTIL]
@@ -39,6 +39,7 @@ One space divides the parts of a line. Empty lines and lines that begin with # a
   SIDE            1 the investor buys, 2 it sells
   QUANTITY        1 to 1000000000000
   GRID            32, 64, 128 or 256, the steps of a point that prices have; in `shown` 256 without
+  LOW, HIGH       the lowest and the highest price of the bond; without them any price
   PRICE           a decimal number of points, a whole number of 256ths
   TIME, DEADLINE, UNTIL
                   HH:MM:SS or HH:MM:SS.sss
@@ -78,10 +79,11 @@ One space divides the parts of a line. Empty lines and lines that begin with # a
   N               1 to 9 digits
 
 The configuration has
-  version         1 or 2
+  version         1, 2 or 3
   date            \"YYYYMMDD\"
-  [[bond]]        id, 12 capital letters and digits; in version 2 also grid: 32, 64, 128 or 256, the
-                  steps of a point that its prices have. In version 1 each bond has 256
+  [[bond]]        id, 12 capital letters and digits; from version 2 on also grid: 32, 64, 128 or 256,
+                  the steps of a point that its prices have. In version 1 each bond has 256. In
+                  version 3 it may have low and high, texts such as \"99.5\": the band of its prices
   [[dealer]]      name, traders; quotes, 1 to 4096, how many it may have accepted in the day;
                   exposure, 1 to 1000000000000000, the greatest sum of its live quotes' quantities
   [[investor]]    name, traders; requests and open, 1 to 1024, how many it may have accepted in the
@@ -187,7 +189,7 @@ Standard input is two days of the venue, at most 16,777,216 bytes in all: a conf
 
 Three lines are printed:
   row equal        or row differs, by the date and the row of FIRM, and of an investor also by the
-                   bonds with their grids and the names of the dealers
+                   bonds with their grids and bands and the names of the dealers
   due equal        or due differs at K, by what is due to it
   messages equal   or messages differ at K, by what it is sent
 K is the first position, from 1, at which one list has something else, or has ended. Where the first

@@ -3,7 +3,6 @@ use case_lines::{CaseFault, day, push_bytes_line, push_line, push_text};
 use fix_fields::{Moment, moment_text};
 use input_lines::{Parts, ProgramFault, fault_line};
 use market_terms::RoomRef;
-use quote_messages::SentMessage;
 use step_replay::{Actor, ReplayFault, Step};
 
 /// Puts a text of lines, with what is no printed character escaped, and so a space at a line's end.
@@ -58,14 +57,6 @@ pub(crate) fn put_replay_fault(answer: &mut String, fault: ReplayFault) -> Resul
 /// Puts a count and what is counted.
 pub(crate) fn put_count(answer: &mut String, count: usize, what: &str) -> Result<(), CaseFault> {
     writeln!(answer, "{count} {what}")?;
-    Ok(())
-}
-
-/// Puts messages, each as its bytes.
-pub(crate) fn put_frames(answer: &mut String, messages: &[SentMessage]) -> Result<(), CaseFault> {
-    for message in messages {
-        push_bytes_line(answer, message.as_bytes())?;
-    }
     Ok(())
 }
 

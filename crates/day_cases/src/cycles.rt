@@ -1,9 +1,9 @@
-//! Circles of actions.
+//! Cycles of actions.
 use case_lines::{CaseFault, push_line};
 use std::alloc::Global;
 use step_replay::Actor;
 
-/// Puts the actions of a circle: the firms' in the order of their numbers, and those of the clock.
+/// Puts the actions of a cycle: the firms' in the order of their numbers, and those of the clock.
 pub(crate) fn put_cycle(
     alloc: Global,
     answer: &mut String,

@@ -1,13 +1,13 @@
-//! Drivers of whole days: what makes the calls of cases about the replay, the dealer view, recorded
-//! days, inboxes and the texts of days.
+//! Drivers of days in parts: what makes the calls of cases about recorded days, inboxes, lists of
+//! what is due, and the faults of a replay and of the program.
 //!
 //! | place | type | what it drives |
 //! |---|---|---|
-//! | `replay` | [`Replays`] | `run`, `due`, `alone` and `LiveVenue` of `step_replay` |
+//! | `replay` | [`Replays`] | the faults of `run` and `due` of `step_replay` |
 //! | `view` | [`Views`] | `alone` on a list of any items |
 //! | `record` | [`Records`] | a `DayRecord` that is made by lines, and `weave` |
 //! | `inbox` | [`Inboxes`] | `inbox_of` of `session_worker` |
-//! | `text` | [`Texts`] | the calls of `input_lines` |
+//! | `faults` | [`Faults`] | the lines that tell the faults of `input_lines` |
 //!
 //! [`run_place`] runs a file of cases at one of them. The calls of each stand at its type. A call
 //! that answers nothing has done what it says.
@@ -18,13 +18,12 @@ mod cycles;
 mod desk_events;
 mod empty_days;
 mod events;
+mod faults;
 mod inboxes;
 mod places;
 mod records;
 mod replays;
-mod said;
 mod steps;
-mod texts;
 mod told;
 mod values;
 mod venues;

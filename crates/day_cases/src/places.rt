@@ -1,8 +1,8 @@
 //! The places of this crate by their names.
+use crate::faults::Faults;
 use crate::inboxes::Inboxes;
 use crate::records::Records;
 use crate::replays::Replays;
-use crate::texts::Texts;
 use crate::views::Views;
 use case_lines::{CaseFault, CaseFile, Report};
 
@@ -13,7 +13,7 @@ pub fn run_place(file: &CaseFile<'_>, report: &mut Report) -> Result<bool, CaseF
         "view" => file.run(Views::new, report),
         "record" => file.run(Records::new, report),
         "inbox" => file.run(Inboxes::new, report),
-        "text" => file.run(Texts::new, report),
+        "faults" => file.run(Faults::new, report),
         _ => Ok(false),
     }
 }

@@ -7,7 +7,7 @@ use market_terms::RoomRef;
 use std::alloc::Global;
 use step_replay::Step;
 use venue_config::read_config;
-use venue_rows::{Name, VenueConfig};
+use venue_rows::VenueConfig;
 
 /// A venue and the steps of a day that is to be.
 #[derive(Drop)]
@@ -16,8 +16,6 @@ pub(crate) struct Venue {
     text: String,
     /// The lines of the day that were not read yet.
     lines: String,
-    /// Lines that are put several times.
-    pattern: String,
     config: Option<VenueConfig>,
     /// The steps so far.
     pub(crate) steps: Vec<Step>,
@@ -29,7 +27,6 @@ impl Venue {
         Venue {
             text: String::new(alloc),
             lines: String::new(alloc),
-            pattern: String::new(alloc),
             config: None,
             steps: Vec::new(alloc),
         }
@@ -40,25 +37,11 @@ impl Venue {
         self.config.as_ref().ok_or(CaseFault::NotOpen)
     }
 
-    /// The name of a firm.
-    pub(crate) fn name(&self, firm: u16) -> Result<Name, CaseFault> {
-        let config = self.config()?;
-        if let Some(row) = config.dealer(firm) {
-            return Ok(row.name.copy());
-        }
-        let Some(row) = config.investor(firm) else {
-            return Err(CaseFault::Condition);
-        };
-        Ok(row.name.copy())
-    }
-
     /// Makes a call that all places with a venue know.
     pub(crate) fn call(&mut self, call: &mut Call<'_>) -> Result<(), CaseFault> {
         match call.name {
             "<" => push_line(&mut self.text, call.words.rest()),
             "-" => push_line(&mut self.lines, call.words.rest()),
-            "*" => push_line(&mut self.pattern, call.words.rest()),
-            "each" => self.put_each(call.alloc, &mut call.words),
             "open" => self.open(call.alloc, &mut call.answer),
             "read" => self.read(call.alloc, &mut call.answer),
             _ => self.put_step(call),
@@ -84,31 +67,6 @@ impl Venue {
             }
             Err(fault) => push_line(answer, fault.name()),
         }
-    }
-
-    /// Puts the pattern for each number from one to another, with `{k}` for the number and `{2k}`
-    /// for its double.
-    fn put_each(&mut self, alloc: Global, words: &mut Words<'_>) -> Result<(), CaseFault> {
-        let first = words.short_number()?;
-        let last = words.short_number()?;
-        for k in first..last.saturating_add(1) {
-            self.put_once(alloc, k)?;
-        }
-        self.pattern.clear();
-        Ok(())
-    }
-
-    /// Puts the pattern once.
-    fn put_once(&mut self, alloc: Global, k: u32) -> Result<(), CaseFault> {
-        let number = format!(in alloc; "{k}")?;
-        let double = format!(in alloc; "{}", u64::from(k) * 2)?;
-        let text = self
-            .pattern
-            .as_str()
-            .replace(alloc, "{2k}", double.as_str())?;
-        let text = text.as_str().replace(alloc, "{k}", number.as_str())?;
-        self.lines.push_str(text.as_str())?;
-        Ok(())
     }
 
     /// Reads the lines of the day, and puts their steps behind the others.

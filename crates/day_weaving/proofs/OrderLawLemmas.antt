@@ -8,7 +8,7 @@ use Rattle.std.proofs.lemmas.Option.{slice_get_within}
 use Rattle.quote_word.specs.declared.settled.Settled.{Settled}
 use Rattle.venue_rows.specs.Rows.{Configuration}
 use Rattle.day_weaving.specs.DayForm.{AreNamedOnce, IsWellFormed}
-use Rattle.day_weaving.specs.DayOrder.{ByActor, BySite, ByWord, IsBehind, IsCircle}
+use Rattle.day_weaving.specs.DayOrder.{ByActor, BySite, ByWord, IsBehind, IsCycle}
 use Rattle.day_weaving.specs.DayOrder.{IsDirectlyBefore, IsFirst, IsNextAtSite, KeepsOrder}
 use Rattle.day_weaving.specs.DayOrder.{OfOneWord, StandsAt, grants, is_as_wished, is_by, is_granted}
 use Rattle.day_weaving.specs.DayOrder.{is_refused, refuses}
@@ -202,14 +202,14 @@ module _ (day : RecordedDay) (slots : List Slot) (named : AreNamedOnce day)
   )
   is_action one other (ByWord asked) = (ap is_some asked.one_is, ap is_some asked.other_is)
 
-  -- no action of a circle stands anywhere
-  never : (actions : List ActionRef) → IsCircle day actions → (n index : ℕ) (action : ActionRef)
+  -- no action of a cycle stands anywhere
+  never : (actions : List ActionRef) → IsCycle day actions → (n index : ℕ) (action : ActionRef)
       → slice_get actions index ≡ Some action → (place : ℕ) → StandsIn slots action place
       → place < n → ⊥
-  never actions circle zero index action there place stands below = omega arith
-  never actions circle (suc n) index action there place stands below =
+  never actions cycle zero index action there place stands below = omega arith
+  never actions cycle (suc n) index action there place stands below =
       let within : index < length actions = slice_get_within actions index action there in
-      let back = circle.each index within in
+      let back = cycle.each index within in
       let both : Some back.later_is ≡ Some action = sym back.later_there ∙ there in
       let same : back.later_is ≡ action = cc in
       let directly : IsDirectlyBefore day back.one_is action =
@@ -218,15 +218,15 @@ module _ (day : RecordedDay) (slots : List Slot) (named : AreNamedOnce day)
       let less : once.place < place =
       comes_before back.one_is action directly once.place place once.stands stands in
       let lower : once.place < n = omega arith in
-      never actions circle n back.other back.one_is back.one_there once.place once.stands lower
+      never actions cycle n back.other back.one_is back.one_there once.place once.stands lower
 
-  pub no_circle : (actions : List ActionRef) → IsCircle day actions → ⊥
-  no_circle actions circle =
-      let back = circle.each 0 circle.some in
+  pub no_cycle : (actions : List ActionRef) → IsCycle day actions → ⊥
+  no_cycle actions cycle =
+      let back = cycle.each 0 cycle.some in
       let once = stands_once day slots keeps back.one_is
       (is_action back.one_is back.later_is back.before).0 in
       let under : once.place < once.place + 1 = omega arith in
-      never actions circle (once.place + 1) back.other back.one_is back.one_there once.place
+      never actions cycle (once.place + 1) back.other back.one_is back.one_there once.place
       once.stands under
 
 -- Faults.
@@ -237,6 +237,6 @@ pub told_with_an_order : (config : Configuration) (day : RecordedDay) (slots : L
 told_with_an_order config day slots fault.Malformed well keeps is =
     absurd (never_both config day well is)
 told_with_an_order config day slots (fault.Cycle actions) well keeps is =
-    absurd (no_circle day slots well.named keeps actions.items is.1)
+    absurd (no_cycle day slots well.named keeps actions.items is.1)
 told_with_an_order config day slots (fault.Differs firm) well keeps is = tt
 told_with_an_order config day slots fault.Memory well keeps is = tt

@@ -6,7 +6,7 @@ use Rattle.std.specs.Prelude.{IfNone, option_and_then}
 use Rattle.std.proofs.lemmas.Bool.Decides.{nat_tests}
 use Rattle.std.proofs.lemmas.List.{length-drop}
 use Rattle.std.proofs.lemmas.Option.{slice_get_within}
-use Rattle.day_weaving.specs.DayOrder.{HasOneBefore, IsCircle, IsDirectlyBefore}
+use Rattle.day_weaving.specs.DayOrder.{HasOneBefore, IsCycle, IsDirectlyBefore}
 use Rattle.day_weaving.specs.OrderCounts.{count_in, key_of}
 use Rattle.day_weaving.specs.OrderSearch.{IsAction, IsLeft, IsTable, Stands, index_in, mark_of}
 use Rattle.day_weaving.specs.OrderSearch.{place_on}
@@ -27,7 +27,7 @@ pub comes_round : (day : RecordedDay) (way : List ActionRef) (start : ℕ) (one 
     → IsDirectlyBefore day one top
     → ((at : ℕ) (later earlier : ActionRef) → slice_get way at ≡ Some later
     → slice_get way (at + 1) ≡ Some earlier → IsDirectlyBefore day earlier later)
-    → IsCircle day (drop start way)
+    → IsCycle day (drop start way)
 comes_round day way start one top there at_top closes chain = record {
   some = omega (arith, length-drop start way, within);
   each = λ place below. by_test place below (nat_lt (place + 1) (length (drop start way))) refl;

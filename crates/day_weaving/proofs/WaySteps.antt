@@ -3,7 +3,7 @@ use Rattle.std.proofs.Common.{◌≡◌, ◌<◌, ◌≤◌, ℕ, ◌+◌, ◌-�
 use Rattle.std.proofs.Common.{slice_index_or, Option, Some, None, arith, refl, sym, ap, subst, ◌∙◌}
 use Rattle.std.specs.Prelude.{option_and_then}
 use Rattle.std.proofs.lemmas.Option.{slice_get_read, slice_get_within}
-use Rattle.day_weaving.specs.DayOrder.{IsCircle, IsDirectlyBefore}
+use Rattle.day_weaving.specs.DayOrder.{IsCycle, IsDirectlyBefore}
 use Rattle.day_weaving.specs.OrderSearch.{Grows, IsAction, IsLeft, IsLeftBefore, IsReady, IsSlot}
 use Rattle.day_weaving.specs.OrderSearch.{IsTable, Places, Pushes, Stands, index_in, mark_of}
 use Rattle.day_weaving.specs.OrderSearch.{place_on, steps_left}
@@ -129,13 +129,13 @@ way_within day table state one start stands is found =
     (stands_on_way day table state one start stands is found) in
     omega arith
 
-pub way_circle : (day : RecordedDay) (table : Table) (state : Search) (one top : ActionRef)
+pub way_cycle : (day : RecordedDay) (table : Table) (state : Search) (one top : ActionRef)
     (start : ℕ) → Stands day table state
     → slice_get state.way.items (length state.way.items - 1) ≡ Some top
     → IsLeftBefore day state.done one top
     → Some start ≡ option_and_then place_on (mark_of table state.marks.items one)
-    → IsCircle day (drop start state.way.items)
-way_circle day table state one top start stands at_top before found =
+    → IsCycle day (drop start state.way.items)
+way_cycle day table state one top start stands at_top before found =
     comes_round day state.way.items start one top
     (stands_on_way day table state one start stands before.is_action found) at_top before.before
     stands.way

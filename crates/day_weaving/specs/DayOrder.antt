@@ -90,7 +90,7 @@ pub record HasOneBefore (day : RecordedDay) (actions : List ActionRef) (place : 
 
 -- Actions, and at least one, of which each has one of them directly before it: so no order keeps
 -- each behind all that are directly before it.
-pub record IsCircle (day : RecordedDay) (actions : List ActionRef) : Type 0 where
+pub record IsCycle (day : RecordedDay) (actions : List ActionRef) : Type 0 where
   pub some : 0 < length actions
   pub each : (place : ℕ) → place < length actions → HasOneBefore day actions place
 

@@ -6,7 +6,7 @@ use Rattle.std.specs.List.{list_any, sum_by}
 use Rattle.std.specs.Option.{option_map_or}
 use Rattle.venue_places.specs.declared.actors.Actor.{Actor}
 use Rattle.day_weaving.specs.DayForm.{AreNamedOnce}
-use Rattle.day_weaving.specs.DayOrder.{ComesInTurn, IsCircle, IsDirectlyBefore, IsNextAtSite}
+use Rattle.day_weaving.specs.DayOrder.{ComesInTurn, IsCycle, IsDirectlyBefore, IsNextAtSite}
 use Rattle.day_weaving.specs.DayOrder.{KeepsOrder, StandsAt, grants, is_granted}
 use Rattle.day_weaving.specs.DayOrder.{is_refused, refuses}
 use Rattle.day_weaving.specs.OrderCounts.{AreOfActors, Counts, SetsCount, count_in, key_of}
@@ -198,4 +198,4 @@ pub record Places (table : Table) (before after : Search) (slot : Slot) : Type 0
 
 abbrev pub FoundIsTrue : RecordedDay → Found → Type 0
 FoundIsTrue day (found.Order slots) = KeepsOrder day slots.items
-FoundIsTrue day (found.Circle actions) = IsCircle day actions.items
+FoundIsTrue day (found.Cycle actions) = IsCycle day actions.items

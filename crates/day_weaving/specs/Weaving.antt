@@ -12,7 +12,7 @@ use Rattle.step_replay.specs.declared.steps.Step.TheVariants as step
 use Rattle.step_replay.specs.declared.steps.Step.{Step}
 use Rattle.recorded_days.specs.Records.{FirmLists, RecordedDay, action_in, firm_in}
 use Rattle.day_weaving.specs.DayForm.{IsMalformed, IsWellFormed, takes_message}
-use Rattle.day_weaving.specs.DayOrder.{IsCircle, KeepsOrder}
+use Rattle.day_weaving.specs.DayOrder.{IsCycle, KeepsOrder}
 use Rattle.recorded_days.specs.declared.actions.Action.{Action}
 use Rattle.recorded_days.specs.declared.actions.Inbound.{Inbound}
 use Rattle.recorded_days.specs.declared.actions.Kind.{Kind}
@@ -99,7 +99,7 @@ pub record AreWoven (config : Configuration) (day : RecordedDay) (steps : List S
 abbrev pub FaultIsTrue : Configuration → RecordedDay → WeaveFault → Type 0
 FaultIsTrue config day fault.Malformed = IsMalformed config day
 FaultIsTrue config day (fault.Cycle actions) =
-    IsWellFormed config day × IsCircle day actions.items
+    IsWellFormed config day × IsCycle day actions.items
 FaultIsTrue config day (fault.Differs firm) =
     (steps : List Step) × AreWoven config day steps × SendsElse config day steps firm
     × SendAsRecordedBelow firm config day steps

@@ -19,7 +19,7 @@ ghost use Rattle.step_replay.specs.declared.steps.Step.{Step};
 /// Where the orders of the desks and rooms name each action exactly once too, as they do on each
 /// day that is woven, no action stands in it before one that is directly before it (`before`). So
 /// where of some actions each has another of them directly before it, there is no such order
-/// (`circle`).
+/// (`cycle`).
 pub fn orders_keep_what_is_before()
     ensures once { (day : RecordedDay) (slots : List Slot) → spec.KeepsOrder day slots
         → (action : ActionRef) → is_some (recorded.action_in day action) ≡ true
@@ -27,8 +27,8 @@ pub fn orders_keep_what_is_before()
     ensures before { (day : RecordedDay) (slots : List Slot) → form.AreNamedOnce day
         → spec.KeepsOrder day slots → (one other : ActionRef)
         → spec.IsDirectlyBefore day one other → order.ComesBefore slots one other }
-    ensures circle { (day : RecordedDay) (slots : List Slot) (actions : List ActionRef)
-        → form.AreNamedOnce day → spec.IsCircle day actions → spec.KeepsOrder day slots → ⊥ }
+    ensures cycle { (day : RecordedDay) (slots : List Slot) (actions : List ActionRef)
+        → form.AreNamedOnce day → spec.IsCycle day actions → spec.KeepsOrder day slots → ⊥ }
 {}
 
 /// Where the orders of the desks and rooms name each action exactly once, a list of actions has
@@ -36,7 +36,7 @@ pub fn orders_keep_what_is_before()
 /// after all that are directly before it (`kept`, `counted`).
 ///
 /// So the steps of a day that is woven are its actions in such an order (`woven`), and where of
-/// some actions each has another of them directly before it, there is no such order (`circle`).
+/// some actions each has another of them directly before it, there is no such order (`cycle`).
 pub fn orders_are_kept_by_counting()
     ensures kept { (day : RecordedDay) (slots : List Slot) → form.AreNamedOnce day
         → spec.KeepsOrder day slots → order.IsOrder day slots }
@@ -46,8 +46,8 @@ pub fn orders_are_kept_by_counting()
         → weaving.AreWoven config day steps
         → (slots : List Slot) × order.IsOrder day slots
         × AllZip (weaving.IsStepOf day) slots steps }
-    ensures circle { (day : RecordedDay) (slots : List Slot) (actions : List ActionRef)
-        → form.AreNamedOnce day → spec.IsCircle day actions → order.IsOrder day slots → ⊥ }
+    ensures cycle { (day : RecordedDay) (slots : List Slot) (actions : List ActionRef)
+        → form.AreNamedOnce day → spec.IsCycle day actions → order.IsOrder day slots → ⊥ }
 {}
 
 /// A record that is of a day of a venue is not malformed, so no malformed record is woven.

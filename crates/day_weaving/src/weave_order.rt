@@ -22,7 +22,7 @@ pub(crate) enum Found {
     Order(Vec<Slot>),
     /// Actions of which each has one directly before it: that behind it in the list, and of the
     /// last the first.
-    Circle(Vec<(Actor, u64)>),
+    Cycle(Vec<(Actor, u64)>),
 }
 
 /// Searches an order of a day whose orders name each action at a place that is noted. It takes time
@@ -42,8 +42,8 @@ pub(crate) fn order_of(
     let table = table_of(alloc, config, day, places)?;
     let mut state = Search::new(alloc, &table)?;
     for index in 0..table.slots.len() {
-        if let Some(circle) = state.bring(alloc, day, &table, index)? {
-            return Ok(Found::Circle(circle));
+        if let Some(cycle) = state.bring(alloc, day, &table, index)? {
+            return Ok(Found::Cycle(cycle));
         }
     }
     let Search { order, .. } = state;

@@ -3,7 +3,7 @@
 //! To bring an action into the order, the search goes back from it to one that it waits for (one
 //! that is directly before it and has not come), from there to one that this waits for, and so on,
 //! up to one that waits for nothing: this is placed, and the search goes on from the one that it
-//! came from. Where the way back meets itself, it is a circle from there on.
+//! came from. Where the way back meets itself, it is a cycle from there on.
 ghost use Rattle.std.specs.Prelude.{◌≡◌, ◌<◌, ◌≤◌, ℕ, ◌+◌, length, drop, slice_get, None, Some};
 ghost use Rattle.std.specs.Prelude.{option_and_then, IfOk, OnOk, IfSome, IfNone};
 ghost use Rattle.day_weaving.specs.DayOrder as spec;
@@ -73,22 +73,22 @@ impl Search {
         requires table { sought.IsTable day.now table.now }
         requires stands { sought.Stands day.now table.now self.old }
         requires within { index < length table.now.slots.items }
-        ensures stands { IfOk result (λ circle. sought.Stands day.now table.now self.new) }
-        ensures circle { IfOk result (λ circle. IfSome circle (λ list.
-            spec.IsCircle day.now list.items)) }
-        ensures come { IfOk result (λ circle. IfNone circle ((slot : Slot)
+        ensures stands { IfOk result (λ cycle. sought.Stands day.now table.now self.new) }
+        ensures cycle { IfOk result (λ cycle. IfSome cycle (λ list.
+            spec.IsCycle day.now list.items)) }
+        ensures come { IfOk result (λ cycle. IfNone cycle ((slot : Slot)
             → slice_get table.now.slots.items index ≡ Some slot
             → sought.HasCome self.new.done slot.action)) }
-        ensures grows { IfOk result (λ circle. sought.Grows self.old.done self.new.done) }
+        ensures grows { IfOk result (λ cycle. sought.Grows self.old.done self.new.done) }
     {
         let action = table.slots[index].action;
         for _ in 0..2 * table.slots.len() {
             if has_come(&self.done, action) {
                 return Ok(None);
             }
-            let circle = self.step(alloc, day, table, action)?;
-            if circle.is_some() {
-                return Ok(circle);
+            let cycle = self.step(alloc, day, table, action)?;
+            if cycle.is_some() {
+                return Ok(cycle);
             }
         }
         Ok(None)
@@ -106,12 +106,12 @@ impl Search {
         requires stands { sought.Stands day.now table.now self.old }
         requires is_action { sought.IsAction day.now action }
         requires left { sought.IsLeft self.old.done action }
-        ensures stands { IfOk result (λ circle. sought.Stands day.now table.now self.new) }
-        ensures circle { IfOk result (λ circle. IfSome circle (λ list.
-            spec.IsCircle day.now list.items)) }
-        ensures less { IfOk result (λ circle. IfNone circle
+        ensures stands { IfOk result (λ cycle. sought.Stands day.now table.now self.new) }
+        ensures cycle { IfOk result (λ cycle. IfSome cycle (λ list.
+            spec.IsCycle day.now list.items)) }
+        ensures less { IfOk result (λ cycle. IfNone cycle
             (sought.steps_left self.new + 1 ≡ sought.steps_left self.old)) }
-        ensures grows { IfOk result (λ circle. sought.Grows self.old.done self.new.done) }
+        ensures grows { IfOk result (λ cycle. sought.Grows self.old.done self.new.done) }
     {
         let Some(top) = self.way.last().copied() else {
             self.push(table, action)?;
@@ -123,8 +123,8 @@ impl Search {
             return Ok(None);
         };
         if let Some(start) = self.place_of(table, earlier) {
-            let circle = self.way_from(alloc, start)?;
-            return Ok(Some(circle));
+            let cycle = self.way_from(alloc, start)?;
+            return Ok(Some(cycle));
         }
         self.push(table, earlier)?;
         Ok(None)

@@ -74,7 +74,7 @@ pub fn weave(alloc: Global, config: &VenueConfig, day: &DayRecord) -> Result<Vec
         return Err(WeaveFault::Malformed);
     };
     match order_of(alloc, config, day, &places)? {
-        Found::Circle(actions) => Err(WeaveFault::Cycle(actions)),
+        Found::Cycle(actions) => Err(WeaveFault::Cycle(actions)),
         Found::Order(slots) => {
             let steps = replayed_as_recorded(alloc, config, day, slots.as_slice())?;
             Ok(steps)

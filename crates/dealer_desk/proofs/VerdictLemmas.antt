@@ -107,12 +107,12 @@ quote_fits row book moment quote shown range passed =
     let h = none_holds (quote_checks row book moment quote (Some shown)) passed in
     record {
       number_is = refl;
-      id_is_new = no_some (quote_with_id book quote.id) h.1.1.1.1.1.1.1.1.0;
+      id_is_new = no_some (quote_with_id book quote.id) h.1.1.1.1.1.1.1.1.1.0;
       from_first = range.0;
       to_last = range.1;
       replaced_is = refl;
-      room = not_many row.quotes (length book.quotes) h.1.1.1.1.1.1.1.1.1.1.0;
-      exposure = not_more row.exposure _ h.1.1.1.1.1.1.1.1.1.1.1.0;
+      room = not_many row.quotes (length book.quotes) h.1.1.1.1.1.1.1.1.1.1.1.0;
+      exposure = not_more row.exposure _ h.1.1.1.1.1.1.1.1.1.1.1.1.0;
     }
 
 quote_holds : (row : DealerRow) (book : DealerBook) (moment : ℕ) (quote : Quote) (found : Option StandingRequest) (refusal : Option QuoteRefusal)

@@ -2,7 +2,9 @@
 use Rattle.std.specs.Prelude.{ℕ, ◌+◌, Bool, false, ◌==◌, ◌||◌, not, nat_lt, nat_le}
 use Rattle.std.specs.Prelude.{List, [], ◌∷◌, Option, Some, None, unwrap_or, is_none, is_some}
 use Rattle.std.specs.Prelude.{Result, Ok, Err, if◌then◌else◌}
+use Rattle.bond_prices.specs.Band.{in_band}
 use Rattle.bond_prices.specs.Grid.{on_grid}
+use Rattle.bond_prices.specs.declared.band.Band.{Band}
 use Rattle.bond_prices.specs.declared.fault.PriceFault.{PriceFault}
 use Rattle.venue_rows.specs.Texts.{same_text}
 use Rattle.venue_rows.specs.declared.dealer_rows.DealerRow.{DealerRow}
@@ -64,6 +66,11 @@ unfoldable pub price_for : Ask → Quote → Option ℕ
 price_for ask quote =
     if_on_grid ask.grid (lone_price (asked_price ask.side quote) (other_price ask.side quote))
 
+-- whether a price stands and is outside the band of the bond
+abbrev pub is_outside : Band → Option ℕ → Bool
+is_outside band None = false
+is_outside band (Some price) = not (in_band price band)
+
 -- The conditions of the checks.
 
 -- whether a value stands and is not the one that is wanted
@@ -104,6 +111,10 @@ quote_checks row book moment quote request =
     ∷ (of_request request (λ shown. nat_le shown.ask.deadline moment), no_quote.DeadlinePassed)
     ∷ (of_request request (λ shown. not (same_text quote.bond shown.ask.bond)), no_quote.OtherBond)
     ∷ (of_request request (λ shown. is_none (price_for shown.ask quote)), no_quote.InvalidPrice)
+    ∷ (
+      of_request request (λ shown. is_outside shown.ask.band (price_for shown.ask quote)),
+      no_quote.OutsideBand,
+    )
     ∷ (of_request request (λ shown. sizes_differ shown.ask.quantity quote), no_quote.OtherQuantity)
     ∷ (differs_from 1 quote.quote_type, no_quote.NotTradeable)
     ∷ (is_some (quote_with_id book quote.id), no_quote.DuplicateQuote)

@@ -10,7 +10,8 @@ use Rattle.quote_messages.specs.declared.quotes.Quote.{Quote}
 use Rattle.dealer_desk.specs.DealerFacts.{DealerFact, Quoted, Withdrawn, Late, Declined, DealerBook}
 use Rattle.dealer_desk.specs.DealerFacts.{book_of, quotes_accepted, requests_shown, quote_with_id}
 use Rattle.dealer_desk.specs.DealerFacts.{has_lifted_quote}
-use Rattle.dealer_desk.specs.DealerRules.{price_for, sizes_differ, differs_from, exposure_with}
+use Rattle.dealer_desk.specs.DealerRules.{is_outside, price_for, sizes_differ, differs_from}
+use Rattle.dealer_desk.specs.DealerRules.{exposure_with}
 use Rattle.dealer_desk.specs.BookChanges.{FitsBook, IsLiveNumber}
 use Rattle.dealer_desk.specs.DealerTable.{IndexView, with_fact}
 use Rattle.dealer_desk.specs.declared.standing.StandingRequest.{StandingRequest}
@@ -61,6 +62,7 @@ terms_checks moment quote ask =
     (nat_le ask.deadline moment, no_quote.DeadlinePassed)
     ∷ (not (same_text quote.bond ask.bond), no_quote.OtherBond)
     ∷ (is_none (price_for ask quote), no_quote.InvalidPrice)
+    ∷ (is_outside ask.band (price_for ask quote), no_quote.OutsideBand)
     ∷ (sizes_differ ask.quantity quote, no_quote.OtherQuantity)
     ∷ (differs_from 1 quote.quote_type, no_quote.NotTradeable)
     ∷ []

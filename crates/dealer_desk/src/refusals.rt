@@ -20,6 +20,8 @@ pub enum QuoteRefusal {
     /// The price of the asked side is absent, out of range or off the grid of the bond, or a price
     /// of the other side is present.
     InvalidPrice,
+    /// The price is below the lowest or above the highest of the bond's band.
+    OutsideBand,
     /// BidSize (134) or OfferSize (135) is present and is not the request's quantity.
     OtherQuantity,
     /// QuoteType (537) is present and is not 1, tradeable.
@@ -51,6 +53,7 @@ impl QuoteRefusal {
             QuoteRefusal::DeadlinePassed => QuoteRejectReason::TooLate,
             QuoteRefusal::OtherBond => QuoteRejectReason::UnknownSymbol,
             QuoteRefusal::InvalidPrice => QuoteRejectReason::InvalidPrice,
+            QuoteRefusal::OutsideBand => QuoteRejectReason::InvalidPrice,
             QuoteRefusal::OtherQuantity => QuoteRejectReason::Other,
             QuoteRefusal::NotTradeable => QuoteRejectReason::Other,
             QuoteRefusal::DuplicateQuote => QuoteRejectReason::DuplicateQuote,
@@ -73,6 +76,7 @@ impl QuoteRefusal {
             QuoteRefusal::DeadlinePassed => b"DeadlinePassed",
             QuoteRefusal::OtherBond => b"OtherBond",
             QuoteRefusal::InvalidPrice => b"InvalidPrice",
+            QuoteRefusal::OutsideBand => b"OutsideBand",
             QuoteRefusal::OtherQuantity => b"OtherQuantity",
             QuoteRefusal::NotTradeable => b"NotTradeable",
             QuoteRefusal::DuplicateQuote => b"DuplicateQuote",

@@ -10,7 +10,7 @@ use crate::cancels::{cancel_verdict, decline_verdict};
 use crate::index::DealerIndex;
 use crate::table::RequestRow;
 use crate::{AcceptedQuote, DealerVerdict, QuoteRefusal};
-use bond_prices::{Grid, PriceFault, Ticks, on_grid};
+use bond_prices::{Grid, PriceFault, Ticks, in_band, on_grid};
 use fix_fields::{Date, Moment};
 use market_terms::{Ask, IdBuf, Quantity, Side};
 use quote_messages::{Arrival, DealerMessage, Quote, receive_dealer, receive_dealer_frame};
@@ -156,6 +156,9 @@ fn price_by_terms(moment: Moment, quote: &Quote, ask: &Ask) -> Result<Ticks, Quo
     let Some(price) = price_for(ask, quote) else {
         return Err(QuoteRefusal::InvalidPrice);
     };
+    if !in_band(price, ask.band) {
+        return Err(QuoteRefusal::OutsideBand);
+    }
     if sizes_differ(ask.quantity, quote) {
         return Err(QuoteRefusal::OtherQuantity);
     }

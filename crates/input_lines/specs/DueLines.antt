@@ -1,7 +1,11 @@
 -- The lines of due text: what each spells.
 use Rattle.std.specs.Prelude.{ℕ, ◌+◌, ◌-◌, ◌==◌, Bool, ◌&&◌, not, List, [], ◌∷◌, ◌++◌, length}
 use Rattle.std.specs.Prelude.{slice_index, nat_le, nat_lt, codes, Option, Some, None, if◌then◌else◌}
+use Rattle.std.specs.Result.{result_ok}
+use Rattle.bond_prices.specs.Band.{whole_band}
 use Rattle.bond_prices.specs.Grid.{finest_grid, grid_of}
+use Rattle.bond_prices.specs.Price.{price_of}
+use Rattle.bond_prices.specs.declared.band.Band.{Band}
 use Rattle.fix_fields.specs.UtcTimestamp.{is_date}
 use Rattle.venue_rows.specs.Rows.{DealerValues}
 use Rattle.venue_rows.specs.Texts.{is_name, is_firm_name, is_bond_id}
@@ -83,9 +87,23 @@ asked_quantity text = do
 -- GRID, where it stands behind TIME: one of the grids that bonds are quoted on, and else the finest
 abbrev pub grid_behind : List ℕ → Option ℕ
 grid_behind text =
-    if has_part_behind text then number_of (behind_part text) >>= grid_of else Some finest_grid
+    if has_part_behind text
+    then number_of (first_part (behind_part text)) >>= grid_of
+    else Some finest_grid
 
--- behind `shown`: INVESTOR BOND SIDE QUANTITY DEADLINE TIME, and GRID where it is given
+-- LOW HIGH: any two prices
+abbrev pub ends_of : List ℕ → Option Band
+ends_of text = do
+  low ← result_ok (price_of (first_part text))
+  high ← result_ok (price_of (behind_part text))
+  Some (record { low = low; high = high })
+
+-- LOW HIGH, where they stand behind GRID, and else the band of every price
+abbrev pub band_behind : List ℕ → Option Band
+band_behind text = if has_part_behind text then ends_of (behind_part text) else Some whole_band
+
+-- behind `shown`: INVESTOR BOND SIDE QUANTITY DEADLINE TIME, GRID where it is given, and LOW HIGH
+-- where they are
 unfoldable pub shown_of : List ℕ → List ℕ → Option Due
 shown_of date text = do
   let behind_investor = behind_part text
@@ -100,6 +118,7 @@ shown_of date text = do
   deadline ← time_of date (first_part behind_quantity)
   moment ← time_of date (first_part behind_deadline)
   grid ← grid_behind behind_deadline
+  band ← band_behind (behind_part behind_deadline)
   let ask : Ask = record {
     investor = investor;
     bond = bond;
@@ -107,6 +126,7 @@ shown_of date text = do
     quantity = quantity;
     deadline = deadline;
     grid = grid;
+    band = band;
   }
   Some (due.Shown ask moment)
 

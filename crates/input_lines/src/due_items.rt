@@ -4,7 +4,7 @@ ghost use Rattle.input_lines.specs.DueLines as spec;
 
 use crate::frame_lines::{read_hexed, read_received};
 use crate::parts::{cut_part, has_part_behind, read_side, read_time, same_text};
-use bond_prices::Grid;
+use bond_prices::{Band, Grid, read_price};
 use fix_fields::{Date, Memory};
 use quote_messages::{Ask, Close, FirmMessage, Quantity, read_long_number, read_number};
 use std::alloc::Global;
@@ -61,7 +61,8 @@ fn read_hex(alloc: Global, date: &Date, text: &[u8]) -> Result<Option<Due>, Memo
     Ok(Some(Due::Own(moment, FirmMessage::new(message))))
 }
 
-/// Behind `shown`: `INVESTOR BOND SIDE QUANTITY DEADLINE TIME`, and `GRID` where it is given.
+/// Behind `shown`: `INVESTOR BOND SIDE QUANTITY DEADLINE TIME`, `GRID` where it is given, and `LOW
+/// HIGH` where they are.
 #[tactic(auto, unfolding(crate::specs::DueLines::shown_of))]
 fn read_shown(date: &Date, text: &[u8]) -> Option<Due>
     ensures { result ≡ spec.shown_of date.now text.now }
@@ -71,7 +72,7 @@ fn read_shown(date: &Date, text: &[u8]) -> Option<Due>
     let (side, rest) = cut_part(rest);
     let (quantity, rest) = cut_part(rest);
     let (deadline, rest) = cut_part(rest);
-    let (time, _) = cut_part(rest);
+    let (time, limits) = cut_part(rest);
     let ask = Ask {
         investor: Name::of_firm(investor)?,
         bond: BondId::new(bond)?,
@@ -79,6 +80,7 @@ fn read_shown(date: &Date, text: &[u8]) -> Option<Due>
         quantity: Quantity::new(read_long_number(quantity)?)?,
         deadline: read_time(date, deadline)?,
         grid: read_grid(rest)?,
+        band: read_band(limits)?,
     };
     let moment = read_time(date, time)?;
     Some(Due::Shown(ask, moment))
@@ -91,9 +93,24 @@ fn read_grid(text: &[u8]) -> Option<Grid>
     if !has_part_behind(text) {
         return Some(Grid::FINEST);
     }
-    let (_, grid) = cut_part(text);
+    let (_, limits) = cut_part(text);
+    let (grid, _) = cut_part(limits);
     let steps = read_number(grid)?;
     Grid::new(steps as u32)
+}
+
+/// LOW HIGH, where they stand behind GRID, and else the band of every price.
+pub fn read_band(text: &[u8]) -> Option<Band>
+    ensures { result ≡ spec.band_behind text.now }
+{
+    if !has_part_behind(text) {
+        return Some(Band::WHOLE);
+    }
+    let (_, ends) = cut_part(text);
+    let (low, high) = cut_part(ends);
+    let low = read_price(low).ok()?;
+    let high = read_price(high).ok()?;
+    Some(Band { low, high })
 }
 
 /// Behind `lifted`: the number of a quote.

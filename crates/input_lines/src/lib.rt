@@ -30,8 +30,8 @@
 //!   those.
 //! - [`SayLine`], [`read_received`] and [`read_hexed`] read what a firm sends as lines of steps and
 //!   of due text share it, [`NumberedLines`], [`Parts`], [`read_date`], [`read_traders`],
-//!   [`read_time`] and [`read_side`] what is in a line; [`push_barred`] writes a message with a bar
-//!   for each SOH, as such a line has it.
+//!   [`read_band`], [`read_time`] and [`read_side`] what is in a line; [`push_barred`] writes a
+//!   message with a bar for each SOH, as such a line has it.
 //! - [`fault_line`] is the whole line of every fault.
 //!
 //! No call has a condition but those that say so; each returns, and only memory can be refused.
@@ -58,6 +58,7 @@ mod venue_parts;
 
 pub use bars::push_barred;
 pub use dealer_line::{read_date, read_traders};
+pub use due_items::read_band;
 pub use due_text::{DueText, read_due_text};
 pub use faults::{ProgramFault, UnkeptDay, UnwovenDay, fault_line};
 pub use fields::{Field, read_fields};

@@ -93,6 +93,7 @@ request_kept market book moment request bond = record {
     quantity = request.quantity;
     deadline = request.deadline;
     grid = bond.grid;
+    band = bond.band;
   };
   dealers = dealer_numbers market request.dealers;
   moment = moment;

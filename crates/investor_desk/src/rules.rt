@@ -254,6 +254,7 @@ fn kept(
         quantity = request.now.quantity;
         deadline = request.now.deadline;
         grid = bond.grid;
+        band = bond.band;
       };
       dealers = dealers;
       moment = moment;
@@ -270,6 +271,7 @@ fn kept(
             quantity: request.quantity,
             deadline: request.deadline,
             grid: bond.grid,
+            band: bond.band,
         },
         dealers,
         moment,

@@ -13,7 +13,7 @@ use Rattle.market_terms.specs.declared.rooms.RoomRef.{RoomRef}
 use Rattle.venue_rows.specs.Rows.{Configuration, has_room, dealer_numbered, investor_numbered}
 use Rattle.venue_rows.specs.declared.dealer_rows.DealerRow.{DealerRow}
 use Rattle.venue_places.specs.Dealers.{Dealer, acting_dealer, dealer_of, has_word_for}
-use Rattle.venue_places.specs.Placed.{at_investor, by_dealer, declined, placed, where_so}
+use Rattle.venue_places.specs.Placed.{at_investor, by_dealer, declined, placed, placed_if}
 use Rattle.venue_places.specs.declared.actors.Actor.{Actor}
 use Rattle.venue_places.specs.declared.actors.Actor.TheVariants as actor
 use Rattle.venue_places.specs.declared.arrivals.Placement.{Placement}
@@ -40,7 +40,7 @@ as_coming number (Some (arrival.Hit room response word moment)) = refl
 
 -- what is brought to no desk of an investor
 pub nowhere : (number : ℕ) (may : Bool) (coming : Placement) → at_desk number (Some coming) ≡ None
-    → at_desk number (where_so may coming) ≡ None
+    → at_desk number (placed_if may coming) ≡ None
 nowhere number true coming none = none
 nowhere number false coming none = refl
 
@@ -52,7 +52,7 @@ module _ (config : Configuration) (number : ℕ)
   brought_there firm what = by_test (firm == number) refl
     where
       another : (may : Bool) → (firm == number) ≡ false
-          → None ≡ at_desk number (where_so may (arrival.Investor firm what))
+          → None ≡ at_desk number (placed_if may (arrival.Investor firm what))
       another true is = ap (λ (b : Bool). if b then Some what else None) (sym is)
       another false is = refl
 
@@ -61,7 +61,7 @@ module _ (config : Configuration) (number : ℕ)
       by_test true is =
           let equal : firm ≡ number = grind (arith, nat_tests) in
           ap (λ (b : Bool). if b then Some what else None) (sym is)
-          ∙ ap (λ (may : Bool). at_desk number (where_so may (arrival.Investor firm what)))
+          ∙ ap (λ (may : Bool). at_desk number (placed_if may (arrival.Investor firm what)))
           (sym (ap (λ (n : ℕ). is_some (investor_numbered config n)) equal ∙ is_investor))
       by_test false is = another (is_some (investor_numbered config firm)) is
 

@@ -1,5 +1,5 @@
--- The parts of a line that tells what was due to an investor: the number of a request, a name, a
--- price, a time, a reply, each as it is written and read again.
+-- The parts of a line that tells what was due to an investor: the number of a request, a name, a time,
+-- a reply, each as it is written and read again.
 use Rattle.std.proofs.Common.{◌≡◌, ℕ, ◌/◌, ◌%◌, ◌*◌, ◌+◌, ◌≤◌, ◌==◌, not, Bool, true, cond, List}
 use Rattle.std.proofs.Common.{[], ◌∷◌, ◌++◌, map, decimal, Option, Some, None, Ok, refl, ap, ◌∙◌}
 use Rattle.std.proofs.Common.{arith, inl, inr}
@@ -9,8 +9,6 @@ use Rattle.std.specs.Result.{result_ok}
 use Rattle.std.proofs.lemmas.Bool.{and_parts, cases_Bool}
 use Rattle.std.proofs.lemmas.Bool.Decides.{nat_tests}
 use Rattle.std.proofs.lemmas.List.{append-nil, append_assoc}
-use Rattle.bond_prices.specs.Price.{before_nonzero, eight_decimals, fraction_digits, fraction_of}
-use Rattle.bond_prices.specs.Price.{point_text, price_digits, price_of, without_last_zeros}
 use Rattle.fix_fields.specs.TimeOfDay.{time_text}
 use Rattle.venue_rows.specs.Texts.{is_among, is_firm_name, is_name, reserved_names, text_if}
 use Rattle.market_terms.specs.Texts.{is_id, is_id_character}
@@ -21,7 +19,7 @@ use Rattle.quote_messages.specs.Texts.{number_of}
 use Rattle.input_lines.specs.Lines.{behind_part, first_part, time_of}
 use Rattle.input_lines.specs.OptionSteps.{◌>>=◌}
 use Rattle.venue_text.specs.ReadBack.{is_in_line, is_in_part}
-use Rattle.venue_text.proofs.ReadBackParts.{all_append, all_more, all_weaker, behind_is, glyph}
+use Rattle.venue_text.proofs.ReadBackParts.{all_append, all_more, all_weaker, behind_is}
 use Rattle.venue_text.proofs.ReadBackParts.{decimal_in_part, first_is, in_line, last_is}
 use Rattle.venue_text.proofs.ReadBackParts.{more_behind, name_in_part, none_behind, short_back}
 use Rattle.venue_text.proofs.ReadBackParts.{time_in_part}
@@ -63,56 +61,6 @@ pub id_word : (id : List ℕ) → is_id id ≡ true → list_all is_in_part id �
 id_word id is =
     all_weaker is_id_character is_in_part id_character_in_part id
     (and_parts _ (list_all is_id_character id) is).1
-
--- A price.
-
-glyphs : (f : ℕ → ℕ) (places : List ℕ)
-    → list_all is_in_part (map (λ (place : ℕ). 48 + f place) places) ≡ true
-glyphs f [] = refl
-glyphs f (place ∷ places) =
-    all_more is_in_part (48 + f place) (map (λ (place : ℕ). 48 + f place) places) (glyph (f place))
-    (glyphs f places)
-
-nonzero_in_part : (c : ℕ) (digits : List ℕ) → is_in_part c ≡ true
-    → list_all is_in_part digits ≡ true → list_all is_in_part (before_nonzero c digits) ≡ true
-nonzero_in_part c [] here all =
-    elim (cases_Bool (c == 48)) [
-      | inl zero_here ↦ rw zero_here refl
-      | inr other ↦ rw other (all_more is_in_part c [] here refl)
-    ]
-nonzero_in_part c (d ∷ digits) here all = all_more is_in_part c (d ∷ digits) here all
-
-unended_in_part : (digits : List ℕ) → list_all is_in_part digits ≡ true
-    → list_all is_in_part (without_last_zeros digits) ≡ true
-unended_in_part [] all = refl
-unended_in_part (c ∷ digits) all =
-    let parts = and_parts (is_in_part c) (list_all is_in_part digits) all in
-    nonzero_in_part c (without_last_zeros digits) parts.0 (unended_in_part digits parts.1)
-
-fraction_in_part : (r : ℕ) → list_all is_in_part (fraction_digits r) ≡ true
-unfolding fraction_digits
-fraction_in_part r =
-    unended_in_part (eight_decimals r)
-    (glyphs (λ (place : ℕ). ((390625 * r) / place) % 10)
-    (10000000 ∷ 1000000 ∷ 100000 ∷ 10000 ∷ 1000 ∷ 100 ∷ 10 ∷ 1 ∷ []))
-
-point_in_part : (r : ℕ) → list_all is_in_part (point_text (fraction_of r)) ≡ true
-point_in_part r =
-    elim (cases_Bool (r == 0)) [
-      | inl whole ↦ rw whole refl
-      | inr other ↦
-          rw other (all_more is_in_part 46 (fraction_digits r) refl (fraction_in_part r))
-    ]
-
-pub price_word : (n : ℕ) → n ≤ 255999 → list_all is_in_part (price_digits n) ≡ true
-unfolding price_digits
-price_word n most =
-    all_append is_in_part (decimal (n / 256)) (point_text (fraction_of (n % 256)))
-    (decimal_in_part (n / 256) (omega (arith, most))) (point_in_part (n % 256))
-
-pub price_back : (n : ℕ) → price_of (price_digits n) ≡ Ok n
-    → result_ok (price_of (price_digits n)) ≡ Some n
-price_back n is = ap result_ok is
 
 -- TIME, and UNTIL where it is given
 

@@ -18,9 +18,9 @@ use Rattle.investor_texts.specs.InvestorLines.{declined_of, gone_of, quoted_of, 
 use Rattle.investor_texts.specs.ReadBack.{ReadsAs}
 use Rattle.investor_texts.specs.WrittenText.{declined_line, gone_line, quoted_line, until_text}
 use Rattle.investor_texts.proofs.ReadBackParts.{Cut, cut, before_line, firm_word, firm_back}
-use Rattle.investor_texts.proofs.ReadBackParts.{price_word, price_back, until_word, three_parts}
-use Rattle.investor_texts.proofs.ReadBackParts.{four_parts}
+use Rattle.investor_texts.proofs.ReadBackParts.{four_parts, three_parts, until_word}
 use Rattle.venue_text.proofs.ReadBackItems.{short_word}
+use Rattle.venue_text.proofs.ReadBackPrices.{price_back, price_word}
 
 -- A quote.
 

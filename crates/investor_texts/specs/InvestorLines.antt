@@ -15,7 +15,7 @@ use Rattle.market_terms.specs.declared.closes.Reply.{Reply}
 use Rattle.market_terms.specs.declared.closes.Reply.TheVariants as reply
 use Rattle.market_terms.specs.declared.rooms.ResponseRef.{ResponseRef}
 use Rattle.quote_messages.specs.Texts.{number_of, number_up_to}
-use Rattle.input_lines.specs.DueLines.{next_number, traders_of, within}
+use Rattle.input_lines.specs.DueLines.{band_behind, next_number, traders_of, within}
 use Rattle.input_lines.specs.Lines.{first_part, behind_part, has_part_behind, time_of}
 use Rattle.input_lines.specs.OptionSteps.{◌>>=◌}
 use Rattle.input_lines.specs.SayLine.{hexed_of, received_of, said_message, said_of}
@@ -56,13 +56,15 @@ abbrev pub row_of : List ℕ → Option InvestorValues
 row_of line =
     if same_text (first_part line) (codes "investor") then row_values (behind_part line) else None
 
--- behind `bond`: BOND GRID
+-- behind `bond`: BOND GRID, and LOW HIGH where they are given
 unfoldable pub bond_of : List ℕ → Option BondRow
 bond_of text = do
+  let behind_id = behind_part text
   id ← text_if is_bond_id (first_part text)
-  steps ← number_of (behind_part text)
+  steps ← number_of (first_part behind_id)
   grid ← grid_of steps
-  Some (record { id = id; grid = grid })
+  band ← band_behind behind_id
+  Some (record { id = id; grid = grid; band = band })
 
 -- whether there is room for a bond behind these, none of which it is
 abbrev pub may_join : List BondRow → BondRow → Bool

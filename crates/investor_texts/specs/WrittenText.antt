@@ -14,7 +14,7 @@ use Rattle.investor_views.specs.declared.dues.InvestorDue.{InvestorDue}
 use Rattle.investor_views.specs.declared.dues.InvestorDue.TheVariants as due
 use Rattle.venue_text.specs.DueCommand.{date_line}
 use Rattle.venue_text.specs.DueCuts.{parts_behind}
-use Rattle.venue_text.specs.WrittenDues.{own_line}
+use Rattle.venue_text.specs.WrittenDues.{band_text, own_line}
 
 -- What the investor sees.
 
@@ -28,9 +28,10 @@ limits_text row =
 abbrev pub row_line : InvestorRow → List ℕ
 row_line row = limits_text row ++ parts_behind row.traders ++ 10 ∷ []
 
--- `bond BOND GRID`
+-- `bond BOND GRID`, and LOW HIGH where not every price is in the band
 abbrev pub bond_line : BondRow → List ℕ
-bond_line bond = codes "bond " ++ bond.id ++ 32 ∷ decimal bond.grid ++ 10 ∷ []
+bond_line bond = codes "bond " ++ bond.id ++ 32 ∷ decimal bond.grid ++ band_text bond.band
+    ++ 10 ∷ []
 
 -- `dealer NAME`
 abbrev pub dealer_line : List ℕ → List ℕ

@@ -7,7 +7,7 @@ ghost use Rattle.venue_rows.specs.Rows.{bond_ids, investor_values};
 ghost use Rattle.venue_rows.specs.Texts.{is_among, same_text};
 
 use bond_prices::Grid;
-use input_lines::{cut_part, read_traders, same_text};
+use input_lines::{cut_part, read_band, read_traders, same_text};
 use quote_messages::{read_long_number, read_number};
 use venue_rows::{BondId, BondRow, InvestorRow, Name, VenueConfig};
 
@@ -62,16 +62,18 @@ fn read_greatest(text: &[u8]) -> Option<u64>
     Some(quantity)
 }
 
-/// The bond behind `bond`: `BOND GRID`.
+/// The bond behind `bond`: `BOND GRID`, and `LOW HIGH` where they are given.
 #[tactic(auto, unfolding(crate::specs::InvestorLines::bond_of))]
 pub(crate) fn read_bond(text: &[u8]) -> Option<BondRow>
     ensures { result ≡ spec.bond_of text.now }
 {
-    let (id, grid) = cut_part(text);
+    let (id, rest) = cut_part(text);
+    let (grid, _) = cut_part(rest);
     let id = BondId::new(id)?;
     let steps = read_number(grid)?;
     let grid = Grid::new(steps as u32)?;
-    Some(BondRow { id, grid })
+    let band = read_band(rest)?;
+    Some(BondRow { id, grid, band })
 }
 
 /// Whether there is room for a bond behind these, none of which it is.

@@ -92,7 +92,7 @@ fn is_same_trader_at(one: &Traders, other: &Traders, place: usize) -> bool
     name == there
 }
 
-/// Whether these are the same bonds, each on the same grid, in the same order.
+/// Whether these are the same bonds, each on the same grid and in the same band, in the same order.
 fn are_same_bonds(one: &[BondRow], other: &[BondRow]) -> bool
     ensures { IsTrue result ↔ (one.now ≡ other.now) }
 {
@@ -119,14 +119,17 @@ fn is_same_bond_at(one: &[BondRow], other: &[BondRow], place: usize) -> bool
     is_same_bond(bond, there)
 }
 
-/// Whether two bonds are one, on one grid.
+/// Whether two bonds are one, on one grid and in one band.
 fn is_same_bond(one: &BondRow, other: &BondRow) -> bool
     ensures { IsTrue result ↔ (one.now ≡ other.now) }
 {
     if one.id.as_bytes() != other.id.as_bytes() {
         return false;
     }
-    one.grid.get() == other.grid.get()
+    if one.grid.get() != other.grid.get() {
+        return false;
+    }
+    one.band.is_same(other.band)
 }
 
 /// Whether these dealers have the same names in the same order.

@@ -11,7 +11,9 @@ use investor_dues::{InvestorDue, InvestorSeen};
 use market_terms::{IdBuf, Reply, ResponseRef};
 use std::alloc::Global;
 use venue_rows::{BondRow, InvestorRow, Name};
-use venue_text::{push_date_line, push_last_time, push_number, push_own, push_time, push_traders};
+use venue_text::{
+    push_band, push_date_line, push_last_time, push_number, push_own, push_time, push_traders,
+};
 
 /// The due text of what an investor sees and of what is due to it: the lines of what it sees, and
 /// then an item each.
@@ -75,7 +77,7 @@ fn push_bonds(text: &mut Vec<u8>, bonds: &[BondRow]) -> Result<(), Memory>
     Ok(())
 }
 
-/// `bond BOND GRID`.
+/// `bond BOND GRID`, and `LOW HIGH` where not every price is in the band.
 fn push_bond(text: &mut Vec<u8>, bond: BondRow) -> Result<(), Memory>
     ensures { OnOk result (text.new.items ≡ text.old.items ++ spec.bond_line bond) }
 {
@@ -83,6 +85,7 @@ fn push_bond(text: &mut Vec<u8>, bond: BondRow) -> Result<(), Memory>
     text.extend_from_slice(bond.id.as_bytes())?;
     text.push(b' ')?;
     push_number(text, u64::from(bond.grid.get()))?;
+    push_band(text, bond.band)?;
     text.push(b'\n')?;
     Ok(())
 }

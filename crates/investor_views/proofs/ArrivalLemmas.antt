@@ -10,7 +10,7 @@ use Rattle.investor_desk.specs.InvestorRules.{InvestorMarket}
 use Rattle.investor_desk.specs.InvestorDesk.{DeskEvents, book_at, market_for, market_of}
 use Rattle.investor_desk.specs.declared.events.InvestorEvent.{InvestorEvent}
 use Rattle.investor_desk.specs.declared.events.InvestorEvent.TheVariants as event
-use Rattle.venue_steps.specs.InvestorSteps.{replies_to, where_so}
+use Rattle.venue_steps.specs.InvestorSteps.{replies_to, with_event_if}
 use Rattle.venue_places.specs.Brought.{investor_with}
 use Rattle.venue_places.specs.Dealers.{dealer_at}
 use Rattle.venue_places.specs.declared.arrivals.Placement.{Placement}
@@ -18,7 +18,8 @@ use Rattle.venue_places.specs.declared.arrivals.Placement.TheVariants as arrival
 use Rattle.venue_places.specs.declared.arrivals.ForInvestor.{ForInvestor}
 use Rattle.venue_places.specs.declared.arrivals.ForInvestor.TheVariants as to_investor
 use Rattle.step_replay.specs.Actions.{Effect, at_market, done_for, dropped_by, nothing}
-use Rattle.step_replay.specs.Coming.{arrival_effect, dealer_gets, effect_where, investor_gets}
+use Rattle.step_replay.specs.Coming.{arrival_effect, dealer_gets, investor_gets}
+use Rattle.step_replay.specs.WhereComing.{effect_where}
 use Rattle.step_replay.specs.InvestorTrail.{book_by}
 use Rattle.step_replay.specs.PlaceLemmas.{other_investor}
 use Rattle.step_replay.specs.VenueFacts.{Fact, of_investor}
@@ -44,11 +45,11 @@ module _ (market : InvestorMarket) (facts : List Fact) (desk : DeskEvents)
   by_book : (may : InvestorBook → Bool) (more : InvestorEvent)
       → DeskStands market
       (facts ++ (if may known then at_market facts market more [] else nothing).facts)
-      (where_so (may (book_at desk)) desk more)
+      (with_event_if (may (book_at desk)) desk more)
   by_book may more =
       subst (λ (b : InvestorBook). DeskStands market
       (facts ++ (if may known then at_market facts market more [] else nothing).facts)
-      (where_so (may b) desk more))
+      (with_event_if (may b) desk more))
       (sym (book_is market facts desk before))
       (happens_if market facts desk (may known) more before)
 
@@ -74,7 +75,7 @@ module _ (market : InvestorMarket) (facts : List Fact) (desk : DeskEvents)
   own_stands (to_investor.Answer request response reply moment) =
       let more = event.Answered request response reply moment in
       subst (λ (e : Effect). DeskStands market (facts ++ e.facts)
-      (where_so (knows (book_at desk) request response.k && replies_to response.k reply) desk more))
+      (with_event_if (knows (book_at desk) request response.k && replies_to response.k reply) desk more))
       (nested (knows known request response.k) (replies_to response.k reply)
       (at_market facts market more []))
       (by_book (λ book. knows book request response.k && replies_to response.k reply) more)

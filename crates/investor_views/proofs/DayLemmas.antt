@@ -16,7 +16,7 @@ use Rattle.investor_desk.specs.InvestorDesk.{DeskEvents, market_for, market_of, 
 use Rattle.investor_desk.specs.InvestorOutput.{DeskState, investor_notes, investor_output}
 use Rattle.investor_desk.specs.declared.events.InvestorEvent.TheVariants as event
 use Rattle.venue_places.specs.Dealers.{dealer_at}
-use Rattle.venue_places.specs.Placed.{placed, swept, where_so}
+use Rattle.venue_places.specs.Placed.{placed, swept, placed_if}
 use Rattle.venue_places.specs.declared.actors.Actor.{Actor}
 use Rattle.venue_places.specs.declared.arrivals.Placement.TheVariants as arrival
 use Rattle.venue_places.specs.declared.arrivals.ForRoom.TheVariants as to_room
@@ -25,7 +25,7 @@ use Rattle.step_replay.specs.Actions.{received_by_investor}
 use Rattle.step_replay.specs.DutyEffects.{duty_effect, message_effect, sweep_effect}
 use Rattle.step_replay.specs.AuditTrail.{AuditTrail, after_step, after_turn, audit_trail, no_steps}
 use Rattle.step_replay.specs.AuditTrail.{pending, sent_to}
-use Rattle.step_replay.specs.Coming.{effect_where}
+use Rattle.step_replay.specs.WhereComing.{effect_where}
 use Rattle.step_replay.specs.DealerTrail as dealer_trail
 use Rattle.step_replay.specs.InvestorTrail as investor_trail
 use Rattle.step_replay.specs.NotedTrail.{NotedSoFar, notes_by}
@@ -91,7 +91,7 @@ module _ (duties_come : DutiesCome) (sweeps_come : SweepsCome) (config : Configu
         (by_place (has_room config room.investor room.n))
       where
         by_place : (b : Bool) → StandsAfter facts
-            (effect_where config facts (where_so b (arrival.Room room (to_room.Expire moment))))
+            (effect_where config facts (placed_if b (arrival.Room room (to_room.Expire moment))))
             desk
         by_place true =
             effect_stands config number row is_investor facts desk before

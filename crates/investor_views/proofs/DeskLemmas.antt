@@ -7,7 +7,7 @@ use Rattle.investor_desk.specs.InvestorRules.{InvestorMarket}
 use Rattle.investor_desk.specs.InvestorDesk.{DeskEvents, book_at, no_events, with_event}
 use Rattle.investor_desk.specs.InvestorOutput.{DeskState, after_event, desk_after}
 use Rattle.investor_desk.specs.declared.events.InvestorEvent.{InvestorEvent}
-use Rattle.venue_steps.specs.InvestorSteps.{where_so}
+use Rattle.venue_steps.specs.InvestorSteps.{with_event_if}
 use Rattle.step_replay.specs.Actions.{at_market, nothing}
 use Rattle.step_replay.specs.InvestorGrowth.{desk_of, desk_push, trail_push}
 use Rattle.step_replay.specs.InvestorTrail.{InvestorEntry, book_by, entries_of}
@@ -79,7 +79,7 @@ module _ (market : InvestorMarket) where
       → DeskStands market facts desk
       → DeskStands market
       (facts ++ (if may then at_market facts market more [] else nothing).facts)
-      (where_so may desk more)
+      (with_event_if may desk more)
   unfolding of_investor
   happens_if facts desk true more before = happens facts desk more before
   happens_if facts desk false more before = stays facts [] desk refl before

@@ -14,7 +14,7 @@ use Rattle.investor_desk.specs.declared.notes.InvestorNote.{InvestorNote}
 use Rattle.investor_desk.specs.declared.events.InvestorEvent.{InvestorEvent}
 use Rattle.investor_desk.specs.declared.events.InvestorEvent.TheVariants as event
 use Rattle.quote_messages.specs.Written.{written}
-use Rattle.venue_steps.specs.InvestorSteps.{replies_to, where_so}
+use Rattle.venue_steps.specs.InvestorSteps.{replies_to, with_event_if}
 use Rattle.venue_places.specs.Brought.{investor_with}
 use Rattle.venue_places.specs.declared.arrivals.ForInvestor.TheVariants as to_investor
 use Rattle.investor_views.specs.Comings.{Coming, Own, For, after_coming, desk_by}
@@ -167,7 +167,7 @@ module _ (market : InvestorMarket) where
           }
 
       one_if : (may may_too : Bool) → may_too ≡ may
-          → Sees (where_so may desk one) (where_so may_too view other)
+          → Sees (with_event_if may desk one) (with_event_if may_too view other)
       one_if true true is = one_more
       one_if false false is = before
       one_if true false is = cc
@@ -182,8 +182,8 @@ module _ (market : InvestorMarket) where
         (own_answers market stood moment bytes)
     coming_sees (For (to_investor.Relay request offer moment)) =
         by_books (λ here there. Sees
-        (where_so (knows here request None) desk (event.QuoteCame request offer moment))
-        (where_so (knows there request None) view (event.QuoteCame request
+        (with_event_if (knows here request None) desk (event.QuoteCame request offer moment))
+        (with_event_if (knows there request None) view (event.QuoteCame request
         (offer_due there offer.dealer offer.price offer.valid_until) moment)))
         (one_if (event.QuoteCame request offer moment)
         (event.QuoteCame request
@@ -193,8 +193,8 @@ module _ (market : InvestorMarket) where
         (knows_same book request None))
     coming_sees (For (to_investor.Gone request word moment)) =
         by_books (λ here there. Sees
-        (where_so (knows here request None) desk (event.QuoteGone request word moment))
-        (where_so (knows there request None) view (event.QuoteGone request
+        (with_event_if (knows here request None) desk (event.QuoteGone request word moment))
+        (with_event_if (knows there request None) view (event.QuoteGone request
         (number_of (quote_meant here request word)) moment)))
         (one_if (event.QuoteGone request word moment)
         (event.QuoteGone request (number_of (quote_meant book request word)) moment) refl
@@ -203,8 +203,8 @@ module _ (market : InvestorMarket) where
         (knows_same book request None))
     coming_sees (For (to_investor.Declined request dealer moment)) =
         by_books (λ here there. Sees
-        (where_so (knows here request None) desk (event.DealerDeclined request dealer moment))
-        (where_so (knows there request None) view (event.DealerDeclined request dealer moment)))
+        (with_event_if (knows here request None) desk (event.DealerDeclined request dealer moment))
+        (with_event_if (knows there request None) view (event.DealerDeclined request dealer moment)))
         (one_if (event.DealerDeclined request dealer moment)
         (event.DealerDeclined request dealer moment) refl
         (declined_answers market stood request dealer moment)
@@ -212,9 +212,9 @@ module _ (market : InvestorMarket) where
         (knows_same book request None))
     coming_sees (For (to_investor.Answer request response reply moment)) =
         by_books (λ here there. Sees
-        (where_so (knows here request response.k && replies_to response.k reply) desk
+        (with_event_if (knows here request response.k && replies_to response.k reply) desk
         (event.Answered request response reply moment))
-        (where_so (knows there request response.k && replies_to response.k reply) view
+        (with_event_if (knows there request response.k && replies_to response.k reply) view
         (event.Answered request response reply moment)))
         (one_if (event.Answered request response reply moment)
         (event.Answered request response reply moment) refl
@@ -224,8 +224,8 @@ module _ (market : InvestorMarket) where
         (ap (λ (b : Bool). b && replies_to response.k reply) (knows_same book request response.k)))
     coming_sees (For (to_investor.Close request moment)) =
         by_books (λ here there. Sees
-        (where_so (knows here request None) desk (event.Closed request moment))
-        (where_so (knows there request None) view (event.Closed request moment)))
+        (with_event_if (knows here request None) desk (event.Closed request moment))
+        (with_event_if (knows there request None) view (event.Closed request moment)))
         (one_if (event.Closed request moment) (event.Closed request moment) refl
         (expired_answers market stood request moment)
         (knows book request None) (knows (renamed_book book) request None)

@@ -1,4 +1,5 @@
 pub mod Comings
+pub mod DeskPlaces
 pub mod DeskView
 pub mod InvestorDues
 pub mod InvestorView

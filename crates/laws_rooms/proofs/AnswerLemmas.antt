@@ -1,10 +1,8 @@
 -- What an action brings to a room of the answers of one dealer.
-use Rattle.std.proofs.Common.{◌≡◌, ◌==◌, ◌&&◌, ℕ, Bool, true, false, List, [], ◌∷◌, ◌++◌, map, filter_map}
+use Rattle.std.proofs.Common.{◌≡◌, ◌==◌, ◌&&◌, ℕ, Bool, true, false, List, [], ◌∷◌, map, filter_map}
 use Rattle.std.proofs.Common.{Option, Some, None, is_some, refl, sym, ap, ◌∙◌, subst, inl, inr}
 use Rattle.std.proofs.Common.{if◌then◌else◌}
-use Rattle.std.proofs.lemmas.Bool.{and_parts, cases_Bool, eq-eqb, false≢true}
-use Rattle.std.proofs.lemmas.List.{append-nil, append_assoc}
-use Rattle.std.proofs.lemmas.List.Elements.{filter_map-append}
+use Rattle.std.proofs.lemmas.Bool.{and_parts, cases_Bool, eq-eqb}
 use Rattle.dealer_desk.specs.DealerOutput.{is_same_room}
 use Rattle.market_terms.specs.declared.duties.Duty.{Duty}
 use Rattle.market_terms.specs.declared.duties.Duty.TheVariants as duty
@@ -16,41 +14,34 @@ use Rattle.venue_places.specs.declared.actors.Actor.{Actor}
 use Rattle.venue_places.specs.declared.actors.Actor.TheVariants as actor
 use Rattle.investor_desk.specs.InvestorDesk.{market_for}
 use Rattle.request_room.specs.Book.{event_facts, quote_posted, where_so}
-use Rattle.request_room.specs.RoomFacts.{Noted, Posted, RoomFact, ended_as, end_of, hears, is_ended}
+use Rattle.request_room.specs.RoomFacts.{Noted, Posted, RoomFact, hears, is_ended}
 use Rattle.request_room.specs.RoomFacts.{request_of, takes_quotes}
-use Rattle.request_room.specs.declared.ends.End.{End}
-use Rattle.step_replay.specs.Actions.{Effect, declined_by, done_by, done_for, nothing, posted_by}
+use Rattle.step_replay.specs.Actions.{Effect, done_by, done_for, nothing}
 use Rattle.step_replay.specs.Actions.{received_by_dealer, received_by_investor}
+use Rattle.step_replay.specs.LineActions.{declined_by, posted_by}
 use Rattle.step_replay.specs.AuditTrail.{AuditTrail, is_same_actor}
-use Rattle.step_replay.specs.DealerTrail.{rooms_by}
 use Rattle.step_replay.specs.DutyEffects.{duty_effect, message_effect, sweep_effect}
 use Rattle.step_replay.specs.EachLemmas.{every_weaker}
-use Rattle.step_replay.specs.GrowthLemmas.{names_some, said_grown, same_room}
-use Rattle.step_replay.specs.Lists.{Every}
+use Rattle.step_replay.specs.GrowthLemmas.{names_some, same_room}
 use Rattle.step_replay.specs.PlaceLemmas.{other_room, own_room, room_at_investor}
-use Rattle.step_replay.specs.VenueFacts.{Fact, InRoom, of_dealer, of_room}
-use Rattle.day_parts.specs.ActionCases.{if_does, invested_does, numbered_does}
-use Rattle.day_parts.specs.KeptItems.{every_all}
-use Rattle.day_parts.specs.LeftDuties.{duty_leaves as all_left}
-use Rattle.day_parts.specs.MayLeave.{MayLeave}
-use Rattle.venue_laws.specs.Conditions.{is_met}
-use Rattle.venue_laws.proofs.PlainFacts.{in_room_all}
-use Rattle.venue_laws.proofs.VenueInvariant.{ByNamed, DutyOk}
-use Rattle.laws_rooms.specs.Answered.{Answer, Declines, Quotes, TookEffect, answer_in, answer_of, answers_in}
+use Rattle.step_replay.specs.VenueFacts.{Fact, InRoom, of_room}
+use Rattle.laws_days.specs.ActionCases.{if_does, invested_does, numbered_does}
+use Rattle.laws_days.specs.Conditions.{is_met}
+use Rattle.laws_days.proofs.PlainFacts.{in_room_all}
+use Rattle.laws_days.proofs.VenueInvariant.{ByNamed, DutyOk}
+use Rattle.laws_rooms.specs.Answered.{Answer, Declines, Quotes, answer_in, answers_in}
 use Rattle.laws_rooms.proofs.LeftLemmas.{IsOther, Quiet, duty_quiet, received_quiet, sweep_quiet}
 use Rattle.laws_rooms.proofs.ReplyDuties.{none_of}
-use Rattle.laws_rooms.proofs.RoomLemmas.{some_of}
 
--- Rooms that go on.
-
-still_open : (known added : List RoomFact) → is_ended (known ++ added) ≡ false → is_ended known ≡ false
-still_open known added lives = elim (cases_Bool (is_ended known)) [
-  | inr not_yet ↦ not_yet
-  | inl ended ↦
-      (let end = some_of (end_of known) ended in
-      absurd (false≢true (sym lives
-      ∙ ap (λ (e : Option End). is_some e) (said_grown ended_as known added end.0 end.1))))
-]
+-- the quote or the decline that a duty of a dealer brings to a room, where it brings one
+abbrev pub answer_of : Configuration → ℕ → DealerRow → RoomRef → Duty → Option Answer
+answer_of config dealer row room (duty.Post at quote price valid_until moment) =
+    if is_same_room at room
+    then Some (Quotes (quote_posted dealer (word_for config (dealer_of dealer row) quote) price valid_until))
+    else None
+answer_of config dealer row room (duty.Decline at moment) =
+    if is_same_room at room then Some Declines else None
+answer_of config dealer row room other = None
 
 module _ (dealer : ℕ) where
   abbrev pub answers : List RoomFact → List Answer
@@ -62,38 +53,6 @@ module _ (dealer : ℕ) where
     quiet : answers added ≡ [] → items ≡ [] → Goes known added items
     takes : answers added ≡ items → is_ended known ≡ false → Goes known added items
     late : answers added ≡ [] → is_ended known ≡ true → Goes known added items
-
-  module _ (known added : List RoomFact) where
-    both : answers (known ++ added) ≡ answers known ++ answers added
-    both = filter_map-append (answer_in dealer) known added
-
-    both_none : answers added ≡ [] → answers (known ++ added) ≡ answers known
-    both_none none = both ∙ ap (λ (l : List Answer). answers known ++ l) none ∙ append-nil (answers known)
-
-    pub took_more : (before items : List Answer) → TookEffect known dealer before → Goes known added items
-        → TookEffect (known ++ added) dealer (before ++ items)
-    took_more before items took (quiet none none_done) = record {
-      rest = took.rest;
-      begins = ap (λ (l : List Answer). before ++ l) none_done ∙ append-nil before ∙ took.begins
-          ∙ ap (λ (l : List Answer). l ++ took.rest) (sym (both_none none));
-      whole = λ lives. took.whole (still_open known added lives);
-    }
-    took_more before items took (takes says lives) = record {
-      rest = [];
-      begins = ap (λ (l : List Answer). l ++ items) took.begins
-          ∙ ap (λ (l : List Answer). (answers known ++ l) ++ items) (took.whole lives)
-          ∙ ap (λ (l : List Answer). l ++ items) (append-nil (answers known))
-          ∙ ap (λ (l : List Answer). answers known ++ l) (sym says)
-          ∙ sym both ∙ sym (append-nil (answers (known ++ added)));
-      whole = λ still. refl;
-    }
-    took_more before items took (late none ended) = record {
-      rest = took.rest ++ items;
-      begins = ap (λ (l : List Answer). l ++ items) took.begins
-          ∙ append_assoc (answers known) took.rest items
-          ∙ ap (λ (l : List Answer). l ++ (took.rest ++ items)) (sym (both_none none));
-      whole = λ lives. absurd (false≢true (sym (still_open known added lives) ∙ ended));
-    }
 
   -- Facts that say nothing of it.
 
@@ -231,7 +190,7 @@ module _ (dealer : ℕ) where
 
       -- A duty of its own, and of another's.
 
-      named_asks : (by : Actor) (at : RoomRef) → ByNamed config by at facts
+      pub named_asks : (by : Actor) (at : RoomRef) → ByNamed config by at facts
           → is_some (request_of (of_room at facts)) ≡ true
       named_asks by at named =
           let request = names_some (request_of (of_room at facts)) named.who.dealer named.named in
@@ -310,36 +269,3 @@ module _ (dealer : ℕ) where
           → Goes known (of_room room (sweep_effect config facts at moment).facts) []
       sweep_goes at moment =
           quiet (quiet_none (sweep_effect config facts at moment) (sweep_quiet config facts at moment)).none refl
-
-      -- What is left: only a message leaves an answer.
-
-      abbrev NoAnswer : Duty → Type 0
-      NoAnswer d = answer_of config dealer row room d ≡ None
-
-      pub leaves_none : (by : Actor) (d : Duty) → lefts (duty_effect config facts by d).duties ≡ []
-      leaves_none by d =
-          none_of (answer_of config dealer row room) (duty_effect config facts by d).duties
-          (all_left NoAnswer config facts by d (may by d)).each
-        where
-          in_rooms : (number : ℕ) (does : RoomRef → Duty) → ((r : RoomRef) → NoAnswer (does r))
-              → Every (λ (r : RoomRef). NoAnswer (does r)) (rooms_by (of_dealer number facts))
-          in_rooms number does each = every_all (λ (r : RoomRef). NoAnswer (does r)) each _
-
-          may : (a : Actor) (one : Duty) → MayLeave NoAnswer config facts a one
-          may a (duty.Open at ask dealers moment) = (every_all _ (λ d. refl) dealers, refl)
-          may a (duty.Show number at ask moment) = tt
-          may a (duty.Ready at moment) = tt
-          may a (duty.Post at quote price until moment) = λ offer. refl
-          may a (duty.Relay at offer moment) = tt
-          may a (duty.Unpost at quote moment) = λ word. refl
-          may a (duty.Gone at word moment) = tt
-          may a (duty.Decline at moment) = refl
-          may a (duty.Declined at moment) = tt
-          may a (duty.Hit at response word moment) = (λ reply. refl, every_all _ (λ d close. refl) _)
-          may a (duty.Pass at response moment) = (λ open_yet. refl, every_all _ (λ d close. refl) _)
-          may a (duty.Answer at response reply moment) = tt
-          may a (duty.Close at moment) = tt
-          may a (duty.Tell number at close moment) = tt
-          may (actor.Firm number) (duty.Drop last moment) =
-              (λ quote. in_rooms number (λ r. duty.Unpost r quote moment) (λ r. refl), refl)
-          may actor.Clock (duty.Drop last moment) = tt

@@ -33,18 +33,18 @@ use Rattle.step_replay.specs.VenueFacts.{AtInvestor, Fact, InRoom, of_dealer, of
 use Rattle.step_replay.specs.VenueFacts.{of_room}
 use Rattle.step_replay.specs.declared.steps.Step.{Step}
 use Rattle.step_replay.specs.declared.steps.Step.TheVariants as step
-use Rattle.day_parts.specs.DayParts.{left_by as left_then}
-use Rattle.trade_laws.specs.LiveDuties.{NoDutyIsLeft}
-use Rattle.trade_laws.specs.Trades.{at_investor as market_facts, room_of}
-use Rattle.venue_laws.proofs.LiveQuotes.{LoneQuotes}
-use Rattle.venue_laws.proofs.PlainFacts.{in_room_all}
-use Rattle.venue_laws.proofs.ShownRequests.{number_place}
-use Rattle.venue_laws.proofs.VenueDay.{venue_ok}
-use Rattle.venue_laws.proofs.VenueDesk.{WordsOfDay}
-use Rattle.venue_laws.proofs.VenueInvariant.{FactOk, IsDealer, VenueOk}
-use Rattle.venue_laws.proofs.VenueParts.{Still, duties_by, later_same, still_later}
-use Rattle.venue_laws.proofs.VenueSteps.{Here, day, since}
-use Rattle.venue_laws.proofs.VenueTurns.{beside, own_left, turn}
+use Rattle.laws_days.specs.DayParts.{left_by as left_then}
+use Rattle.laws_days.specs.LiveDuties.{NoDutyIsLeft}
+use Rattle.laws_shown.specs.ShownRequests.{at_investor as market_facts, room_of}
+use Rattle.laws_days.proofs.LiveQuotes.{LoneQuotes}
+use Rattle.laws_days.proofs.PlainFacts.{in_room_all}
+use Rattle.laws_days.proofs.ShownRequests.{number_place}
+use Rattle.laws_days.proofs.VenueDay.{venue_ok}
+use Rattle.laws_days.proofs.VenueDesk.{WordsOfDay}
+use Rattle.laws_days.proofs.VenueInvariant.{FactOk, IsDealer, VenueOk}
+use Rattle.laws_days.proofs.VenueParts.{Still, duties_by, later_same, still_later}
+use Rattle.laws_days.proofs.VenueSteps.{Here, day, since}
+use Rattle.laws_days.proofs.VenueTurns.{beside, own_left, turn}
 use Rattle.laws_rooms.specs.Declines.{IsToldSo}
 use Rattle.laws_rooms.specs.Shown.{IsShownOnce}
 use Rattle.laws_rooms.specs.Told.{CameToIt}

@@ -29,20 +29,20 @@ use Rattle.step_replay.specs.Lists.{Every, In}
 use Rattle.step_replay.specs.VenueFacts.{Fact, of_investor}
 use Rattle.step_replay.specs.declared.steps.Step.{Step}
 use Rattle.step_replay.specs.declared.steps.Step.TheVariants as step
-use Rattle.day_parts.specs.KeptItems.{every_drop}
-use Rattle.trade_laws.specs.LiveDuties.{NoDutyIsLeft}
-use Rattle.trade_laws.specs.Trades.{at_investor as market_facts}
-use Rattle.shown_laws.proofs.ShownMarket.{requests_in}
-use Rattle.venue_laws.specs.Conditions.{is_met}
-use Rattle.venue_laws.proofs.ConditionMet.{met}
-use Rattle.venue_laws.proofs.LiveQuotes.{LoneQuotes}
-use Rattle.venue_laws.proofs.VenueDay.{venue_ok}
-use Rattle.venue_laws.proofs.VenueDesk.{WordsOfDay}
-use Rattle.venue_laws.proofs.VenueInvariant.{VenueOk}
-use Rattle.venue_laws.proofs.VenueKnown.{pending_ok}
-use Rattle.venue_laws.proofs.VenueParts.{did_in, duties_by, later_same}
-use Rattle.venue_laws.proofs.VenueSteps.{Here, day}
-use Rattle.venue_laws.proofs.VenueTurns.{beside, doing_now, turn, turns_of}
+use Rattle.laws_days.specs.KeptItems.{every_drop}
+use Rattle.laws_days.specs.LiveDuties.{NoDutyIsLeft}
+use Rattle.laws_shown.specs.ShownRequests.{at_investor as market_facts}
+use Rattle.laws_shown.proofs.ShownMarket.{requests_in}
+use Rattle.laws_days.specs.Conditions.{is_met}
+use Rattle.laws_days.proofs.ConditionMet.{met}
+use Rattle.laws_days.proofs.LiveQuotes.{LoneQuotes}
+use Rattle.laws_days.proofs.VenueDay.{venue_ok}
+use Rattle.laws_days.proofs.VenueDesk.{WordsOfDay}
+use Rattle.laws_days.proofs.VenueInvariant.{VenueOk}
+use Rattle.laws_days.proofs.VenueKnown.{pending_ok}
+use Rattle.laws_days.proofs.VenueParts.{did_in, duties_by, later_same}
+use Rattle.laws_days.proofs.VenueSteps.{Here, day}
+use Rattle.laws_days.proofs.VenueTurns.{beside, doing_now, turn, turns_of}
 use Rattle.laws_rooms.proofs.DeclineLemmas.{found_there}
 use Rattle.laws_rooms.specs.Expiries.{AreExpired, ends_in, expires, requests_swept, swept_at, swept_from}
 use Rattle.laws_rooms.proofs.CloseLemmas.{IsNoClose, OwnClose, close_in, hushed, leaves_none, message_none}

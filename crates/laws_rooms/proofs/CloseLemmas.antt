@@ -33,9 +33,10 @@ use Rattle.step_replay.specs.DutyEffects.{duty_effect, message_effect, sweep_eff
 use Rattle.step_replay.specs.EachLemmas.{every_weaker}
 use Rattle.step_replay.specs.Lists.{Every}
 use Rattle.step_replay.specs.VenueFacts.{Fact, InRoom, of_room}
-use Rattle.day_parts.specs.KeptItems.{every_all}
-use Rattle.day_parts.specs.LeftDuties.{duty_leaves, message_leaves, sweep_leaves}
-use Rattle.day_parts.specs.MayLeave.{MayLeave, MaySay, told_each}
+use Rattle.laws_days.specs.KeptItems.{every_all}
+use Rattle.laws_days.specs.LeftBehind.{LeftBy, duty_each, sweep_each}
+use Rattle.laws_days.specs.LeftDuties.{message_leaves}
+use Rattle.laws_days.specs.MayLeave.{MaySay, told_each}
 use Rattle.laws_rooms.specs.Expiries.{ends_in, expires}
 use Rattle.laws_rooms.proofs.ReplyDuties.{none_of}
 use Rattle.laws_rooms.proofs.SaidLemmas.{IsHushed, IsSilent}
@@ -142,25 +143,11 @@ no_closes investor duties every = none_of (close_in investor) duties
 
 module _ (config : Configuration) (facts : List Fact) where
   pub leaves_none : (by : Actor) (d : Duty) → Every IsNoClose (duty_effect config facts by d).duties
-  leaves_none by d = (duty_leaves IsNoClose config facts by d (may by d)).each
+  leaves_none by d = duty_each IsNoClose config facts by d each
     where
-      may : (a : Actor) (one : Duty) → MayLeave IsNoClose config facts a one
-      may a (duty.Open room ask dealers moment) = (every_all _ (λ dealer. tt) dealers, tt)
-      may a (duty.Show dealer room ask moment) = tt
-      may a (duty.Ready room moment) = tt
-      may a (duty.Post room quote price valid_until moment) = λ offer. tt
-      may a (duty.Relay room offer moment) = tt
-      may a (duty.Unpost room quote moment) = λ word. tt
-      may a (duty.Gone room word moment) = tt
-      may a (duty.Decline room moment) = tt
-      may a (duty.Declined room moment) = tt
-      may a (duty.Hit room response word moment) = (λ reply. tt, every_all _ (λ dealer close. tt) _)
-      may a (duty.Pass room response moment) = (λ open_yet. tt, every_all _ (λ dealer close. tt) _)
-      may a (duty.Answer room response reply moment) = tt
-      may a (duty.Close room moment) = tt
-      may a (duty.Tell dealer room close moment) = tt
-      may (actor.Firm number) (duty.Drop last moment) = (λ quote. every_all _ (λ room. tt) _, tt)
-      may actor.Clock (duty.Drop last moment) = tt
+      each : (more : Duty) → LeftBy more d → IsNoClose more
+      each (duty.Close room moment) left = absurd left
+      each other left = tt
 
   pub message_none : (firm moment : ℕ) (bytes : List ℕ)
       → Every IsNoClose (message_effect config facts firm moment bytes).duties
@@ -213,4 +200,4 @@ module _ (config : Configuration) (facts : List Fact) where
   pub sweep_own : (room : RoomRef) (moment : ℕ)
       → Every (OwnClose actor.Clock) (sweep_effect config facts room moment).duties
   sweep_own room moment =
-      (sweep_leaves (OwnClose actor.Clock) config facts room moment refl (every_all _ (λ dealer close. tt) _)).each
+      sweep_each (OwnClose actor.Clock) config facts room moment refl (λ dealer close. tt)

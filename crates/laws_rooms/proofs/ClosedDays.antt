@@ -22,14 +22,14 @@ use Rattle.step_replay.specs.PlaceLemmas.{room_grown}
 use Rattle.step_replay.specs.VenueFacts.{of_investor, of_room}
 use Rattle.step_replay.specs.declared.steps.Step.{Step}
 use Rattle.step_replay.specs.declared.steps.Step.TheVariants as step
-use Rattle.trade_laws.specs.Trades.{at_investor as market_facts}
-use Rattle.venue_laws.proofs.LiveQuotes.{LoneQuotes}
-use Rattle.venue_laws.proofs.VenueDay.{venue_ok}
-use Rattle.venue_laws.proofs.VenueDesk.{WordsOfDay}
-use Rattle.venue_laws.proofs.VenueInvariant.{VenueOk}
-use Rattle.venue_laws.proofs.VenueParts.{duties_by}
-use Rattle.venue_laws.proofs.VenueSteps.{Here, day}
-use Rattle.venue_laws.proofs.VenueTurns.{beside, doing_now, turn, turns_of}
+use Rattle.laws_shown.specs.ShownRequests.{at_investor as market_facts}
+use Rattle.laws_days.proofs.LiveQuotes.{LoneQuotes}
+use Rattle.laws_days.proofs.VenueDay.{venue_ok}
+use Rattle.laws_days.proofs.VenueDesk.{WordsOfDay}
+use Rattle.laws_days.proofs.VenueInvariant.{VenueOk}
+use Rattle.laws_days.proofs.VenueParts.{duties_by}
+use Rattle.laws_days.proofs.VenueSteps.{Here, day}
+use Rattle.laws_days.proofs.VenueTurns.{beside, doing_now, turn, turns_of}
 use Rattle.laws_rooms.specs.Ends.{IsClosedThere}
 use Rattle.laws_rooms.proofs.ClosingLemmas.{EndsToo, duty_ends_too, message_ends_too, sweep_ends_too}
 use Rattle.laws_rooms.proofs.EndDays.{any_split}

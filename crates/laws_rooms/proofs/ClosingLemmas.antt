@@ -16,7 +16,6 @@ use Rattle.quote_word.specs.declared.settled.Settled.{Settled}
 use Rattle.venue_rows.specs.Rows.{Configuration}
 use Rattle.venue_places.specs.Dealers.{quote_with_word}
 use Rattle.venue_places.specs.declared.actors.Actor.{Actor}
-use Rattle.venue_places.specs.declared.actors.Actor.TheVariants as actor
 use Rattle.venue_steps.specs.RoomSteps.{hit_duties, reply_to_pass, told_in}
 use Rattle.investor_desk.specs.InvestorDesk.{market_of}
 use Rattle.investor_desk.specs.InvestorOutput as investor_output
@@ -27,16 +26,16 @@ use Rattle.request_room.specs.Book.{end_by, event_facts, expired, hit_outcome, m
 use Rattle.request_room.specs.RoomFacts.{Ended, RoomFact, is_ended, is_open}
 use Rattle.request_room.specs.declared.ends.End.{End}
 use Rattle.step_replay.specs.Actions.{Effect, hit_with, lifting, nothing, verdict_on}
-use Rattle.step_replay.specs.DealerTrail.{rooms_by}
 use Rattle.step_replay.specs.DutyEffects.{duty_effect, message_effect, sweep_effect}
 use Rattle.step_replay.specs.GrowthLemmas.{same_room}
 use Rattle.step_replay.specs.Lists.{Every}
 use Rattle.step_replay.specs.PlaceLemmas.{own_room, room_grown}
-use Rattle.step_replay.specs.VenueFacts.{Fact, InRoom, of_dealer, of_room}
-use Rattle.day_parts.specs.ActionCases.{if_does}
-use Rattle.day_parts.specs.KeptItems.{every_all}
-use Rattle.day_parts.specs.LeftDuties.{duty_leaves as all_left, message_leaves as message_left, sweep_leaves}
-use Rattle.day_parts.specs.MayLeave.{MayLeave, MaySay}
+use Rattle.step_replay.specs.VenueFacts.{Fact, InRoom, of_room}
+use Rattle.laws_days.specs.ActionCases.{if_does}
+use Rattle.laws_days.specs.KeptItems.{every_all}
+use Rattle.laws_days.specs.LeftBehind.{LeftBy, duty_each, sweep_each}
+use Rattle.laws_days.specs.LeftDuties.{duty_leaves as all_left, message_leaves as message_left}
+use Rattle.laws_days.specs.MayLeave.{MaySay}
 use Rattle.laws_rooms.proofs.EndLemmas.{NoEnding, closes_it, settled}
 use Rattle.laws_rooms.proofs.RoomWalk.{lifted_none}
 
@@ -122,28 +121,12 @@ module _ (config : Configuration) (facts : List Fact) (room : RoomRef) where
 
   -- Duties that close nothing.
 
-  in_rooms : (number : ℕ) (does : RoomRef → Duty) → ((r : RoomRef) → Passes (does r))
-      → Every (λ (r : RoomRef). Passes (does r)) (rooms_by (of_dealer number facts))
-  in_rooms number does each = every_all (λ (r : RoomRef). Passes (does r)) each _
-
-  may : (a : Actor) (one : Duty) → NoEnding one → MayLeave Passes config facts a one
-  may a (duty.Open at ask dealers moment) so = (every_all _ (λ d. refl) dealers, refl)
-  may a (duty.Show number at ask moment) so = tt
-  may a (duty.Ready at moment) so = tt
-  may a (duty.Post at quote price until moment) so = λ offer. refl
-  may a (duty.Relay at offer moment) so = tt
-  may a (duty.Unpost at quote moment) so = λ word. refl
-  may a (duty.Gone at word moment) so = tt
-  may a (duty.Decline at moment) so = refl
-  may a (duty.Declined at moment) so = tt
-  may a (duty.Hit at response word moment) so = absurd so
-  may a (duty.Pass at response moment) so = absurd so
-  may a (duty.Answer at response reply moment) so = tt
-  may a (duty.Close at moment) so = tt
-  may a (duty.Tell number at close moment) so = tt
-  may (actor.Firm number) (duty.Drop last moment) so =
-      (λ quote. in_rooms number (λ r. duty.Unpost r quote moment) (λ r. refl), refl)
-  may actor.Clock (duty.Drop last moment) so = tt
+  passes : (more d : Duty) → NoEnding d → LeftBy more d → Passes more
+  passes (duty.Answer at to reply when) (duty.Hit other response word moment) so left = absurd so
+  passes (duty.Answer at to reply when) (duty.Pass other response moment) so left = absurd so
+  passes (duty.Answer at to reply when) d so left = absurd left
+  passes (duty.Close at when) d so left = absurd left
+  passes more d so left = refl
 
   hit_ends : (by : Actor) (at : RoomRef) (response : ResponseRef) (word moment : ℕ)
       → EndsToo (duty_effect config facts by (duty.Hit at response word moment))
@@ -172,7 +155,8 @@ module _ (config : Configuration) (facts : List Fact) (room : RoomRef) where
   pub duty_ends_too : (by : Actor) (d : Duty) → EndsToo (duty_effect config facts by d)
   duty_ends_too by (duty.Hit at response word moment) = hit_ends by at response word moment
   duty_ends_too by (duty.Pass at response moment) = pass_ends by at response moment
-  duty_ends_too by other = never _ (all_left Passes config facts by other (may by other tt)).each
+  duty_ends_too by other =
+      never _ (duty_each Passes config facts by other (λ more left. passes more other tt left))
 
   pub sweep_ends_too : (at : RoomRef) (moment : ℕ) → EndsToo (sweep_effect config facts at moment)
   unfolding sweep_effect event_facts
@@ -180,7 +164,7 @@ module _ (config : Configuration) (facts : List Fact) (room : RoomRef) where
     | inl same ↦ subst (λ (r : RoomRef). EndsToo (sweep_effect config facts r moment))
         (sym (same_room at room same))
         (if_does EndsToo idle _ _ (sweep_here moment (may_expire known moment) (told_in known room expired moment)))
-    | inr differs ↦ never _ (sweep_leaves Passes config facts at moment differs (every_all _ (λ d close. refl) _)).each
+    | inr differs ↦ never _ (sweep_each Passes config facts at moment differs (λ d close. refl))
   ]
 
   pub message_ends_too : (firm moment : ℕ) (bytes : List ℕ)

@@ -23,9 +23,9 @@ use Rattle.step_replay.specs.GrowthLemmas.{in_left, in_right}
 use Rattle.step_replay.specs.InvestorTrail as investor_trail
 use Rattle.step_replay.specs.Lists.{In}
 use Rattle.step_replay.specs.VenueFacts.{Fact, of_investor}
-use Rattle.shown_laws.proofs.ShownMarket.{requests_in}
-use Rattle.trade_laws.specs.Trades.{at_investor as market_facts}
-use Rattle.venue_laws.specs.Conditions.{is_met}
+use Rattle.laws_shown.proofs.ShownMarket.{requests_in}
+use Rattle.laws_shown.specs.ShownRequests.{at_investor as market_facts}
+use Rattle.laws_days.specs.Conditions.{is_met}
 use Rattle.laws_rooms.specs.Declines.{IsToldSo}
 use Rattle.laws_rooms.specs.Responses.{Said, said_to}
 use Rattle.laws_rooms.proofs.SaidLemmas.{event_sent, sent_grown}

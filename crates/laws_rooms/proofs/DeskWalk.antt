@@ -1,9 +1,8 @@
--- What each action adds at the desk of one investor, whatever is to be shown of it: one line a duty.
-use Rattle.std.proofs.Common.{◌≡◌, ◌==◌, ◌&&◌, ℕ, Bool, true, false, List, [], ◌++◌, map}
-use Rattle.std.proofs.Common.{Option, Some, None, is_some, option_map, refl, sym, ap, ◌∙◌, subst, inl, inr}
+-- What each action adds at the desk of one investor, whatever is to be shown of it.
+use Rattle.std.proofs.Common.{◌≡◌, ◌==◌, ℕ, Bool, true, false, List, [], ◌++◌, map}
+use Rattle.std.proofs.Common.{Option, Some, None, is_some, refl, sym, ap, ◌∙◌, subst, inl, inr}
 use Rattle.std.proofs.Common.{if◌then◌else◌, Result, Ok, Err}
 use Rattle.std.proofs.lemmas.Bool.{cases_Bool, eqb-true}
-use Rattle.dealer_desk.specs.DealerOutput.{number_in}
 use Rattle.dealer_desk.specs.declared.events.DealerEvent.{DealerEvent}
 use Rattle.dealer_desk.specs.declared.events.DealerEvent.TheVariants as at_dealer_desk
 use Rattle.market_terms.specs.declared.closes.HitRefusal.{HitRefusal}
@@ -12,13 +11,11 @@ use Rattle.market_terms.specs.declared.duties.Duty.TheVariants as duty
 use Rattle.market_terms.specs.declared.rooms.ResponseRef.{ResponseRef}
 use Rattle.market_terms.specs.declared.rooms.RoomRef.{RoomRef}
 use Rattle.quote_word.specs.declared.settled.Settled.{Settled}
-use Rattle.venue_rows.specs.Rows.{Configuration, dealer_numbered, has_room}
+use Rattle.venue_rows.specs.Rows.{Configuration, dealer_numbered}
 use Rattle.venue_rows.specs.declared.investor_rows.InvestorRow.{InvestorRow}
-use Rattle.venue_places.specs.Dealers.{Dealer, QuoteRef, acting_dealer, dealer_at, dealer_of, quote_with_word}
+use Rattle.venue_places.specs.Dealers.{Dealer, QuoteRef, dealer_at, dealer_of, quote_with_word}
 use Rattle.venue_places.specs.declared.actors.Actor.{Actor}
 use Rattle.venue_places.specs.declared.actors.Actor.TheVariants as actor
-use Rattle.venue_steps.specs.InvestorSteps.{replies_to}
-use Rattle.venue_steps.specs.RoomSteps.{hit_word}
 use Rattle.investor_desk.specs.InvestorDesk.{market_for, market_of}
 use Rattle.investor_desk.specs.InvestorFacts.{InvestorBook, InvestorFact}
 use Rattle.investor_desk.specs.InvestorFacts.{open_request, request_numbered}
@@ -31,11 +28,12 @@ use Rattle.request_room.specs.Book.{event_facts, hit_outcome}
 use Rattle.request_room.specs.declared.ends.End.{End}
 use Rattle.request_room.specs.declared.events.RoomEvent.{RoomEvent}
 use Rattle.request_room.specs.declared.events.RoomEvent.TheVariants as at_room
-use Rattle.step_replay.specs.Actions.{Effect, answer_to_hit, at_dealer, at_market, done_by, done_for, drop_at}
-use Rattle.step_replay.specs.Actions.{dropped_by, hit_with, in_room, left_by, left_by_drop, lifting, nothing}
-use Rattle.step_replay.specs.Actions.{quote_asked, received_by_dealer, received_by_investor, settlement_of}
-use Rattle.step_replay.specs.Actions.{verdict_on, where_known}
-use Rattle.step_replay.specs.DealerTrail.{entries_of, rooms_by}
+use Rattle.step_replay.specs.ActionKinds.{event_in}
+use Rattle.step_replay.specs.Actions.{Effect, at_dealer, at_market, done_by, done_for}
+use Rattle.step_replay.specs.Actions.{hit_with, left_by, lifting, nothing}
+use Rattle.step_replay.specs.Actions.{received_by_dealer, received_by_investor, settlement_of}
+use Rattle.step_replay.specs.Actions.{verdict_on}
+use Rattle.step_replay.specs.DealerTrail.{entries_of}
 use Rattle.step_replay.specs.DutyEffects.{duty_effect, message_effect, sweep_effect}
 use Rattle.step_replay.specs.InvestorTrail as investor_trail
 use Rattle.step_replay.specs.InvestorTrail.{InvestorEntry}
@@ -43,10 +41,11 @@ use Rattle.step_replay.specs.Lists.{Every}
 use Rattle.step_replay.specs.PlaceLemmas.{investor_at_dealer, investor_grown, investor_in_room, other_investor}
 use Rattle.step_replay.specs.PlaceLemmas.{own_investor}
 use Rattle.step_replay.specs.VenueFacts.{AtInvestor, Fact, InRoom, of_dealer, of_investor, of_room}
-use Rattle.day_parts.specs.ActionCases.{by_does, if_does, invested_does, numbered_does, told_does}
-use Rattle.day_parts.specs.ActionCases.{unless_does}
-use Rattle.shown_laws.proofs.ShownMarket.{entries_facts}
-use Rattle.trade_laws.specs.Trades.{at_investor as market_facts}
+use Rattle.laws_days.specs.DutyWalk.{AnyDealer, AnyRoom, InvestorMay, Walks, any_dealer, any_room}
+use Rattle.laws_days.specs.DutyWalk.{duty_walks, settlement_found, sweep_walks}
+use Rattle.laws_days.specs.ActionCases.{if_does, invested_does, numbered_does}
+use Rattle.laws_shown.proofs.ShownMarket.{entries_facts}
+use Rattle.laws_shown.specs.ShownRequests.{at_investor as market_facts}
 
 module _ (P : InvestorFact → Type 0) (config : Configuration) (facts : List Fact) (investor : ℕ) where
   -- each fact that an action adds at the desk is so
@@ -68,15 +67,11 @@ module _ (P : InvestorFact → Type 0) (config : Configuration) (facts : List Fa
       away (at_dealer config facts dealer event duties) (investor_at_dealer investor dealer.number
       (entries_of config.date dealer.row (of_dealer dealer.number facts) event))
 
-  room_brings : (at : RoomRef) (may : Bool) (event : RoomEvent) (duties : List Duty)
-      → Brings (in_room config facts at may event duties)
-  room_brings at may event duties =
-      let effect : Effect = record {
-        facts = map (InRoom at) (event_facts (of_room at facts) event);
-        duties = duties;
-      } in
-      if_does Brings idle (has_room config at.investor at.n && may) effect
-      (away effect (investor_in_room investor at (event_facts (of_room at facts) event)))
+  room_brings : (at : RoomRef) (event : RoomEvent) (left : List Duty)
+      → Brings (event_in config facts at event left)
+  room_brings at event left =
+      away (event_in config facts at event left)
+      (investor_in_room investor at (event_facts (of_room at facts) event))
 
   lifted_none : (found : Option QuoteRef) (outcome : Result End HitRefusal)
       → of_investor investor (lifting found outcome) ≡ []
@@ -124,20 +119,7 @@ module _ (P : InvestorFact → Type 0) (config : Configuration) (facts : List Fa
             (other_investor investor number differs entries)
       ]
 
-  known_brings : (number : ℕ) (row : InvestorRow) (request : ℕ) (quote : Option ℕ) (event : InvestorEvent)
-      → Harmless number row event → Brings (where_known facts request quote event (market_of config number row))
-  known_brings number row request quote event each =
-      if_does Brings idle _ (at_market facts (market_of config number row) event [])
-      (market_brings number row event [] each)
-
-  come_brings : (number request : ℕ) (event : InvestorEvent)
-      → ((row : InvestorRow) → Harmless number row event)
-      → Brings (done_for (market_for config number) (where_known facts request None event))
-  come_brings number request event each =
-      invested_does Brings idle config number (where_known facts request None event)
-      (λ row. known_brings number row request None event (each row))
-
-  -- Duties, line by line.
+  -- Duties.
 
   -- what a duty may add
   abbrev pub MayBring : Duty → Type 0
@@ -152,58 +134,36 @@ module _ (P : InvestorFact → Type 0) (config : Configuration) (facts : List Fa
       → Every P (investor_output.expiry_facts at.n (request_numbered (book at.investor) at.n))
   MayBring other = Unit {0}
 
+  walks : Walks AnyDealer Harmless AnyRoom config facts Brings
+  walks = record {
+    idle = idle;
+    at_a_dealer = λ number row found event left any. desk_brings (dealer_of number row) event left;
+    at_an_investor = λ number row found event each. market_brings number row event [] each;
+    in_a_room = λ at there event no_hit left any. room_brings at event left;
+    by_a_hit = λ at there response word moment any.
+        hit_brings at response word moment (settlement_found config facts at word moment);
+  }
+
+  may : (d : Duty) → MayBring d → InvestorMay Harmless config d
+  unfolding investor_output.event_facts
+  may (duty.Relay at offer moment) is = λ row found same. is same
+  may (duty.Gone at word moment) is = λ row found same. is same
+  may (duty.Declined at moment) is = λ dealer row found same. tt
+  may (duty.Answer at response reply moment) is = λ fits row found same. is same
+  may (duty.Close at moment) is = λ row found same. is same
+  may other is = tt
+
   pub duty_brings : (by : Actor) (d : Duty) → MayBring d → Brings (duty_effect config facts by d)
-  unfolding duty_effect investor_output.event_facts
-  duty_brings by (duty.Open at ask dealers moment) is =
-      room_brings at true (at_room.Open (record { ask = ask; dealers = dealers })) _
-  duty_brings by (duty.Show dealer at ask moment) is =
-      numbered_does Brings idle config dealer _ (λ row found. unless_does Brings idle _ _
-      (desk_brings (dealer_of dealer row) (at_dealer_desk.Shown at ask moment) []))
-  duty_brings by (duty.Ready at moment) is = room_brings at true at_room.Ready []
-  duty_brings by (duty.Post at quote price until moment) is =
-      by_does Brings idle (acting_dealer config by) _ (λ dealer. room_brings at _ _ _)
-  duty_brings by (duty.Relay at offer moment) is =
-      come_brings at.investor at.n (at_investor.QuoteCame at.n offer moment)
-      (λ row same. is same)
-  duty_brings by (duty.Unpost at quote moment) is =
-      by_does Brings idle (acting_dealer config by) _ (λ dealer. room_brings at _ _ _)
-  duty_brings by (duty.Gone at word moment) is =
-      come_brings at.investor at.n (at_investor.QuoteGone at.n word moment)
-      (λ row same. is same)
-  duty_brings by (duty.Decline at moment) is =
-      by_does Brings idle (acting_dealer config by) _ (λ dealer. room_brings at _ _ _)
-  duty_brings by (duty.Declined at moment) is =
-      by_does Brings idle (acting_dealer config by) _ (λ dealer. come_brings at.investor at.n
-      (at_investor.DealerDeclined at.n dealer.row.name moment) (λ row same. tt))
-  duty_brings by (duty.Hit at response word moment) is =
-      if_does Brings idle _ _ (hit_brings at response word moment
-      (option_map (answer_to_hit facts) (quote_asked config (hit_word (of_room at facts) word moment))))
-  duty_brings by (duty.Pass at response moment) is = room_brings at true (at_room.Pass moment) _
-  duty_brings by (duty.Answer at response reply moment) is =
-      invested_does Brings idle config at.investor _ (λ row. if_does Brings idle (replies_to response.k reply) _
-      (known_brings at.investor row at.n response.k (at_investor.Answered at.n response reply moment)
-      (λ same. is same)))
-  duty_brings by (duty.Close at moment) is =
-      come_brings at.investor at.n (at_investor.Closed at.n moment)
-      (λ row same. is same)
-  duty_brings by (duty.Tell dealer at close moment) is =
-      numbered_does Brings idle config dealer _
-      (λ row found. told_does Brings idle config facts (dealer_of dealer row) close moment
-      (number_in (rooms_by (of_dealer dealer facts)) at)
-      (λ number. desk_brings (dealer_of dealer row) (at_dealer_desk.Told number close moment) []))
-  duty_brings (actor.Firm number) (duty.Drop last moment) is =
-      numbered_does Brings idle config number (dropped_by config facts last moment)
-      (λ row found. if_does Brings idle _ (at_dealer config facts (dealer_of number row)
-      (drop_at (of_dealer number facts) last moment) (left_by_drop config facts last moment (dealer_of number row)))
-      (desk_brings (dealer_of number row) (drop_at (of_dealer number facts) last moment)
-      (left_by_drop config facts last moment (dealer_of number row))))
-  duty_brings actor.Clock (duty.Drop last moment) is = idle
+  duty_brings by d is =
+      duty_walks AnyDealer Harmless AnyRoom config facts Brings walks by d
+      (any_dealer AnyDealer config facts by d (λ number row event left is. tt)) (may d is)
+      (any_room AnyRoom config facts by d (λ at event left is. tt))
 
   -- A sweep, and messages of firms.
 
   pub sweep_brings : (at : RoomRef) (moment : ℕ) → Brings (sweep_effect config facts at moment)
-  unfolding sweep_effect
-  sweep_brings at moment = room_brings at true (at_room.Expire moment) _
+  sweep_brings at moment =
+      sweep_walks AnyDealer Harmless AnyRoom config facts Brings walks at moment tt
 
   received_brings : (dealer : Dealer) (moment : ℕ) (bytes : List ℕ)
       → Brings (received_by_dealer config facts moment bytes dealer)

@@ -20,17 +20,17 @@ use Rattle.step_replay.specs.PlaceLemmas.{room_grown}
 use Rattle.step_replay.specs.VenueFacts.{of_room}
 use Rattle.step_replay.specs.declared.steps.Step.{Step}
 use Rattle.step_replay.specs.declared.steps.Step.TheVariants as step
-use Rattle.trade_laws.specs.LiveDuties.{NoDutyIsLeft}
-use Rattle.trade_laws.specs.Trades.{at_investor as market_facts}
-use Rattle.venue_laws.proofs.ConditionMet.{met}
-use Rattle.venue_laws.proofs.LiveQuotes.{LoneQuotes}
-use Rattle.venue_laws.proofs.VenueDay.{venue_ok}
-use Rattle.venue_laws.proofs.VenueDesk.{WordsOfDay}
-use Rattle.venue_laws.proofs.VenueInvariant.{VenueOk}
-use Rattle.venue_laws.proofs.VenueKnown.{pending_ok}
-use Rattle.venue_laws.proofs.VenueParts.{did_in, duties_by, later_same}
-use Rattle.venue_laws.proofs.VenueSteps.{Here, day}
-use Rattle.venue_laws.proofs.VenueTurns.{beside, doing_now, own_left, turn}
+use Rattle.laws_days.specs.LiveDuties.{NoDutyIsLeft}
+use Rattle.laws_shown.specs.ShownRequests.{at_investor as market_facts}
+use Rattle.laws_days.proofs.ConditionMet.{met}
+use Rattle.laws_days.proofs.LiveQuotes.{LoneQuotes}
+use Rattle.laws_days.proofs.VenueDay.{venue_ok}
+use Rattle.laws_days.proofs.VenueDesk.{WordsOfDay}
+use Rattle.laws_days.proofs.VenueInvariant.{VenueOk}
+use Rattle.laws_days.proofs.VenueKnown.{pending_ok}
+use Rattle.laws_days.proofs.VenueParts.{did_in, duties_by, later_same}
+use Rattle.laws_days.proofs.VenueSteps.{Here, day}
+use Rattle.laws_days.proofs.VenueTurns.{beside, doing_now, own_left, turn}
 use Rattle.laws_rooms.specs.Ends.{IsClosedThere}
 use Rattle.laws_rooms.proofs.EndLemmas.{Ends, closes_it, duty_ends, ended_split, message_ends, sweep_ends}
 use Rattle.laws_rooms.proofs.EndLemmas.{turn_shuts}

@@ -37,8 +37,9 @@ use Rattle.request_room.specs.RoomFacts.{Ended, RoomFact, ended_as, is_ended, is
 use Rattle.request_room.specs.RoomFacts as room_facts
 use Rattle.request_room.specs.declared.ends.End.{End}
 use Rattle.request_room.specs.declared.events.RoomEvent.TheVariants as at_room
-use Rattle.step_replay.specs.Actions.{Effect, answer_to_hit, answered_by, at_market, done_for, hit_with, lifting}
+use Rattle.step_replay.specs.Actions.{Effect, answer_to_hit, at_market, done_for, hit_with, lifting}
 use Rattle.step_replay.specs.Actions.{nothing, quote_asked, where_known}
+use Rattle.step_replay.specs.LineActions.{answered_by}
 use Rattle.step_replay.specs.DutyEffects.{duty_effect, message_effect, sweep_effect}
 use Rattle.step_replay.specs.GrowthLemmas.{same_room}
 use Rattle.step_replay.specs.InvestorTrail as investor_trail
@@ -46,11 +47,11 @@ use Rattle.step_replay.specs.InvestorTrail.{InvestorEntry}
 use Rattle.step_replay.specs.Lists.{Every}
 use Rattle.step_replay.specs.PlaceLemmas.{other_room, own_room, room_grown}
 use Rattle.step_replay.specs.VenueFacts.{Fact, InRoom, of_investor, of_room}
-use Rattle.day_parts.specs.ActionCases.{if_does}
-use Rattle.trade_laws.specs.Trades.{at_investor as market_facts}
-use Rattle.venue_laws.specs.Conditions.{holds_for, is_known, is_known_to, is_met}
-use Rattle.venue_laws.proofs.VenueEnds.{none_lifted}
-use Rattle.venue_laws.proofs.VenueKnown.{room_self}
+use Rattle.laws_days.specs.ActionCases.{if_does}
+use Rattle.laws_shown.specs.ShownRequests.{at_investor as market_facts}
+use Rattle.laws_days.specs.Conditions.{holds_for, is_known, is_known_to, is_met}
+use Rattle.laws_days.proofs.VenueEnds.{none_lifted}
+use Rattle.laws_days.proofs.VenueKnown.{room_self}
 use Rattle.laws_rooms.proofs.RoomLemmas.{some_of}
 use Rattle.laws_rooms.proofs.RoomWalk.{Adds, MayAdd, duty_adds, lifted_none, message_adds}
 use Rattle.laws_rooms.proofs.ShutLemmas.{shut_by, shut_in}

@@ -26,24 +26,24 @@ use Rattle.request_room.specs.Book.{book_of, event_facts, may_unpost, quote_post
 use Rattle.request_room.specs.RoomFacts.{Noted, Posted, RoomFact, Unposted, hears, is_ended, request_of}
 use Rattle.request_room.specs.RoomFacts.{takes_quotes}
 use Rattle.request_room.specs.declared.quotes.PostedQuote.{PostedQuote}
-use Rattle.step_replay.specs.Actions.{Effect, declined_by, nothing, unposted_by, verdict_on}
+use Rattle.step_replay.specs.Actions.{Effect, nothing, verdict_on}
+use Rattle.step_replay.specs.LineActions.{declined_by, unposted_by}
 use Rattle.step_replay.specs.AuditTrail.{AuditTrail, is_same_actor}
-use Rattle.step_replay.specs.DealerTrail.{rooms_by}
 use Rattle.step_replay.specs.DutyEffects.{duty_effect, message_effect, sweep_effect}
 use Rattle.step_replay.specs.GrowthLemmas.{same_room}
 use Rattle.step_replay.specs.Lists.{Every}
 use Rattle.step_replay.specs.PlaceLemmas.{other_room, own_room}
-use Rattle.step_replay.specs.VenueFacts.{Fact, InRoom, of_dealer, of_room}
-use Rattle.day_parts.specs.ActionCases.{numbered_does}
-use Rattle.day_parts.specs.KeptItems.{every_all}
-use Rattle.day_parts.specs.LeftDuties.{duty_leaves as all_left, message_leaves as message_left}
-use Rattle.day_parts.specs.MayLeave.{MayLeave, MaySay}
-use Rattle.venue_laws.specs.Conditions.{is_met}
-use Rattle.venue_laws.proofs.VenueInvariant.{DutyOk}
-use Rattle.venue_laws.proofs.VenueKnown.{room_self}
-use Rattle.laws_rooms.specs.Answered.{Answer, Declines, Quotes, Withdraws, answers_in}
+use Rattle.step_replay.specs.VenueFacts.{Fact, InRoom, of_room}
+use Rattle.laws_days.specs.ActionCases.{numbered_does}
+use Rattle.laws_days.specs.KeptItems.{every_all}
+use Rattle.laws_days.specs.LeftBehind.{LeftBy, duty_each}
+use Rattle.laws_days.specs.LeftDuties.{duty_leaves as all_left, message_leaves as message_left}
+use Rattle.laws_days.specs.MayLeave.{MaySay}
+use Rattle.laws_days.specs.Conditions.{is_met}
+use Rattle.laws_days.proofs.VenueInvariant.{DutyOk}
+use Rattle.laws_days.proofs.VenueKnown.{room_self}
+use Rattle.laws_rooms.specs.Answered.{Answer, Declines, Quotes, Withdraws, answers_in, change_in, changes_in}
 use Rattle.laws_rooms.specs.Offers.{quotes_in}
-use Rattle.laws_rooms.specs.Tellings.{change_in, changes_in}
 use Rattle.laws_rooms.proofs.AnswerLemmas.{Goes, late, quiet, takes, turn_mine}
 use Rattle.laws_rooms.proofs.OfferLemmas.{post_same, relays}
 use Rattle.laws_rooms.proofs.ReplyDuties.{none_of}
@@ -285,7 +285,7 @@ module _ (dealer : ℕ) (config : Configuration) (row : DealerRow)
 
     -- All others.
 
-    abbrev IsQuiet : Duty → Type 0
+    abbrev pub IsQuiet : Duty → Type 0
     IsQuiet (duty.Post at quote price until moment) = ⊥
     IsQuiet (duty.Unpost at quote moment) = ⊥
     IsQuiet (duty.Decline at moment) = ⊥
@@ -296,30 +296,17 @@ module _ (dealer : ℕ) (config : Configuration) (row : DealerRow)
 
     tells_none : (by : Actor) (d : Duty) → IsQuiet d → tellings (duty_effect config facts by d).duties ≡ []
     tells_none by d isnt =
-        none_of tells_of (duty_effect config facts by d).duties (all_left TellsNone config facts by d (may by d isnt)).each
+        none_of tells_of (duty_effect config facts by d).duties
+        (duty_each TellsNone config facts by d (λ more left. each more d isnt left))
       where
-        in_rooms : (number : ℕ) (does : RoomRef → Duty) → ((r : RoomRef) → TellsNone (does r))
-            → Every (λ (r : RoomRef). TellsNone (does r)) (rooms_by (of_dealer number facts))
-        in_rooms number does each = every_all (λ (r : RoomRef). TellsNone (does r)) each _
-
-        may : (a : Actor) (one : Duty) → IsQuiet one → MayLeave TellsNone config facts a one
-        may a (duty.Open at ask dealers moment) so = (every_all _ (λ d. refl) dealers, refl)
-        may a (duty.Show number at ask moment) so = tt
-        may a (duty.Ready at moment) so = tt
-        may a (duty.Post at quote price until moment) so = absurd so
-        may a (duty.Relay at offer moment) so = tt
-        may a (duty.Unpost at quote moment) so = absurd so
-        may a (duty.Gone at word moment) so = tt
-        may a (duty.Decline at moment) so = absurd so
-        may a (duty.Declined at moment) so = tt
-        may a (duty.Hit at response word moment) so = (λ reply. refl, every_all _ (λ d close. refl) _)
-        may a (duty.Pass at response moment) so = (λ open_yet. refl, every_all _ (λ d close. refl) _)
-        may a (duty.Answer at response reply moment) so = tt
-        may a (duty.Close at moment) so = tt
-        may a (duty.Tell number at close moment) so = tt
-        may (actor.Firm number) (duty.Drop last moment) so =
-            (λ quote. in_rooms number (λ r. duty.Unpost r quote moment) (λ r. refl), refl)
-        may actor.Clock (duty.Drop last moment) so = tt
+        each : (more one : Duty) → IsQuiet one → LeftBy more one → TellsNone more
+        each (duty.Relay at offer when) (duty.Post other quote price until moment) so left = absurd so
+        each (duty.Relay at offer when) one so left = absurd left
+        each (duty.Gone at word when) (duty.Unpost other quote moment) so left = absurd so
+        each (duty.Gone at word when) one so left = absurd left
+        each (duty.Declined at when) (duty.Decline other moment) so left = absurd so
+        each (duty.Declined at when) one so left = absurd left
+        each more one so left = refl
 
     pub untold : (firm moment : ℕ) (bytes : List ℕ)
         → tellings (message_effect config facts firm moment bytes).duties ≡ []
@@ -360,7 +347,7 @@ module _ (dealer : ℕ) (config : Configuration) (row : DealerRow)
     quiet_adds by (duty.Pass at response moment) so = refl
     quiet_adds by other so = tt
 
-    quiet_none : (by : Actor) (d : Duty) → IsQuiet d → changes (added (duty_effect config facts by d)) ≡ []
+    pub quiet_none : (by : Actor) (d : Duty) → IsQuiet d → changes (added (duty_effect config facts by d)) ≡ []
     quiet_none by d isnt =
         changes_none (added (duty_effect config facts by d))
         (duty_adds SaysNot config facts room by d (quiet_adds by d isnt)).each

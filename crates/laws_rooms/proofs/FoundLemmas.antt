@@ -4,7 +4,7 @@ use Rattle.std.proofs.Common.{Option, Some, None, is_some, refl, sym, ap, ◌∙
 use Rattle.std.specs.List.{cons_option}
 use Rattle.std.proofs.lemmas.Bool.{cases_Bool, false≢true}
 use Rattle.step_replay.specs.Lists.{In}
-use Rattle.venue_laws.proofs.ListLemmas.{cases_some}
+use Rattle.laws_days.proofs.ListLemmas.{cases_some}
 
 abbrev head_or : {A : Type 0} → A → List A → A
 head_or x [] = x

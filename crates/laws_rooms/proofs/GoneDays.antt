@@ -24,24 +24,26 @@ use Rattle.venue_steps.specs.RoomSteps.{where_follows}
 use Rattle.request_room.specs.Book.{event_facts, may_unpost}
 use Rattle.request_room.specs.RoomFacts.{hears}
 use Rattle.request_room.specs.declared.events.RoomEvent.TheVariants as at_room
-use Rattle.step_replay.specs.Actions.{Effect, nothing, unposted_by, verdict_on}
+use Rattle.step_replay.specs.Actions.{Effect, nothing, verdict_on}
+use Rattle.step_replay.specs.LineActions.{unposted_by}
 use Rattle.step_replay.specs.AuditTrail.{AuditTrail, audit_trail}
-use Rattle.step_replay.specs.DealerTrail.{AtDesk, rooms_by}
+use Rattle.step_replay.specs.DealerTrail.{AtDesk}
 use Rattle.step_replay.specs.DutyEffects.{duty_effect, message_effect, sweep_effect}
 use Rattle.step_replay.specs.GrowthLemmas.{all_in}
 use Rattle.step_replay.specs.Lists.{Every}
 use Rattle.step_replay.specs.OwnerLemmas.{owner_among, quote_at}
-use Rattle.step_replay.specs.VenueFacts.{Fact, InRoom, of_dealer, of_room}
+use Rattle.step_replay.specs.VenueFacts.{Fact, InRoom, of_room}
 use Rattle.step_replay.specs.declared.steps.Step.{Step}
-use Rattle.day_parts.specs.ActionCases.{if_does, numbered_does}
-use Rattle.day_parts.specs.KeptItems.{every_all}
-use Rattle.day_parts.specs.LeftDuties.{Leaves, duty_leaves, message_leaves, sweep_leaves}
-use Rattle.day_parts.specs.MayLeave.{MayLeave, MaySay, follows}
-use Rattle.shown_laws.specs.ShownRequests.{at_dealer}
-use Rattle.shown_laws.proofs.ShownDay.{day_ok}
-use Rattle.shown_laws.proofs.ShownLaws.{dealer_facts, quote_shown}
-use Rattle.shown_laws.proofs.ShownParts.{DealerOk}
-use Rattle.venue_laws.proofs.VenueInvariant.{DutyOk, UnpostsIn}
+use Rattle.laws_days.specs.ActionCases.{if_does, numbered_does}
+use Rattle.laws_days.specs.KeptItems.{every_all}
+use Rattle.laws_days.specs.LeftBehind.{LeftBy, duty_each, sweep_each}
+use Rattle.laws_days.specs.LeftDuties.{Leaves, message_leaves}
+use Rattle.laws_days.specs.MayLeave.{MaySay, follows}
+use Rattle.laws_shown.specs.ShownRequests.{at_dealer}
+use Rattle.laws_shown.proofs.ShownDay.{day_ok}
+use Rattle.laws_shown.proofs.ShownLaws.{dealer_facts, quote_shown}
+use Rattle.laws_shown.proofs.ShownParts.{DealerOk}
+use Rattle.laws_days.proofs.VenueInvariant.{DutyOk, UnpostsIn}
 use Rattle.laws_rooms.proofs.GoneLemmas.{of_offer}
 use Rattle.laws_rooms.proofs.NumberDays.{numbered}
 use Rattle.laws_rooms.proofs.TellingLemmas.{DeskFits, GoneOk}
@@ -104,30 +106,12 @@ module _ (config : Configuration) (facts : List Fact) where
   IsQuiet other = Unit {0}
 
   quiet_leaves : (by : Actor) (d : Duty) → IsQuiet d → Every (GoneOk config by) (duty_effect config facts by d).duties
-  quiet_leaves by d isnt = (duty_leaves (GoneOk config by) config facts by d (may by d isnt)).each
+  quiet_leaves by d isnt = duty_each (GoneOk config by) config facts by d (λ more left. each more d isnt left)
     where
-      in_rooms : (number : ℕ) (does : RoomRef → Duty) → ((r : RoomRef) → GoneOk config by (does r))
-          → Every (λ (r : RoomRef). GoneOk config by (does r)) (rooms_by (of_dealer number facts))
-      in_rooms number does each = every_all (λ (r : RoomRef). GoneOk config by (does r)) each _
-
-      may : (a : Actor) (one : Duty) → IsQuiet one → MayLeave (GoneOk config by) config facts a one
-      may a (duty.Open at ask dealers moment) so = (every_all _ (λ d. tt) dealers, tt)
-      may a (duty.Show number at ask moment) so = tt
-      may a (duty.Ready at moment) so = tt
-      may a (duty.Post at quote price until moment) so = λ offer. tt
-      may a (duty.Relay at offer moment) so = tt
-      may a (duty.Unpost at quote moment) so = absurd so
-      may a (duty.Gone at word moment) so = tt
-      may a (duty.Decline at moment) so = tt
-      may a (duty.Declined at moment) so = tt
-      may a (duty.Hit at response word moment) so = (λ reply. tt, every_all _ (λ d close. tt) _)
-      may a (duty.Pass at response moment) so = (λ open_yet. tt, every_all _ (λ d close. tt) _)
-      may a (duty.Answer at response reply moment) so = tt
-      may a (duty.Close at moment) so = tt
-      may a (duty.Tell number at close moment) so = tt
-      may (actor.Firm number) (duty.Drop last moment) so =
-          (λ quote. in_rooms number (λ r. duty.Unpost r quote moment) (λ r. tt), tt)
-      may actor.Clock (duty.Drop last moment) so = tt
+      each : (more one : Duty) → IsQuiet one → LeftBy more one → GoneOk config by more
+      each (duty.Gone at word when) (duty.Unpost other quote moment) so left = absurd so
+      each (duty.Gone at word when) one so left = absurd left
+      each more one so left = tt
 
   pub duty_gones : (venue : AuditTrail) (by : Actor) (d : Duty) → DutyOk config by d venue
       → Every (GoneOk config by) (duty_effect config facts by d).duties
@@ -158,7 +142,7 @@ module _ (config : Configuration) (facts : List Fact) where
   pub sweep_gones : (by : Actor) (at : RoomRef) (moment : ℕ)
       → Every (GoneOk config by) (sweep_effect config facts at moment).duties
   sweep_gones by at moment =
-      (sweep_leaves (GoneOk config by) config facts at moment tt (every_all _ (λ d close. tt) _)).each
+      sweep_each (GoneOk config by) config facts at moment tt (λ d close. tt)
 
 -- What stands at the desk of an investor.
 

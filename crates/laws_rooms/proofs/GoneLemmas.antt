@@ -23,9 +23,9 @@ use Rattle.request_room.specs.Book.{quote_posted}
 use Rattle.request_room.specs.declared.quotes.PostedQuote.{PostedQuote}
 use Rattle.step_replay.specs.Lists.{Every, In}
 use Rattle.step_replay.specs.OwnerLemmas.{owner_among, quote_at}
-use Rattle.shown_laws.proofs.ListLemmas.{AreFrom}
-use Rattle.trade_laws.proofs.NameLemmas.{same_dealer}
-use Rattle.venue_laws.proofs.ListLemmas.{found_in}
+use Rattle.laws_shown.proofs.ListLemmas.{AreFrom}
+use Rattle.laws_days.proofs.FirmNames.{same_dealer}
+use Rattle.laws_days.proofs.ListLemmas.{found_in}
 use Rattle.laws_rooms.specs.Answered.{Answer, Quotes, Withdraws}
 use Rattle.laws_rooms.specs.Offers.{is_of, shown_of}
 use Rattle.laws_rooms.specs.Tellings.{IsAnothers, IsIts, IsOther, as_told}

@@ -1,6 +1,6 @@
 -- What is left of a request that is accepted, and of a quote and a decline that take effect in a room.
 use Rattle.std.proofs.Common.{◌≡◌, ◌+◌, ℕ, Bool, true, false, List, [], ◌∷◌, ◌++◌, map}
-use Rattle.std.proofs.Common.{Option, Some, None, is_some, option_map, refl, inl}
+use Rattle.std.proofs.Common.{Option, Some, None, is_some, refl, inl}
 use Rattle.std.proofs.Common.{if◌then◌else◌, length, Result, Ok, Err, ◌&&◌}
 use Rattle.std.specs.Option.{option_to_list}
 use Rattle.market_terms.specs.declared.closes.HitRefusal.{HitRefusal}
@@ -12,12 +12,11 @@ use Rattle.market_terms.specs.declared.rooms.ResponseRef.{ResponseRef}
 use Rattle.market_terms.specs.declared.rooms.RoomRef.{RoomRef}
 use Rattle.venue_rows.specs.Rows.{Configuration, dealer_numbered, has_room}
 use Rattle.venue_rows.specs.declared.investor_rows.InvestorRow.{InvestorRow}
-use Rattle.venue_places.specs.Dealers.{Dealer, acting_dealer, dealer_at, dealer_of, has_word_for, offer_of}
+use Rattle.venue_places.specs.Dealers.{Dealer, dealer_at, dealer_of, has_word_for, offer_of}
 use Rattle.venue_places.specs.Dealers.{word_for}
 use Rattle.venue_rows.specs.declared.dealer_rows.DealerRow.{DealerRow}
 use Rattle.venue_places.specs.declared.actors.Actor.{Actor}
 use Rattle.venue_places.specs.declared.actors.Actor.TheVariants as actor
-use Rattle.dealer_desk.specs.DealerOutput.{number_in}
 use Rattle.dealer_desk.specs.declared.events.DealerEvent.{DealerEvent}
 use Rattle.dealer_desk.specs.declared.events.DealerEvent.TheVariants as at_desk
 use Rattle.investor_desk.specs.InvestorDesk.{market_for, market_of}
@@ -41,15 +40,16 @@ use Rattle.request_room.specs.declared.quotes.PostedQuote.{PostedQuote}
 use Rattle.request_room.specs.declared.events.RoomEvent.{RoomEvent}
 use Rattle.request_room.specs.declared.events.RoomEvent.TheVariants as at_room
 use Rattle.quote_word.specs.declared.settled.Settled.{Settled}
-use Rattle.venue_steps.specs.InvestorSteps.{replies_to}
-use Rattle.venue_steps.specs.RoomSteps.{hit_word, where_follows}
-use Rattle.step_replay.specs.Actions.{Effect, QuoteRef, at_dealer, at_market, done_by, done_for, drop_at}
-use Rattle.step_replay.specs.Actions.{answer_to_hit, declined_by, dropped_by, hit_with, in_room, left_by_drop}
-use Rattle.step_replay.specs.Actions.{left_by, lifting, nothing, quote_asked, quote_with_word}
-use Rattle.step_replay.specs.Actions.{posted_by, settlement_of, verdict_on}
-use Rattle.step_replay.specs.Actions.{received_by_dealer, received_by_investor, where_known}
+use Rattle.venue_steps.specs.RoomSteps.{where_follows}
+use Rattle.step_replay.specs.ActionKinds.{event_in}
+use Rattle.step_replay.specs.Actions.{Effect, QuoteRef, at_dealer, at_market, done_by, done_for}
+use Rattle.step_replay.specs.Actions.{hit_with}
+use Rattle.step_replay.specs.Actions.{left_by, lifting, nothing, quote_with_word}
+use Rattle.step_replay.specs.Actions.{settlement_of, verdict_on}
+use Rattle.step_replay.specs.Actions.{received_by_dealer, received_by_investor}
+use Rattle.step_replay.specs.LineActions.{declined_by, posted_by}
 use Rattle.step_replay.specs.AuditTrail.{AuditTrail}
-use Rattle.step_replay.specs.DealerTrail.{entries_of, rooms_by}
+use Rattle.step_replay.specs.DealerTrail.{entries_of}
 use Rattle.step_replay.specs.DutyEffects.{duty_effect, message_effect, sweep_effect}
 use Rattle.step_replay.specs.EachLemmas.{every_both, every_weaker}
 use Rattle.step_replay.specs.InvestorTrail as investor_trail
@@ -57,11 +57,12 @@ use Rattle.step_replay.specs.InvestorTrail.{InvestorEntry}
 use Rattle.step_replay.specs.Lists.{Every, In}
 use Rattle.step_replay.specs.VenueFacts.{AtDealer, AtInvestor, Fact, InRoom, of_dealer, of_investor}
 use Rattle.step_replay.specs.VenueFacts.{of_room}
-use Rattle.day_parts.specs.ActionCases.{by_does, if_does, invested_does, numbered_does, told_does}
-use Rattle.day_parts.specs.ActionCases.{unless_does}
-use Rattle.day_parts.specs.KeptItems.{every_map}
-use Rattle.trade_laws.specs.Trades.{room_of}
-use Rattle.venue_laws.proofs.VenueParts.{duties_by}
+use Rattle.laws_days.specs.DutyWalk.{AnyDealer, InvestorMay, RoomMay, Walks, any_dealer, duty_walks}
+use Rattle.laws_days.specs.DutyWalk.{settlement_found, sweep_walks}
+use Rattle.laws_days.specs.ActionCases.{if_does, invested_does, numbered_does}
+use Rattle.laws_days.specs.KeptItems.{every_map}
+use Rattle.laws_shown.specs.ShownRequests.{room_of}
+use Rattle.laws_days.proofs.VenueParts.{duties_by}
 use Rattle.laws_rooms.specs.Told.{IsItsOffer}
 
 -- What adds no accepted request, and no quote and no decline of a room.
@@ -134,13 +135,12 @@ module _ (config : Configuration) (facts : List Fact) where
   event_quiet room known (at_room.Expire moment) isnt =
       so_quiet room (may_expire known moment) (Ended expired moment) tt
 
-  room_quiet : (room : RoomRef) (may : Bool) (event : RoomEvent) (duties : List Duty) → IsNoPost event
-      → Quiet (in_room config facts room may event duties)
-  room_quiet room may event duties isnt =
-      if_does Quiet none (has_room config room.investor room.n && may) _ (record {
-        facts = mapped IsOther (InRoom room) (event_facts (of_room room facts) event)
-            (event_quiet room (of_room room facts) event isnt);
-      })
+  room_quiet : (room : RoomRef) (event : RoomEvent) (left : List Duty) → IsNoPost event
+      → Quiet (event_in config facts room event left)
+  room_quiet room event left isnt = record {
+    facts = mapped IsOther (InRoom room) (event_facts (of_room room facts) event)
+        (event_quiet room (of_room room facts) event isnt);
+  }
 
   -- What comes to an investor, and is no message of its own.
   module _ (market : InvestorMarket) where
@@ -204,22 +204,6 @@ module _ (config : Configuration) (facts : List Fact) where
               (every_map AtThis investor_trail.Sent (λ bytes. tt) messages));
         }
 
-  known_quiet : (request : ℕ) (quote : Option ℕ) (event : InvestorEvent) (market : InvestorMarket)
-      → Every (AtDesk market) (investor_output.event_facts market
-      (investor_trail.book_by (of_investor market.firm facts)) event)
-      → Quiet (where_known facts request quote event market)
-  known_quiet request quote event market each =
-      if_does Quiet none _ (at_market facts market event []) (market_quiet market event [] each)
-
-  -- what comes to the investor of a request
-  comes_quiet : (investor request : ℕ) (event : InvestorEvent)
-      → ((market : InvestorMarket) → Every (AtDesk market) (investor_output.event_facts market
-      (investor_trail.book_by (of_investor market.firm facts)) event))
-      → Quiet (done_for (market_for config investor) (where_known facts request None event))
-  comes_quiet investor request event each =
-      invested_does Quiet none config investor (where_known facts request None event)
-      (λ row. known_quiet request None event (market_of config investor row) (each (market_of config investor row)))
-
   lifted_quiet : (found : Option QuoteRef) (outcome : Result End HitRefusal)
       → Every IsOther (lifting found outcome)
   lifted_quiet None outcome = tt
@@ -244,61 +228,60 @@ module _ (config : Configuration) (facts : List Fact) where
   IsNoPosting (duty.Decline room moment) = ⊥
   IsNoPosting d = Unit {0}
 
-  pub duty_quiet : (by : Actor) (d : Duty) → IsNoPosting d → Quiet (duty_effect config facts by d)
-  unfolding duty_effect investor_output.event_facts
-  duty_quiet by (duty.Open room ask dealers moment) isnt =
-      room_quiet room true (at_room.Open (record { ask = ask; dealers = dealers })) _ tt
-  duty_quiet by (duty.Show dealer room ask moment) isnt =
-      numbered_does Quiet none config dealer _ (λ row found. unless_does Quiet none _ _
-      (desk_quiet (dealer_of dealer row) (at_desk.Shown room ask moment) []))
-  duty_quiet by (duty.Ready room moment) isnt = room_quiet room true at_room.Ready [] tt
-  duty_quiet by (duty.Post room quote price valid_until moment) isnt = absurd isnt
-  duty_quiet by (duty.Relay room offer moment) isnt =
-      comes_quiet room.investor room.n (at_investor.QuoteCame room.n offer moment)
-      (λ market. let book = investor_trail.book_by (of_investor market.firm facts) in
-      offer_so market book room.n offer (investor_facts.open_request book room.n))
-  duty_quiet by (duty.Unpost room quote moment) isnt =
-      by_does Quiet none (acting_dealer config by) _ (λ dealer. room_quiet room _
-      (at_room.Unpost dealer.number (word_for config dealer quote)) _ tt)
-  duty_quiet by (duty.Gone room word moment) isnt =
-      comes_quiet room.investor room.n (at_investor.QuoteGone room.n word moment)
-      (λ market. let book = investor_trail.book_by (of_investor market.firm facts) in
-      withdrawal_so market room.n word (investor_facts.open_request book room.n))
-  duty_quiet by (duty.Decline room moment) isnt = absurd isnt
-  duty_quiet by (duty.Declined room moment) isnt =
-      by_does Quiet none (acting_dealer config by) _ (λ dealer. comes_quiet room.investor room.n
-      (at_investor.DealerDeclined room.n dealer.row.name moment) (λ market. tt))
-  duty_quiet by (duty.Hit room response word moment) isnt =
-      if_does Quiet none _ _ (hit_quiet room response word moment
-      (option_map (answer_to_hit facts) (quote_asked config (hit_word (of_room room facts) word moment))))
-  duty_quiet by (duty.Pass room response moment) isnt = room_quiet room true (at_room.Pass moment) _ tt
-  duty_quiet by (duty.Answer room response answer moment) isnt =
-      invested_does Quiet none config room.investor _ (λ row. if_does Quiet none (replies_to response.k answer) _
-      (known_quiet room.n response.k (at_investor.Answered room.n response answer moment)
-      (market_of config room.investor row)
-      (let book = investor_trail.book_by (of_investor room.investor facts) in
+  -- Duties.
+
+  -- an event at an investor's desk that adds no accepted request
+  abbrev AddsOther : ℕ → InvestorRow → InvestorEvent → Type 0
+  AddsOther number row event =
+      Every (AtDesk (market_of config number row)) (investor_output.event_facts (market_of config number row)
+      (investor_trail.book_by (of_investor number facts)) event)
+
+  abbrev AddsNoPost : RoomRef → RoomEvent → List Duty → Type 0
+  AddsNoPost room event left = IsNoPost event
+
+  walks : Walks AnyDealer AddsOther AddsNoPost config facts Quiet
+  walks = record {
+    idle = none;
+    at_a_dealer = λ number row found event left any. desk_quiet (dealer_of number row) event left;
+    at_an_investor = λ number row found event each. market_quiet (market_of config number row) event [] each;
+    in_a_room = λ room there event no_hit left isnt. room_quiet room event left isnt;
+    by_a_hit = λ room there response word moment isnt.
+        hit_quiet room response word moment (settlement_found config facts room word moment);
+  }
+
+  at_desks : (d : Duty) → InvestorMay AddsOther config d
+  unfolding investor_output.event_facts
+  at_desks (duty.Relay room offer moment) = λ row found.
+      let book = investor_trail.book_by (of_investor room.investor facts) in
+      offer_so (market_of config room.investor row) book room.n offer (investor_facts.open_request book room.n)
+  at_desks (duty.Gone room word moment) = λ row found.
+      withdrawal_so (market_of config room.investor row) room.n word
+      (investor_facts.open_request (investor_trail.book_by (of_investor room.investor facts)) room.n)
+  at_desks (duty.Declined room moment) = λ dealer row found. tt
+  at_desks (duty.Answer room response answer moment) = λ fits row found.
+      let book = investor_trail.book_by (of_investor room.investor facts) in
       answer_so (market_of config room.investor row) book room.n response answer
-      (investor_facts.request_numbered book room.n))))
-  duty_quiet by (duty.Close room moment) isnt =
-      comes_quiet room.investor room.n (at_investor.Closed room.n moment)
-      (λ market. let book = investor_trail.book_by (of_investor market.firm facts) in
-      expiry_so market room.n (investor_facts.request_numbered book room.n))
-  duty_quiet by (duty.Tell dealer room close moment) isnt =
-      numbered_does Quiet none config dealer _
-      (λ row found. told_does Quiet none config facts (dealer_of dealer row) close moment
-      (number_in (rooms_by (of_dealer dealer facts)) room)
-      (λ number. desk_quiet (dealer_of dealer row) (at_desk.Told number close moment) []))
-  duty_quiet (actor.Firm number) (duty.Drop last moment) isnt =
-      numbered_does Quiet none config number (dropped_by config facts last moment)
-      (λ row found. if_does Quiet none _ (at_dealer config facts (dealer_of number row)
-      (drop_at (of_dealer number facts) last moment) (left_by_drop config facts last moment (dealer_of number row)))
-      (desk_quiet (dealer_of number row) (drop_at (of_dealer number facts) last moment)
-      (left_by_drop config facts last moment (dealer_of number row))))
-  duty_quiet actor.Clock (duty.Drop last moment) isnt = none
+      (investor_facts.request_numbered book room.n)
+  at_desks (duty.Close room moment) = λ row found.
+      expiry_so (market_of config room.investor row) room.n
+      (investor_facts.request_numbered (investor_trail.book_by (of_investor room.investor facts)) room.n)
+  at_desks other = tt
+
+  in_rooms : (by : Actor) (d : Duty) → IsNoPosting d → RoomMay AddsNoPost config facts by d
+  in_rooms by (duty.Post room quote price valid_until moment) isnt = absurd isnt
+  in_rooms by (duty.Decline room moment) isnt = absurd isnt
+  in_rooms (actor.Firm number) (duty.Unpost room quote moment) isnt = λ row found. tt
+  in_rooms by other isnt = tt
+
+  pub duty_quiet : (by : Actor) (d : Duty) → IsNoPosting d → Quiet (duty_effect config facts by d)
+  duty_quiet by d isnt =
+      duty_walks AnyDealer AddsOther AddsNoPost config facts Quiet walks by d
+      (any_dealer AnyDealer config facts by d (λ number row event left is. tt)) (at_desks d)
+      (in_rooms by d isnt)
 
   pub sweep_quiet : (room : RoomRef) (moment : ℕ) → Quiet (sweep_effect config facts room moment)
-  unfolding sweep_effect
-  sweep_quiet room moment = room_quiet room true (at_room.Expire moment) _ tt
+  sweep_quiet room moment =
+      sweep_walks AnyDealer AddsOther AddsNoPost config facts Quiet walks room moment tt
 
 -- What is left of a request that is accepted, the opening of its room, and of a quote of a room, that
 -- it is relayed to its investor.

@@ -1,11 +1,16 @@
 mod AnswerDays
 mod AnswerLemmas
 mod AskLemmas
+mod ChangeLemmas
 mod CloseDays
 mod CloseLemmas
 mod ClosedDays
 mod ClosingLemmas
 mod DeclineLemmas
+mod DeskAnswers
+mod DeskLinks
+mod DeskUntold
+mod DeskVerdicts
 mod DeskWalk
 mod EndDays
 mod EndLemmas
@@ -14,6 +19,9 @@ mod FoundLemmas
 mod GoneDays
 mod GoneLemmas
 mod LeftLemmas
+mod LinkDays
+mod LiveAnswers
+mod LiveParts
 mod LiveTellings
 mod NamedLemmas
 mod NumberDays

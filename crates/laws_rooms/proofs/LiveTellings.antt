@@ -1,15 +1,13 @@
 -- On a day whose steps come one by one, and leave no duty, each answer of a dealer is told.
-use Rattle.std.proofs.Common.{◌≡◌, ◌<◌, ◌≤◌, ℕ, true, false, List, [], ◌∷◌, ◌++◌, drop, length, Option, Some}
-use Rattle.std.proofs.Common.{None, refl, sym, ap, ◌∙◌, subst, inl, inr, ◌⊎◌, arith, suc, zero, replicate}
-use Rattle.std.proofs.lemmas.Bool.{cases_Bool, false≢true}
+use Rattle.std.proofs.Common.{◌≡◌, ℕ, true, false, List, [], ◌∷◌, ◌++◌, Some}
+use Rattle.std.proofs.Common.{None, refl, sym, ap, ◌∙◌, subst, inl, inr, ◌⊎◌, suc, zero, replicate}
+use Rattle.std.proofs.lemmas.Bool.{false≢true}
 use Rattle.std.proofs.lemmas.List.{append-nil, take-append-drop, append_assoc}
 use Rattle.std.proofs.lemmas.List.Elements.{filter_map-append}
-use Rattle.std.proofs.lemmas.Option.{slice_get_within}
 use Rattle.market_terms.specs.declared.duties.Duty.{Duty}
-use Rattle.market_terms.specs.declared.duties.Duty.TheVariants as duty
 use Rattle.market_terms.specs.declared.rooms.RoomRef.{RoomRef}
 use Rattle.request_room.specs.RoomFacts.{RoomFact, is_ended}
-use Rattle.venue_rows.specs.Rows.{Configuration, KeepsLimits, dealer_numbered, investor_numbered, may_request}
+use Rattle.venue_rows.specs.Rows.{Configuration, KeepsLimits, dealer_numbered, investor_numbered}
 use Rattle.venue_rows.specs.declared.dealer_rows.DealerRow.{DealerRow}
 use Rattle.venue_rows.specs.declared.investor_rows.InvestorRow.{InvestorRow}
 use Rattle.venue_places.specs.declared.actors.Actor.{Actor}
@@ -22,21 +20,20 @@ use Rattle.step_replay.specs.AuditTrail.{audit_trail}
 use Rattle.step_replay.specs.DutyEffects.{duty_effect, message_effect, sweep_effect}
 use Rattle.step_replay.specs.InvestorTrail.{InvestorEntry, facts_of}
 use Rattle.step_replay.specs.Lists.{Every}
-use Rattle.step_replay.specs.PlaceLemmas.{behind_dealers, room_grown}
 use Rattle.step_replay.specs.QueueLemmas.{same_actor}
 use Rattle.step_replay.specs.VenueFacts.{Fact, of_investor, of_room}
-use Rattle.shown_laws.proofs.ShownDay.{DayOk, day_ok}
-use Rattle.venue_laws.proofs.ConditionMet.{met}
-use Rattle.venue_laws.proofs.LiveQuotes.{LoneQuotes}
-use Rattle.venue_laws.proofs.VenueDesk.{WordsOfDay}
-use Rattle.venue_laws.proofs.VenueInvariant.{DutyOk, VenueOk}
-use Rattle.venue_laws.proofs.VenueKnown.{known_room, pending_ok}
-use Rattle.venue_laws.proofs.VenueParts.{did_in, duties_by, later_same}
-use Rattle.venue_laws.proofs.VenueSteps.{Here, day}
-use Rattle.venue_laws.proofs.VenueTurns.{beside, doing_now, turn, turns_of}
-use Rattle.laws_rooms.specs.Answered.{Answer}
-use Rattle.laws_rooms.specs.Tellings.{AreAllTold, AreAllToldInTurn, IsLive, TellAll, TellQuotes, as_told, changes_in}
-use Rattle.laws_rooms.proofs.EndLemmas.{NoEnding, ended_split, ends_none, message_ends_none}
+use Rattle.laws_shown.proofs.ShownDay.{DayOk, day_ok}
+use Rattle.laws_days.proofs.ConditionMet.{met}
+use Rattle.laws_days.proofs.LiveQuotes.{LoneQuotes}
+use Rattle.laws_days.proofs.VenueDesk.{WordsOfDay}
+use Rattle.laws_days.proofs.VenueInvariant.{VenueOk}
+use Rattle.laws_days.proofs.VenueKnown.{pending_ok}
+use Rattle.laws_days.proofs.VenueParts.{did_in, duties_by, later_same}
+use Rattle.laws_days.proofs.VenueSteps.{Here, day}
+use Rattle.laws_days.proofs.VenueTurns.{beside, doing_now, turn, turns_of}
+use Rattle.laws_rooms.specs.Answered.{Answer, changes_in}
+use Rattle.laws_rooms.specs.Tellings.{AreAllTold, AreAllToldInTurn, IsLive, TellAll, TellQuotes, as_told}
+use Rattle.laws_rooms.proofs.EndLemmas.{NoEnding, ends_none, message_ends_none}
 use Rattle.laws_rooms.proofs.FollowLemmas.{TakesOpen, mine_follows, mine_opens, tellings, tells_of}
 use Rattle.laws_rooms.proofs.GoneDays.{desk_fits}
 use Rattle.laws_rooms.proofs.ShutLemmas.{shut_in}
@@ -45,25 +42,15 @@ use Rattle.laws_rooms.proofs.TellingLemmas.{Brings, DeskFits, GoneOk, Heard, Hea
 use Rattle.laws_rooms.proofs.TellingLemmas.{idly, message_brings, mine_brings, others_bring, sweep_brings, vainly}
 use Rattle.laws_rooms.proofs.TurnLists.{Fit, plain_changes, plains}
 use Rattle.laws_rooms.proofs.TurnShares.{anothers, its_own, share}
-use Rattle.std.proofs.lemmas.List.Concat.{flat_map-append}
-use Rattle.step_replay.specs.LiveDays.{actor_of, live_steps, live_trail, with_turns}
+use Rattle.step_replay.specs.LiveDays.{actor_of, live_steps, live_trail}
 use Rattle.step_replay.specs.declared.steps.Step.{Step}
 use Rattle.step_replay.specs.declared.steps.Step.TheVariants as step
 use Rattle.step_replay.specs.declared.steps.TheConstants.{MOST_TURNS_BEHIND}
-use Rattle.trade_laws.specs.LiveDuties.{NoDutyIsLeft}
-use Rattle.venue_laws.proofs.VenueDay.{venue_ok}
+use Rattle.laws_days.specs.LiveDuties.{NoDutyIsLeft}
+use Rattle.laws_days.proofs.VenueDay.{venue_ok}
 use Rattle.laws_rooms.proofs.ClosedDays.{shut_ended}
+use Rattle.laws_rooms.proofs.LiveParts.{all_steps, ends_nothing, first_nil, goes_on, nil_of}
 use Rattle.laws_rooms.proofs.RoomLemmas.{did_all, one_more}
-
--- Lists.
-
-nil_of : {A : Type 0} (xs ys : List A) → xs ++ ys ≡ xs → ys ≡ []
-nil_of [] ys is = is
-nil_of (x ∷ xs) ys is = nil_of xs ys (ap (drop 1) is)
-
-first_nil : {A : Type 0} (xs ys : List A) → xs ++ ys ≡ [] → xs ≡ []
-first_nil [] ys is = refl
-first_nil (x ∷ xs) ys is = cc
 
 module _ (lone : LoneQuotes) (words : WordsOfDay) (config : Configuration) (dealer : ℕ)
     (row : DealerRow) (is : dealer_numbered config dealer ≡ Some row) (room : RoomRef) (investor : InvestorRow)
@@ -174,38 +161,6 @@ module _ (lone : LoneQuotes) (words : WordsOfDay) (config : Configuration) (deal
     live_then : Live h.by then_day
     live_then = record { idle = idle_then; all = all_then; waits = waits_then }
 
-  -- Rooms that go on.
-
-  goes_on : (facts added : List Fact) → is_ended (known facts) ≡ false → is_ended (known added) ≡ false
-      → is_ended (known (facts ++ added)) ≡ false
-  goes_on facts added before now = elim (cases_Bool (is_ended (known (facts ++ added)))) [
-    | inr lives ↦ lives
-    | inl ended ↦ elim (ended_split (known facts) (known added)
-        (subst (λ (l : List RoomFact). is_ended l ≡ true) (room_grown room facts added) ended)) [
-          | inl was ↦ absurd (false≢true (sym before ∙ was))
-          | inr so ↦ absurd (false≢true (sym now ∙ so))
-        ]
-  ]
-
-  -- a dealer is no investor
-  no_room : (number : ℕ) → may_request (investor_numbered config dealer) number ≡ true → ⊥
-  no_room number may = by_found (investor_numbered config dealer) refl may
-    where
-      by_found : (found : Option InvestorRow) → investor_numbered config dealer ≡ found
-          → may_request found number ≡ true → ⊥
-      by_found None at so = false≢true so
-      by_found (Some other) at so =
-          let within : dealer < length config.dealers = slice_get_within config.dealers dealer row is in
-          let behind : length config.dealers ≤ dealer = behind_dealers config dealer other at in
-          absurd (omega arith)
-
-  own_firm : (number : ℕ) → me ≡ actor.Firm number → number ≡ dealer
-  own_firm number same = sym (ap number_of same)
-    where
-      number_of : Actor → ℕ
-      number_of (actor.Firm one) = one
-      number_of actor.Clock = 0
-
   -- A turn.
 
   module _ (venue : AuditTrail) (stood : VenueOk config venue) (showed : DayOk config venue)
@@ -218,15 +173,6 @@ module _ (lone : LoneQuotes) (words : WordsOfDay) (config : Configuration) (deal
 
     abbrev brought : Effect
     brought = duty_effect config venue.facts by d
-
-    ends_nothing : (one : Duty) → DutyOk config by one venue → by ≡ me → NoEnding one
-    ends_nothing (duty.Hit at response word moment) ok mine =
-        no_room at.n (subst (λ (i : ℕ). may_request (investor_numbered config i) at.n ≡ true)
-        (own_firm at.investor (sym mine ∙ ok.by_is)) (known_room stood at response.k ok.known))
-    ends_nothing (duty.Pass at response moment) ok mine =
-        no_room at.n (subst (λ (i : ℕ). may_request (investor_numbered config i) at.n ≡ true)
-        (own_firm at.investor (sym mine ∙ ok.by_is)) (known_room stood at response.k ok.known))
-    ends_nothing other ok mine = tt
 
     module _ (one : by ≡ me) (live : Live by venue) where
       -- where all that was left was told, this duty tells nothing
@@ -251,7 +197,7 @@ module _ (lone : LoneQuotes) (words : WordsOfDay) (config : Configuration) (deal
       on_then : is_ended (known venue.facts) ≡ false → NoEnding d
           → is_ended (known (venue.facts ++ brought.facts)) ≡ false
       on_then lives isnt =
-          goes_on venue.facts brought.facts lives (ends_none config venue.facts room by d isnt)
+          goes_on room venue.facts brought.facts lives (ends_none config venue.facts room by d isnt)
 
       -- with what is left and done more
       module _ (did_is : did_in (day here brought) me ≡ did_in venue me ++ d ∷ [])
@@ -293,7 +239,7 @@ module _ (lone : LoneQuotes) (words : WordsOfDay) (config : Configuration) (deal
                   by_opens one live did_is left_is
                   (mine_opens dealer config row is room venue.facts venue refl by d ok fit one)
                   (mine_follows dealer config row is room venue.facts by d one).same
-                  (ends_nothing d ok one)
+                  (ends_nothing config dealer row is venue stood by d ok one)
               | anothers differs did_is left_is ↦ absurd (false≢true (sym differs
                   ∙ ap (λ (a : Actor). is_same_actor a me) one ∙ same_actor me))
             ],
@@ -345,7 +291,7 @@ module _ (lone : LoneQuotes) (words : WordsOfDay) (config : Configuration) (deal
         | anothers differs did_is left_is ↦ absurd (false≢true (sym differs
             ∙ ap (λ (a : Actor). is_same_actor a me) one ∙ same_actor me))
         | its_own same did_is left_is ↦ elim live.waits [
-          | inr lives ↦ inr (goes_on venue.facts effect.facts lives
+          | inr lives ↦ inr (goes_on room venue.facts effect.facts lives
               (message_ends_none config venue.facts room firm moment bytes))
           | inl done ↦ inl (ap (λ (l : List Duty). telling l) left_is
               ∙ telling_both (duties_by me venue.caused) effect.duties
@@ -410,15 +356,6 @@ module _ (lone : LoneQuotes) (words : WordsOfDay) (config : Configuration) (deal
 
   abbrev AllTold : AuditTrail → Type 0
   AllTold venue = HeardOf venue.facts (telling (did_in venue me))
-
-  all_steps : (steps : List Step) (next : Step) → live_steps (steps ++ next ∷ [])
-      ≡ (live_steps steps ++ next ∷ []) ++ replicate MOST_TURNS_BEHIND (step.Turn (actor_of next))
-  unfolding with_turns
-  all_steps steps next =
-      flat_map-append with_turns steps (next ∷ [])
-      ∙ ap (λ (l : List Step). live_steps steps ++ l)
-      (append-nil (next ∷ replicate MOST_TURNS_BEHIND (step.Turn (actor_of next))))
-      ∙ sym (append_assoc (live_steps steps) (next ∷ []) (replicate MOST_TURNS_BEHIND (step.Turn (actor_of next))))
 
   next_told : (steps : List Step) (next : Step) → NoDutyIsLeft (live_trail config steps)
       → AllTold (live_trail config steps) → AllTold (live_trail config (steps ++ next ∷ []))

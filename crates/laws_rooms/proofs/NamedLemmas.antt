@@ -25,16 +25,16 @@ use Rattle.step_replay.specs.Lists.{In}
 use Rattle.step_replay.specs.VenueFacts.{AtDealer, AtInvestor, Fact, InRoom, of_dealer, of_investor}
 use Rattle.step_replay.specs.VenueFacts.{of_room}
 use Rattle.step_replay.specs.declared.steps.Step.{Step}
-use Rattle.trade_laws.specs.Trades.{at_investor as market_facts, room_of}
-use Rattle.venue_laws.proofs.KnownDesks.{asked, known_asked}
-use Rattle.venue_laws.proofs.LiveQuotes.{LoneQuotes}
-use Rattle.venue_laws.proofs.PlainFacts.{at_dealer_all, in_room_all, rooms_all}
-use Rattle.venue_laws.proofs.VenueDay.{venue_ok}
-use Rattle.venue_laws.proofs.VenueDesk.{WordsOfDay}
-use Rattle.venue_laws.proofs.VenueInvariant.{FactOk, LeftOk, OpenedIn, ShownTo, VenueOk}
-use Rattle.venue_laws.proofs.VenueParts.{Mark, Opening, OrderOk, Still, did_in, duties_by, later_same, mark_of, marks}
-use Rattle.venue_laws.proofs.VenueParts.{marks_both}
-use Rattle.venue_laws.proofs.VenueTurns.{turns_of}
+use Rattle.laws_shown.specs.ShownRequests.{at_investor as market_facts, room_of}
+use Rattle.laws_days.proofs.KnownDesks.{asked, known_asked}
+use Rattle.laws_days.proofs.LiveQuotes.{LoneQuotes}
+use Rattle.laws_days.proofs.PlainFacts.{at_dealer_all, in_room_all, rooms_all}
+use Rattle.laws_days.proofs.VenueDay.{venue_ok}
+use Rattle.laws_days.proofs.VenueDesk.{WordsOfDay}
+use Rattle.laws_days.proofs.VenueInvariant.{FactOk, LeftOk, OpenedIn, ShownTo, VenueOk}
+use Rattle.laws_days.proofs.VenueParts.{Mark, Opening, OrderOk, Still, did_in, duties_by, later_same, mark_of, marks}
+use Rattle.laws_days.proofs.VenueParts.{marks_both}
+use Rattle.laws_days.proofs.VenueTurns.{turns_of}
 use Rattle.laws_rooms.specs.Shown.{HasAsked, IsShown}
 use Rattle.laws_rooms.proofs.AskLemmas.{all_left, at_investor_all, in_investor}
 use Rattle.laws_rooms.proofs.LeftLemmas.{FactIs}

@@ -40,10 +40,10 @@ use Rattle.step_replay.specs.PlaceLemmas.{own_investor}
 use Rattle.step_replay.specs.VenueFacts.{AtInvestor, Fact, InRoom, of_dealer, of_investor, of_room}
 use Rattle.step_replay.specs.declared.steps.Step.{Step}
 use Rattle.step_replay.specs.declared.steps.Step.TheVariants as step
-use Rattle.shown_laws.specs.ShownQuotes.{shown_to}
-use Rattle.shown_laws.proofs.ListLemmas.{AreFrom, from_both}
-use Rattle.shown_laws.proofs.ShownMarket.{entries_facts}
-use Rattle.shown_laws.proofs.ShownParts.{shown_grown}
+use Rattle.laws_shown.specs.ShownQuotes.{shown_to}
+use Rattle.laws_shown.proofs.ListLemmas.{AreFrom, from_both}
+use Rattle.laws_shown.proofs.ShownMarket.{entries_facts}
+use Rattle.laws_shown.proofs.ShownParts.{shown_grown}
 use Rattle.laws_rooms.proofs.StandLemmas.{number_of}
 
 -- What an event shows bears the next number.

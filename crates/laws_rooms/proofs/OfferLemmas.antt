@@ -34,28 +34,28 @@ use Rattle.investor_desk.specs.declared.standing.ShownOffer.{ShownOffer}
 use Rattle.request_room.specs.Book.{event_facts, quote_posted, where_so}
 use Rattle.request_room.specs.RoomFacts.{Noted, Posted, RoomFact, hears, takes_quotes}
 use Rattle.request_room.specs.declared.quotes.PostedQuote.{PostedQuote}
-use Rattle.step_replay.specs.Actions.{Effect, at_market, done_for, nothing, posted_by, verdict_on, where_known}
+use Rattle.step_replay.specs.Actions.{Effect, at_market, done_for, nothing, verdict_on, where_known}
+use Rattle.step_replay.specs.LineActions.{posted_by}
 use Rattle.step_replay.specs.AuditTrail.{AuditTrail, is_same_actor}
-use Rattle.step_replay.specs.DealerTrail.{rooms_by}
 use Rattle.step_replay.specs.DutyEffects.{duty_effect, message_effect, sweep_effect}
 use Rattle.step_replay.specs.GrowthLemmas.{same_room}
 use Rattle.step_replay.specs.InvestorTrail as investor_trail
 use Rattle.step_replay.specs.InvestorTrail.{InvestorEntry}
-use Rattle.step_replay.specs.Lists.{Every}
 use Rattle.step_replay.specs.OwnerLemmas.{owner_among, quote_at}
 use Rattle.step_replay.specs.PlaceLemmas.{other_room, own_investor, own_room}
-use Rattle.step_replay.specs.VenueFacts.{Fact, InRoom, of_dealer, of_investor, of_room}
-use Rattle.day_parts.specs.ActionCases.{numbered_does}
-use Rattle.day_parts.specs.KeptItems.{every_all}
-use Rattle.day_parts.specs.LeftDuties.{duty_leaves as all_left, message_leaves as message_left}
-use Rattle.day_parts.specs.MayLeave.{MayLeave, MaySay}
-use Rattle.shown_laws.specs.ShownQuotes.{shown_to}
-use Rattle.shown_laws.proofs.ShownMarket.{entries_facts}
-use Rattle.shown_laws.proofs.ShownParts.{DutyOk as ShownOk, Relays, shown_grown}
-use Rattle.shown_laws.proofs.ShownQuiet as showing
-use Rattle.venue_laws.specs.Conditions.{holds_for, is_known, is_known_to, is_met}
-use Rattle.venue_laws.proofs.VenueInvariant.{DutyOk}
-use Rattle.venue_laws.proofs.VenueKnown.{room_self}
+use Rattle.step_replay.specs.VenueFacts.{Fact, InRoom, of_investor, of_room}
+use Rattle.laws_days.specs.ActionCases.{numbered_does}
+use Rattle.laws_days.specs.KeptItems.{every_all}
+use Rattle.laws_days.specs.LeftBehind.{LeftBy, duty_each}
+use Rattle.laws_days.specs.LeftDuties.{message_leaves as message_left}
+use Rattle.laws_days.specs.MayLeave.{MaySay}
+use Rattle.laws_shown.specs.ShownQuotes.{shown_to}
+use Rattle.laws_shown.proofs.ShownMarket.{entries_facts}
+use Rattle.laws_shown.proofs.ShownParts.{DutyOk as ShownOk, Relays, shown_grown}
+use Rattle.laws_shown.proofs.ShownQuiet as showing
+use Rattle.laws_days.specs.Conditions.{holds_for, is_known, is_known_to, is_met}
+use Rattle.laws_days.proofs.VenueInvariant.{DutyOk}
+use Rattle.laws_days.proofs.VenueKnown.{room_self}
 use Rattle.laws_rooms.specs.Answered.{Answer, Declines, Quotes, answers_in}
 use Rattle.laws_rooms.specs.Offers.{is_of, quotes_in, quotes_shown, shown_of}
 use Rattle.laws_rooms.proofs.AnswerLemmas.{Goes, late, lefts, message_goes, quiet, sweep_goes, takes, turn_mine}
@@ -199,30 +199,13 @@ module _ (dealer : ℕ) (config : Configuration) (row : DealerRow)
 
     relays_none : (by : Actor) (d : Duty) → IsNoPost d → relays (duty_effect config facts by d).duties ≡ []
     relays_none by d isnt =
-        none_of relay_of (duty_effect config facts by d).duties (all_left NoRelay config facts by d (may by d isnt)).each
+        none_of relay_of (duty_effect config facts by d).duties
+        (duty_each NoRelay config facts by d (λ more left. each more d isnt left))
       where
-        in_rooms : (number : ℕ) (does : RoomRef → Duty) → ((r : RoomRef) → NoRelay (does r))
-            → Every (λ (r : RoomRef). NoRelay (does r)) (rooms_by (of_dealer number facts))
-        in_rooms number does each = every_all (λ (r : RoomRef). NoRelay (does r)) each _
-
-        may : (a : Actor) (one : Duty) → IsNoPost one → MayLeave NoRelay config facts a one
-        may a (duty.Open at ask dealers moment) no_post = (every_all _ (λ d. refl) dealers, refl)
-        may a (duty.Show number at ask moment) no_post = tt
-        may a (duty.Ready at moment) no_post = tt
-        may a (duty.Post at quote price until moment) no_post = absurd no_post
-        may a (duty.Relay at offer moment) no_post = tt
-        may a (duty.Unpost at quote moment) no_post = λ word. refl
-        may a (duty.Gone at word moment) no_post = tt
-        may a (duty.Decline at moment) no_post = refl
-        may a (duty.Declined at moment) no_post = tt
-        may a (duty.Hit at response word moment) no_post = (λ reply. refl, every_all _ (λ d close. refl) _)
-        may a (duty.Pass at response moment) no_post = (λ open_yet. refl, every_all _ (λ d close. refl) _)
-        may a (duty.Answer at response reply moment) no_post = tt
-        may a (duty.Close at moment) no_post = tt
-        may a (duty.Tell number at close moment) no_post = tt
-        may (actor.Firm number) (duty.Drop last moment) no_post =
-            (λ quote. in_rooms number (λ r. duty.Unpost r quote moment) (λ r. refl), refl)
-        may actor.Clock (duty.Drop last moment) no_post = tt
+        each : (more one : Duty) → IsNoPost one → LeftBy more one → NoRelay more
+        each (duty.Relay at offer when) (duty.Post other quote price until moment) so left = absurd so
+        each (duty.Relay at offer when) one so left = absurd left
+        each more one so left = refl
 
     pub unrelayed : (firm moment : ℕ) (bytes : List ℕ)
         → relays (message_effect config facts firm moment bytes).duties ≡ []

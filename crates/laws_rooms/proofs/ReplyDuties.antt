@@ -25,15 +25,15 @@ use Rattle.request_room.specs.RoomFacts.{is_open}
 use Rattle.request_room.specs.declared.ends.End.{End}
 use Rattle.step_replay.specs.Actions.{Effect, answer_to_hit, quote_asked, verdict_on}
 use Rattle.step_replay.specs.AuditTrail.{AuditTrail}
-use Rattle.step_replay.specs.DealerTrail.{rooms_by}
 use Rattle.step_replay.specs.DutyEffects.{duty_effect, message_effect, sweep_effect}
 use Rattle.step_replay.specs.Lists.{Every}
-use Rattle.step_replay.specs.VenueFacts.{Fact, of_dealer, of_room}
-use Rattle.day_parts.specs.KeptItems.{every_all}
-use Rattle.day_parts.specs.LeftDuties.{duty_leaves, message_leaves, sweep_leaves}
-use Rattle.day_parts.specs.MayLeave.{MayLeave, MaySay, outcome_each, told_each}
-use Rattle.venue_laws.specs.Conditions.{is_met}
-use Rattle.venue_laws.proofs.VenueInvariant.{DutyOk}
+use Rattle.step_replay.specs.VenueFacts.{Fact, of_room}
+use Rattle.laws_days.specs.KeptItems.{every_all}
+use Rattle.laws_days.specs.LeftBehind.{LeftBy, duty_each, sweep_each}
+use Rattle.laws_days.specs.LeftDuties.{message_leaves}
+use Rattle.laws_days.specs.MayLeave.{MaySay, outcome_each, told_each}
+use Rattle.laws_days.specs.Conditions.{is_met}
+use Rattle.laws_days.proofs.VenueInvariant.{DutyOk}
 use Rattle.laws_rooms.specs.Responses.{Response, response_of}
 use Rattle.laws_rooms.proofs.ReplyLemmas.{named, reply_in}
 
@@ -68,30 +68,12 @@ module _ (config : Configuration) (facts : List Fact) where
 
   -- no hit and no pass
   pub leaves_none : (by : Actor) (d : Duty) → Every NoResponse (duty_effect config facts by d).duties
-  leaves_none by d = (duty_leaves NoResponse config facts by d (may by d)).each
+  leaves_none by d = duty_each NoResponse config facts by d each
     where
-      in_rooms : (dealer : ℕ) (does : RoomRef → Duty) → ((room : RoomRef) → NoResponse (does room))
-          → Every (λ (room : RoomRef). NoResponse (does room)) (rooms_by (of_dealer dealer facts))
-      in_rooms dealer does each = every_all (λ (room : RoomRef). NoResponse (does room)) each _
-
-      may : (a : Actor) (one : Duty) → MayLeave NoResponse config facts a one
-      may a (duty.Open room ask dealers moment) = (every_all _ (λ dealer. refl) dealers, refl)
-      may a (duty.Show dealer room ask moment) = tt
-      may a (duty.Ready room moment) = tt
-      may a (duty.Post room quote price valid_until moment) = λ offer. refl
-      may a (duty.Relay room offer moment) = tt
-      may a (duty.Unpost room quote moment) = λ word. refl
-      may a (duty.Gone room word moment) = tt
-      may a (duty.Decline room moment) = refl
-      may a (duty.Declined room moment) = tt
-      may a (duty.Hit room response word moment) = (λ reply. refl, every_all _ (λ dealer close. refl) _)
-      may a (duty.Pass room response moment) = (λ open_yet. refl, every_all _ (λ dealer close. refl) _)
-      may a (duty.Answer room response reply moment) = tt
-      may a (duty.Close room moment) = tt
-      may a (duty.Tell dealer room close moment) = tt
-      may (actor.Firm number) (duty.Drop last moment) =
-          (λ quote. in_rooms number (λ room. duty.Unpost room quote moment) (λ room. refl), refl)
-      may actor.Clock (duty.Drop last moment) = tt
+      each : (more : Duty) → LeftBy more d → NoResponse more
+      each (duty.Hit room response word moment) left = absurd left
+      each (duty.Pass room response moment) left = absurd left
+      each other left = refl
 
   told_none : (room : RoomRef) (moment : ℕ) (outcome : Result End HitRefusal)
       → Every NoReply (told_of_hit (of_room room facts) room moment outcome)
@@ -148,56 +130,22 @@ module _ (config : Configuration) (facts : List Fact) where
       if_open true = told_each NoReply config facts room passed moment (every_all _ (λ dealer close. refl) _)
       if_open false = tt
 
+  -- nothing but a hit and a pass leaves one
+  no_answer : (more d : Duty) → response_of d ≡ None → LeftBy more d → NoReply more
+  no_answer (duty.Answer at to reply when) (duty.Hit room response word moment) none left = cc
+  no_answer (duty.Answer at to reply when) (duty.Pass room response moment) none left = cc
+  no_answer (duty.Answer at to reply when) d none left = absurd left
+  no_answer more d none left = refl
+
   pub duty_follows : (venue : AuditTrail) (by : Actor) (d : Duty) → DutyOk config by d venue
       → is_met config facts by d ≡ true → Follows by d (duty_effect config facts by d)
   duty_follows venue by (duty.Hit room response word moment) ok fit =
       hit_follows by room response word moment ok.by_is fit
   duty_follows venue by (duty.Pass room response moment) ok fit =
       pass_follows by room response moment ok.by_is fit
-  duty_follows venue by (duty.Open room ask dealers moment) ok fit =
-      no_replies by (duty.Open room ask dealers moment) _ refl
-      (duty_leaves NoReply config facts by (duty.Open room ask dealers moment)
-      (every_all _ (λ dealer. refl) dealers, refl)).each
-  duty_follows venue by (duty.Show dealer room ask moment) ok fit =
-      no_replies by (duty.Show dealer room ask moment) _ refl
-      (duty_leaves NoReply config facts by (duty.Show dealer room ask moment) tt).each
-  duty_follows venue by (duty.Ready room moment) ok fit =
-      no_replies by (duty.Ready room moment) _ refl
-      (duty_leaves NoReply config facts by (duty.Ready room moment) tt).each
-  duty_follows venue by (duty.Post room quote price valid_until moment) ok fit =
-      no_replies by (duty.Post room quote price valid_until moment) _ refl
-      (duty_leaves NoReply config facts by (duty.Post room quote price valid_until moment) (λ offer. refl)).each
-  duty_follows venue by (duty.Relay room offer moment) ok fit =
-      no_replies by (duty.Relay room offer moment) _ refl
-      (duty_leaves NoReply config facts by (duty.Relay room offer moment) tt).each
-  duty_follows venue by (duty.Unpost room quote moment) ok fit =
-      no_replies by (duty.Unpost room quote moment) _ refl
-      (duty_leaves NoReply config facts by (duty.Unpost room quote moment) (λ word. refl)).each
-  duty_follows venue by (duty.Gone room word moment) ok fit =
-      no_replies by (duty.Gone room word moment) _ refl
-      (duty_leaves NoReply config facts by (duty.Gone room word moment) tt).each
-  duty_follows venue by (duty.Decline room moment) ok fit =
-      no_replies by (duty.Decline room moment) _ refl
-      (duty_leaves NoReply config facts by (duty.Decline room moment) refl).each
-  duty_follows venue by (duty.Declined room moment) ok fit =
-      no_replies by (duty.Declined room moment) _ refl
-      (duty_leaves NoReply config facts by (duty.Declined room moment) tt).each
-  duty_follows venue by (duty.Answer room response reply moment) ok fit =
-      no_replies by (duty.Answer room response reply moment) _ refl
-      (duty_leaves NoReply config facts by (duty.Answer room response reply moment) tt).each
-  duty_follows venue by (duty.Close room moment) ok fit =
-      no_replies by (duty.Close room moment) _ refl
-      (duty_leaves NoReply config facts by (duty.Close room moment) tt).each
-  duty_follows venue by (duty.Tell dealer room close moment) ok fit =
-      no_replies by (duty.Tell dealer room close moment) _ refl
-      (duty_leaves NoReply config facts by (duty.Tell dealer room close moment) tt).each
-  duty_follows venue (actor.Firm number) (duty.Drop last moment) ok fit =
-      no_replies (actor.Firm number) (duty.Drop last moment) _ refl
-      (duty_leaves NoReply config facts (actor.Firm number) (duty.Drop last moment)
-      (λ quote. every_all _ (λ room. refl) _, refl)).each
-  duty_follows venue actor.Clock (duty.Drop last moment) ok fit =
-      no_replies actor.Clock (duty.Drop last moment) _ refl
-      (duty_leaves NoReply config facts actor.Clock (duty.Drop last moment) tt).each
+  duty_follows venue by other ok fit =
+      no_replies by other (duty_effect config facts by other) refl
+      (duty_each NoReply config facts by other (λ more left. no_answer more other refl left))
 
   -- What a message and a sweep leave: no answer.
 
@@ -224,4 +172,4 @@ module _ (config : Configuration) (facts : List Fact) where
 
   pub sweep_none : (room : RoomRef) (moment : ℕ) → Every NoReply (sweep_effect config facts room moment).duties
   sweep_none room moment =
-      (sweep_leaves NoReply config facts room moment refl (every_all _ (λ dealer close. refl) _)).each
+      sweep_each NoReply config facts room moment refl (λ dealer close. refl)

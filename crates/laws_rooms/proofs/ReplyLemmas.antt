@@ -27,7 +27,7 @@ use Rattle.step_replay.specs.Actions.{Effect, at_market}
 use Rattle.step_replay.specs.DutyEffects.{duty_effect}
 use Rattle.step_replay.specs.InvestorTrail as investor_trail
 use Rattle.step_replay.specs.VenueFacts.{Fact, of_investor}
-use Rattle.venue_laws.specs.Conditions.{holds_for, is_known_to, is_met}
+use Rattle.laws_days.specs.Conditions.{holds_for, is_known_to, is_met}
 use Rattle.laws_rooms.specs.Responses.{Response, answers}
 use Rattle.laws_rooms.proofs.SaidLemmas.{IsHushed, IsSilent, Says, event_says}
 

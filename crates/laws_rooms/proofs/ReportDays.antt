@@ -50,8 +50,8 @@ use Rattle.step_replay.specs.PlaceLemmas.{own_investor}
 use Rattle.step_replay.specs.VenueFacts.{Fact, InRoom, of_dealer, of_investor, of_room}
 use Rattle.step_replay.specs.declared.steps.Step.{Step}
 use Rattle.step_replay.specs.declared.steps.Step.TheVariants as step
-use Rattle.shown_laws.proofs.ShownMarket.{entries_facts, requests_in}
-use Rattle.trade_laws.specs.Trades.{at_investor as market_facts}
+use Rattle.laws_shown.proofs.ShownMarket.{entries_facts, requests_in}
+use Rattle.laws_shown.specs.ShownRequests.{at_investor as market_facts}
 use Rattle.laws_rooms.specs.Reports.{AreReported, gone_in, reports}
 use Rattle.laws_rooms.proofs.DeclineLemmas.{found_there}
 use Rattle.laws_rooms.proofs.SaidLemmas.{Says, event_sent, investor_sent, says_both, says_none, says_written}

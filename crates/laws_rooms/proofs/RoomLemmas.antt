@@ -32,26 +32,26 @@ use Rattle.step_replay.specs.PlaceLemmas.{own_room, room_grown}
 use Rattle.step_replay.specs.VenueFacts.{Fact, InRoom, of_dealer, of_room}
 use Rattle.step_replay.specs.declared.steps.Step.{Step}
 use Rattle.step_replay.specs.declared.steps.Step.TheVariants as step
-use Rattle.trade_laws.specs.LiveDuties.{NoDutyIsLeft}
-use Rattle.trade_laws.specs.Trades.{at_investor as market_facts}
+use Rattle.laws_days.specs.LiveDuties.{NoDutyIsLeft}
+use Rattle.laws_shown.specs.ShownRequests.{at_investor as market_facts}
 use Rattle.investor_desk.specs.InvestorFacts.{InvestorFact}
 use Rattle.laws_rooms.specs.Declines.{IsToldSo}
 use Rattle.laws_rooms.specs.Told.{IsTold}
 use Rattle.laws_rooms.proofs.DeclineLemmas.{decline_told, declined_grown}
 use Rattle.laws_rooms.proofs.TellLemmas.{market_grown, relay_told, told_grown}
-use Rattle.venue_laws.specs.Conditions.{is_met}
-use Rattle.venue_laws.proofs.ConditionMet.{met}
-use Rattle.venue_laws.proofs.LiveQuotes.{LoneQuotes}
-use Rattle.venue_laws.proofs.PlainFacts.{in_room_all}
-use Rattle.venue_laws.proofs.VenueDay.{venue_ok}
-use Rattle.venue_laws.proofs.VenueDesk.{WordsOfDay}
-use Rattle.venue_laws.proofs.VenueInvariant.{FactOk, VenueOk}
-use Rattle.venue_laws.proofs.VenueKnown.{pending_ok}
-use Rattle.venue_laws.proofs.VenueParts.{said_later}
-use Rattle.venue_laws.proofs.VenueParts.{Still, did_in, duties_by, later_same, still_later}
-use Rattle.venue_laws.proofs.VenueSteps.{Here, day, since}
-use Rattle.venue_laws.proofs.VenueTurns.{beside, doing_now, grown, own_left, turn, turns_of}
-use Rattle.venue_laws.proofs.VenueTurns.{venue_with}
+use Rattle.laws_days.specs.Conditions.{is_met}
+use Rattle.laws_days.proofs.ConditionMet.{met}
+use Rattle.laws_days.proofs.LiveQuotes.{LoneQuotes}
+use Rattle.laws_days.proofs.PlainFacts.{in_room_all}
+use Rattle.laws_days.proofs.VenueDay.{venue_ok}
+use Rattle.laws_days.proofs.VenueDesk.{WordsOfDay}
+use Rattle.laws_days.proofs.VenueInvariant.{FactOk, VenueOk}
+use Rattle.laws_days.proofs.VenueKnown.{pending_ok}
+use Rattle.laws_days.proofs.VenueParts.{said_later}
+use Rattle.laws_days.proofs.VenueParts.{Still, did_in, duties_by, later_same, still_later}
+use Rattle.laws_days.proofs.VenueSteps.{Here, day, since}
+use Rattle.laws_days.proofs.VenueTurns.{beside, doing_now, grown, own_left, turn, turns_of}
+use Rattle.laws_days.proofs.VenueTurns.{venue_with}
 
 -- Facts of a room.
 

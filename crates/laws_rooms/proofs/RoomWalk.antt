@@ -1,22 +1,17 @@
--- What each action adds to one room, whatever is to be shown of it: one line a duty.
-use Rattle.std.proofs.Common.{◌≡◌, ◌&&◌, ℕ, Bool, true, false, List, [], map}
-use Rattle.std.proofs.Common.{Option, Some, None, is_some, option_map, refl, sym, subst, inl, inr}
+-- What each action adds to one room, whatever is to be shown of it.
+use Rattle.std.proofs.Common.{◌≡◌, ℕ, Bool, true, false, List, [], map}
+use Rattle.std.proofs.Common.{Option, Some, None, is_some, refl, sym, subst, inl, inr}
 use Rattle.std.proofs.Common.{if◌then◌else◌, Result, Ok, Err}
 use Rattle.std.proofs.lemmas.Bool.{cases_Bool}
 use Rattle.market_terms.specs.declared.closes.HitRefusal.{HitRefusal}
 use Rattle.market_terms.specs.declared.duties.Duty.{Duty}
-use Rattle.market_terms.specs.declared.duties.Duty.TheVariants as duty
 use Rattle.market_terms.specs.declared.rooms.ResponseRef.{ResponseRef}
 use Rattle.market_terms.specs.declared.rooms.RoomRef.{RoomRef}
 use Rattle.quote_word.specs.declared.settled.Settled.{Settled}
-use Rattle.venue_rows.specs.Rows.{Configuration, dealer_numbered, has_room}
-use Rattle.venue_rows.specs.declared.dealer_rows.DealerRow.{DealerRow}
-use Rattle.venue_places.specs.Dealers.{Dealer, QuoteRef, acting_dealer, dealer_at, dealer_of, quote_with_word}
-use Rattle.venue_places.specs.Dealers.{word_for}
+use Rattle.venue_rows.specs.Rows.{Configuration, dealer_numbered}
+use Rattle.venue_places.specs.Dealers.{Dealer, QuoteRef, dealer_at, dealer_of, quote_with_word}
 use Rattle.venue_places.specs.declared.actors.Actor.{Actor}
-use Rattle.venue_places.specs.declared.actors.Actor.TheVariants as actor
-use Rattle.venue_steps.specs.RoomSteps.{hit_word}
-use Rattle.dealer_desk.specs.DealerOutput.{is_same_room, number_in}
+use Rattle.dealer_desk.specs.DealerOutput.{is_same_room}
 use Rattle.dealer_desk.specs.declared.events.DealerEvent.{DealerEvent}
 use Rattle.dealer_desk.specs.declared.events.DealerEvent.TheVariants as at_desk
 use Rattle.investor_desk.specs.InvestorDesk.{market_for, market_of}
@@ -28,12 +23,13 @@ use Rattle.request_room.specs.RoomFacts.{Ended, Noted, Opened, Posted, Readied, 
 use Rattle.request_room.specs.declared.ends.End.{End}
 use Rattle.request_room.specs.declared.events.RoomEvent.{RoomEvent}
 use Rattle.request_room.specs.declared.events.RoomEvent.TheVariants as at_room
-use Rattle.step_replay.specs.Actions.{Effect, answer_to_hit, at_dealer, at_market, declined_by, done_by}
-use Rattle.step_replay.specs.Actions.{done_for, drop_at, dropped_by, hit_with, in_room, left_by}
-use Rattle.step_replay.specs.Actions.{left_by_drop, lifting, nothing, posted_by, quote_asked}
-use Rattle.step_replay.specs.Actions.{received_by_dealer, received_by_investor, settlement_of, unposted_by}
-use Rattle.step_replay.specs.Actions.{verdict_on, where_known}
-use Rattle.step_replay.specs.DealerTrail.{entries_of, rooms_by}
+use Rattle.step_replay.specs.ActionKinds.{event_in}
+use Rattle.step_replay.specs.Actions.{Effect, at_dealer, at_market, done_by}
+use Rattle.step_replay.specs.Actions.{done_for, hit_with, left_by}
+use Rattle.step_replay.specs.Actions.{lifting, nothing}
+use Rattle.step_replay.specs.Actions.{received_by_dealer, received_by_investor, settlement_of}
+use Rattle.step_replay.specs.Actions.{verdict_on}
+use Rattle.step_replay.specs.DealerTrail.{entries_of}
 use Rattle.step_replay.specs.DutyEffects.{duty_effect, message_effect, sweep_effect}
 use Rattle.step_replay.specs.EachLemmas.{every_both}
 use Rattle.step_replay.specs.GrowthLemmas.{same_room}
@@ -41,8 +37,9 @@ use Rattle.step_replay.specs.InvestorTrail as investor_trail
 use Rattle.step_replay.specs.Lists.{Every}
 use Rattle.step_replay.specs.PlaceLemmas.{other_room, own_room, room_at_dealer, room_at_investor, room_grown}
 use Rattle.step_replay.specs.VenueFacts.{Fact, InRoom, of_dealer, of_investor, of_room}
-use Rattle.day_parts.specs.ActionCases.{by_does, if_does, invested_does, numbered_does, told_does}
-use Rattle.day_parts.specs.ActionCases.{unless_does}
+use Rattle.laws_days.specs.DutyWalk.{AnyDealer, AnyInvestor, RoomMay, Walks, any_dealer}
+use Rattle.laws_days.specs.DutyWalk.{any_investor, duty_walks, settlement_found, sweep_walks}
+use Rattle.laws_days.specs.ActionCases.{if_does, invested_does, numbered_does}
 
 -- what a hit lifts stands in no room
 pub lifted_none : (room : RoomRef) (found : Option QuoteRef) (outcome : Result End HitRefusal)
@@ -74,17 +71,6 @@ module _ (P : RoomFact → Type 0) (config : Configuration) (facts : List Fact) 
     each = subst (Every P) (sym (room_at_investor room market.firm
         (investor_trail.entries_of market (of_investor market.firm facts) event))) tt;
   }
-
-  known_adds : (request : ℕ) (quote : Option ℕ) (event : InvestorEvent) (market : InvestorMarket)
-      → Adds (where_known facts request quote event market)
-  known_adds request quote event market =
-      if_does Adds idle _ (at_market facts market event []) (market_adds market event [])
-
-  come_adds : (number request : ℕ) (event : InvestorEvent)
-      → Adds (done_for (market_for config number) (where_known facts request None event))
-  come_adds number request event =
-      invested_does Adds idle config number (where_known facts request None event)
-      (λ row. known_adds request None event (market_of config number row))
 
   -- In a room.
 
@@ -129,15 +115,11 @@ module _ (P : RoomFact → Type 0) (config : Configuration) (facts : List Fact) 
   event_each known (at_room.Pass moment) is = so_each _ (Ended passed moment) is
   event_each known (at_room.Expire moment) is = so_each _ (Ended expired moment) is
 
-  pub room_adds : (at : RoomRef) (may : Bool) (event : RoomEvent) (duties : List Duty) → MayHappen event
-      → Adds (in_room config facts at may event duties)
-  room_adds at may event duties is =
-      let effect : Effect = record {
-        facts = map (InRoom at) (event_facts (of_room at facts) event);
-        duties = duties;
-      } in
-      if_does Adds idle (has_room config at.investor at.n && may) effect
-      (record { each = placed at (event_facts (of_room at facts) event) (event_each (of_room at facts) event is) })
+  event_adds : (at : RoomRef) (event : RoomEvent) (left : List Duty) → MayHappen event
+      → Adds (event_in config facts at event left)
+  event_adds at event left is = record {
+    each = placed at (event_facts (of_room at facts) event) (event_each (of_room at facts) event is);
+  }
 
   hit_adds : (at : RoomRef) (response : ResponseRef) (word moment : ℕ) (settlement : Option Settled)
       → ((end : End) → P (Ended end moment))
@@ -154,86 +136,36 @@ module _ (P : RoomFact → Type 0) (config : Configuration) (facts : List Fact) 
             (placed at happened (event_each known (at_room.Hit word moment settlement) is)));
       }
 
-  -- Duties, line by line.
+  -- Duties.
 
-  -- what a dealer may add
-  abbrev pub ByDealer : Actor → (ℕ → DealerRow → RoomFact) → Type 0
-  ByDealer (actor.Firm number) fact =
-      (row : DealerRow) → dealer_numbered config number ≡ Some row → P (fact number row)
-  ByDealer actor.Clock fact = Unit {0}
+  abbrev May : RoomRef → RoomEvent → List Duty → Type 0
+  May at event left = MayHappen event
+
+  walks : Walks AnyDealer AnyInvestor May config facts Adds
+  walks = record {
+    idle = idle;
+    at_a_dealer = λ number row found event left any. desk_adds (dealer_of number row) event left;
+    at_an_investor = λ number row found event any. market_adds (market_of config number row) event [];
+    in_a_room = λ at there event no_hit left is. event_adds at event left is;
+    by_a_hit = λ at there response word moment is.
+        hit_adds at response word moment (settlement_found config facts at word moment) is;
+  }
 
   -- what a duty may add
   abbrev pub MayAdd : Actor → Duty → Type 0
-  MayAdd by (duty.Open at ask dealers moment) = P (Opened (record { ask = ask; dealers = dealers }))
-  MayAdd by (duty.Ready at moment) = P Readied
-  MayAdd by (duty.Post at quote price until moment) =
-      ByDealer by (λ number row.
-      Posted (quote_posted number (word_for config (dealer_of number row) quote) price until))
-  MayAdd by (duty.Unpost at quote moment) =
-      ByDealer by (λ number row. Unposted number (word_for config (dealer_of number row) quote))
-  MayAdd by (duty.Decline at moment) = ByDealer by (λ number row. Noted number)
-  MayAdd by (duty.Hit at response word moment) = (end : End) → P (Ended end moment)
-  MayAdd by (duty.Pass at response moment) = P (Ended passed moment)
-  MayAdd by other = Unit {0}
+  MayAdd by d = RoomMay May config facts by d
 
   pub duty_adds : (by : Actor) (d : Duty) → MayAdd by d → Adds (duty_effect config facts by d)
-  unfolding duty_effect
-  duty_adds by (duty.Open at ask dealers moment) is =
-      room_adds at true (at_room.Open (record { ask = ask; dealers = dealers })) _ is
-  duty_adds by (duty.Show dealer at ask moment) is =
-      numbered_does Adds idle config dealer _ (λ row found. unless_does Adds idle _ _
-      (desk_adds (dealer_of dealer row) (at_desk.Shown at ask moment) []))
-  duty_adds by (duty.Ready at moment) is = room_adds at true at_room.Ready [] is
-  duty_adds (actor.Firm number) (duty.Post at quote price until moment) is =
-      numbered_does Adds idle config number (posted_by config facts at quote price until moment)
-      (λ row found. room_adds at _
-      (at_room.Post number (word_for config (dealer_of number row) quote) price until) _ (is row found))
-  duty_adds actor.Clock (duty.Post at quote price until moment) is = idle
-  duty_adds by (duty.Relay at offer moment) is =
-      come_adds at.investor at.n (at_investor.QuoteCame at.n offer moment)
-  duty_adds (actor.Firm number) (duty.Unpost at quote moment) is =
-      numbered_does Adds idle config number (unposted_by config facts at quote moment)
-      (λ row found. room_adds at _
-      (at_room.Unpost number (word_for config (dealer_of number row) quote)) _ (is row found))
-  duty_adds actor.Clock (duty.Unpost at quote moment) is = idle
-  duty_adds by (duty.Gone at word moment) is =
-      come_adds at.investor at.n (at_investor.QuoteGone at.n word moment)
-  duty_adds (actor.Firm number) (duty.Decline at moment) is =
-      numbered_does Adds idle config number (declined_by config facts at moment)
-      (λ row found. room_adds at _ (at_room.Decline number) _ (is row found))
-  duty_adds actor.Clock (duty.Decline at moment) is = idle
-  duty_adds by (duty.Declined at moment) is =
-      by_does Adds idle (acting_dealer config by) _ (λ dealer. come_adds at.investor at.n
-      (at_investor.DealerDeclined at.n dealer.row.name moment))
-  duty_adds by (duty.Hit at response word moment) is =
-      if_does Adds idle _ _ (hit_adds at response word moment
-      (option_map (answer_to_hit facts) (quote_asked config (hit_word (of_room at facts) word moment))) is)
-  duty_adds by (duty.Pass at response moment) is = room_adds at true (at_room.Pass moment) _ is
-  duty_adds by (duty.Answer at response reply moment) is =
-      invested_does Adds idle config at.investor _ (λ row. if_does Adds idle _ _
-      (known_adds at.n response.k (at_investor.Answered at.n response reply moment)
-      (market_of config at.investor row)))
-  duty_adds by (duty.Close at moment) is =
-      come_adds at.investor at.n (at_investor.Closed at.n moment)
-  duty_adds by (duty.Tell dealer at close moment) is =
-      numbered_does Adds idle config dealer _
-      (λ row found. told_does Adds idle config facts (dealer_of dealer row) close moment
-      (number_in (rooms_by (of_dealer dealer facts)) at)
-      (λ number. desk_adds (dealer_of dealer row) (at_desk.Told number close moment) []))
-  duty_adds (actor.Firm number) (duty.Drop last moment) is =
-      numbered_does Adds idle config number (dropped_by config facts last moment)
-      (λ row found. if_does Adds idle _ (at_dealer config facts (dealer_of number row)
-      (drop_at (of_dealer number facts) last moment) (left_by_drop config facts last moment (dealer_of number row)))
-      (desk_adds (dealer_of number row) (drop_at (of_dealer number facts) last moment)
-      (left_by_drop config facts last moment (dealer_of number row))))
-  duty_adds actor.Clock (duty.Drop last moment) is = idle
+  duty_adds by d is =
+      duty_walks AnyDealer AnyInvestor May config facts Adds walks by d
+      (any_dealer AnyDealer config facts by d (λ number row event left is. tt))
+      (any_investor AnyInvestor config by d (λ number row event is. tt)) is
 
   -- A sweep, and messages of firms.
 
   pub sweep_adds : (at : RoomRef) (moment : ℕ) → P (Ended expired moment)
       → Adds (sweep_effect config facts at moment)
-  unfolding sweep_effect
-  sweep_adds at moment is = room_adds at true (at_room.Expire moment) _ is
+  sweep_adds at moment is = sweep_walks AnyDealer AnyInvestor May config facts Adds walks at moment is
 
   received_adds : (dealer : Dealer) (moment : ℕ) (bytes : List ℕ)
       → Adds (received_by_dealer config facts moment bytes dealer)

@@ -1,6 +1,6 @@
 -- What an action says to an investor of some kind of things, whatever the kind: what its messages say
 -- of each, in their order.
-use Rattle.std.proofs.Common.{◌≡◌, ◌==◌, ◌+◌, ◌&&◌, ℕ, Bool, true, false, List, [], ◌∷◌, ◌++◌, map, filter_map, length}
+use Rattle.std.proofs.Common.{◌≡◌, ◌==◌, ◌+◌, ℕ, Bool, true, false, List, [], ◌∷◌, ◌++◌, map, filter_map, length}
 use Rattle.std.proofs.Common.{Option, Some, None, is_some, option_map, refl, sym, ap, ◌∙◌, subst, if◌then◌else◌}
 use Rattle.std.proofs.Common.{Result, Ok, Err, inl, inr}
 use Rattle.std.specs.List.{cons_option}
@@ -16,15 +16,12 @@ use Rattle.market_terms.specs.declared.rooms.ResponseRef.{ResponseRef}
 use Rattle.market_terms.specs.declared.rooms.RoomRef.{RoomRef}
 use Rattle.quote_messages.specs.declared.out_messages.OutMessage.{OutMessage}
 use Rattle.quote_word.specs.declared.settled.Settled.{Settled}
-use Rattle.venue_rows.specs.Rows.{Configuration, dealer_numbered, has_room, investor_numbered}
+use Rattle.venue_rows.specs.Rows.{Configuration, dealer_numbered, investor_numbered}
 use Rattle.venue_rows.specs.declared.dealer_rows.DealerRow.{DealerRow}
 use Rattle.venue_rows.specs.declared.investor_rows.InvestorRow.{InvestorRow}
-use Rattle.venue_places.specs.Dealers.{Dealer, acting_dealer, dealer_at, dealer_of}
+use Rattle.venue_places.specs.Dealers.{Dealer, dealer_at, dealer_of}
 use Rattle.venue_places.specs.declared.actors.Actor.{Actor}
-use Rattle.venue_places.specs.declared.actors.Actor.TheVariants as actor
 use Rattle.venue_steps.specs.InvestorSteps.{replies_to}
-use Rattle.venue_steps.specs.RoomSteps.{hit_word}
-use Rattle.dealer_desk.specs.DealerOutput.{number_in}
 use Rattle.dealer_desk.specs.declared.events.DealerEvent.{DealerEvent}
 use Rattle.dealer_desk.specs.declared.events.DealerEvent.TheVariants as at_desk
 use Rattle.investor_desk.specs.InvestorDesk.{market_for, market_of}
@@ -37,12 +34,13 @@ use Rattle.request_room.specs.Book.{event_facts, hit_outcome}
 use Rattle.request_room.specs.declared.ends.End.{End}
 use Rattle.request_room.specs.declared.events.RoomEvent.{RoomEvent}
 use Rattle.request_room.specs.declared.events.RoomEvent.TheVariants as at_room
-use Rattle.step_replay.specs.Actions.{Effect, QuoteRef, answer_to_hit, at_dealer, at_market, done_by}
-use Rattle.step_replay.specs.Actions.{done_for, drop_at, dropped_by, hit_with, in_room, left_by}
-use Rattle.step_replay.specs.Actions.{left_by_drop, lifting, nothing, quote_asked, quote_with_word}
+use Rattle.step_replay.specs.ActionKinds.{event_in}
+use Rattle.step_replay.specs.Actions.{Effect, QuoteRef, at_dealer, at_market, done_by}
+use Rattle.step_replay.specs.Actions.{done_for, hit_with, left_by}
+use Rattle.step_replay.specs.Actions.{lifting, nothing, quote_with_word}
 use Rattle.step_replay.specs.Actions.{received_by_dealer, received_by_investor, settlement_of}
-use Rattle.step_replay.specs.Actions.{verdict_on, where_known}
-use Rattle.step_replay.specs.DealerTrail.{entries_of, rooms_by}
+use Rattle.step_replay.specs.Actions.{verdict_on}
+use Rattle.step_replay.specs.DealerTrail.{entries_of}
 use Rattle.step_replay.specs.DutyEffects.{duty_effect, message_effect, sweep_effect}
 use Rattle.step_replay.specs.InvestorTrail as investor_trail
 use Rattle.step_replay.specs.InvestorTrail.{InvestorEntry}
@@ -54,7 +52,9 @@ use Rattle.step_replay.specs.PlaceLemmas.{everything_of, investor_at_dealer, inv
 use Rattle.step_replay.specs.PlaceLemmas.{investor_grown, other_investor, own_investor}
 use Rattle.step_replay.specs.VenueFacts.{Fact, InRoom, of_dealer, of_investor}
 use Rattle.step_replay.specs.VenueFacts.{of_room}
-use Rattle.day_parts.specs.ActionCases.{by_does, if_does, numbered_does, told_does, unless_does}
+use Rattle.laws_days.specs.DutyWalk.{AnyDealer, AnyRoom, InvestorMay, Walks, any_dealer, any_room}
+use Rattle.laws_days.specs.DutyWalk.{duty_walks, settlement_found, sweep_walks}
+use Rattle.laws_days.specs.ActionCases.{if_does, numbered_does}
 use Rattle.laws_rooms.specs.Responses.{Said, said_to}
 
 -- What an investor is sent.
@@ -233,14 +233,6 @@ module _ {X : Type 0} (f : ℕ → OutMessage → Option X) where
         by_row None at = none
         by_row (Some other) at = each other at
 
-    comes_quiet : (number request : ℕ) (event : InvestorEvent)
-        → IsSilent event
-        → Quiet (done_for (market_for config number) (where_known facts request None event))
-    comes_quiet number request event silent =
-        invested Quiet idle number (where_known facts request None event) (λ other found.
-        if_does Quiet idle _ (at_market facts (market_of config number other) event [])
-        (market_quiet number other found event [] silent))
-
     desk_quiet : (dealer : Dealer) (event : DealerEvent) (duties : List Duty)
         → Quiet (at_dealer config facts dealer event duties)
     desk_quiet dealer event duties =
@@ -248,15 +240,11 @@ module _ {X : Type 0} (f : ℕ → OutMessage → Option X) where
         (investor_at_dealer investor dealer.number
         (entries_of config.date dealer.row (of_dealer dealer.number facts) event))
 
-    room_quiet : (room : RoomRef) (may : Bool) (event : RoomEvent) (duties : List Duty)
-        → Quiet (in_room config facts room may event duties)
-    room_quiet room may event duties =
-        let effect : Effect = record {
-          facts = map (InRoom room) (event_facts (of_room room facts) event);
-          duties = duties;
-        } in
-        if_does Quiet idle (has_room config room.investor room.n && may) effect
-        (none_sent effect (investor_in_room investor room (event_facts (of_room room facts) event)))
+    room_quiet : (at : RoomRef) (event : RoomEvent) (left : List Duty)
+        → Quiet (event_in config facts at event left)
+    room_quiet at event left =
+        none_sent (event_in config facts at event left)
+        (investor_in_room investor at (event_facts (of_room at facts) event))
 
     lifted_none : (found : Option QuoteRef) (outcome : Result End HitRefusal)
         → of_investor investor (lifting found outcome) ≡ []
@@ -277,56 +265,38 @@ module _ {X : Type 0} (f : ℕ → OutMessage → Option X) where
         (lifted_none (quote_with_word config word) (hit_outcome known word moment settlement))
         ∙ investor_in_room investor room happened)
 
-    -- Duties, line by line.
+    -- Duties.
+
+    abbrev Silently : ℕ → InvestorRow → InvestorEvent → Type 0
+    Silently number other event = IsSilent event
+
+    walks : Walks AnyDealer Silently AnyRoom config facts Quiet
+    walks = record {
+      idle = idle;
+      at_a_dealer = λ number other found event left any. desk_quiet (dealer_of number other) event left;
+      at_an_investor = λ number other found event silent. market_quiet number other found event [] silent;
+      in_a_room = λ at there event no_hit left any. room_quiet at event left;
+      by_a_hit = λ at there response word moment any.
+          hit_quiet at response word moment (settlement_found config facts at word moment);
+    }
+
+    may : (d : Duty) → IsHushed d → InvestorMay Silently config d
+    may (duty.Relay room offer moment) hushed = λ other found. hushed
+    may (duty.Gone room word moment) hushed = λ other found. hushed
+    may (duty.Declined room moment) hushed = λ dealer other found. hushed dealer
+    may (duty.Answer room response reply moment) hushed = λ fits other found. hushed
+    may (duty.Close room moment) hushed = λ other found. hushed
+    may other hushed = tt
 
     pub duty_quiet : (by : Actor) (d : Duty) → IsHushed d → Quiet (duty_effect config facts by d)
-    unfolding duty_effect
-    duty_quiet by (duty.Open room ask dealers moment) hushed = room_quiet room true _ _
-    duty_quiet by (duty.Show dealer room ask moment) hushed =
-        numbered_does Quiet idle config dealer _ (λ other found. unless_does Quiet idle _ _
-        (desk_quiet (dealer_of dealer other) (at_desk.Shown room ask moment) []))
-    duty_quiet by (duty.Ready room moment) hushed = room_quiet room true at_room.Ready []
-    duty_quiet by (duty.Post room quote price valid_until moment) hushed =
-        by_does Quiet idle (acting_dealer config by) _ (λ dealer. room_quiet room _ _ _)
-    duty_quiet by (duty.Relay room offer moment) hushed =
-        comes_quiet room.investor room.n (at_investor.QuoteCame room.n offer moment) hushed
-    duty_quiet by (duty.Unpost room quote moment) hushed =
-        by_does Quiet idle (acting_dealer config by) _ (λ dealer. room_quiet room _ _ _)
-    duty_quiet by (duty.Gone room word moment) hushed =
-        comes_quiet room.investor room.n (at_investor.QuoteGone room.n word moment) hushed
-    duty_quiet by (duty.Decline room moment) hushed =
-        by_does Quiet idle (acting_dealer config by) _ (λ dealer. room_quiet room _ _ _)
-    duty_quiet by (duty.Declined room moment) hushed =
-        by_does Quiet idle (acting_dealer config by) _ (λ dealer. comes_quiet room.investor room.n
-        (at_investor.DealerDeclined room.n dealer.row.name moment) (hushed dealer.row.name))
-    duty_quiet by (duty.Hit room response word moment) hushed =
-        if_does Quiet idle _ _ (hit_quiet room response word moment
-        (option_map (answer_to_hit facts) (quote_asked config (hit_word (of_room room facts) word moment))))
-    duty_quiet by (duty.Pass room response moment) hushed = room_quiet room true (at_room.Pass moment) _
-    duty_quiet by (duty.Answer room response reply moment) hushed =
-        invested Quiet idle room.investor _ (λ other found. if_does Quiet idle (replies_to response.k reply) _
-        (if_does Quiet idle _ (at_market facts (market_of config room.investor other)
-        (at_investor.Answered room.n response reply moment) [])
-        (market_quiet room.investor other found (at_investor.Answered room.n response reply moment) [] hushed)))
-    duty_quiet by (duty.Close room moment) hushed =
-        comes_quiet room.investor room.n (at_investor.Closed room.n moment)
-        hushed
-    duty_quiet by (duty.Tell dealer room close moment) hushed =
-        numbered_does Quiet idle config dealer _
-        (λ other found. told_does Quiet idle config facts (dealer_of dealer other) close moment
-        (number_in (rooms_by (of_dealer dealer facts)) room)
-        (λ number. desk_quiet (dealer_of dealer other) (at_desk.Told number close moment) []))
-    duty_quiet (actor.Firm number) (duty.Drop last moment) hushed =
-        numbered_does Quiet idle config number (dropped_by config facts last moment)
-        (λ other found. if_does Quiet idle _ (at_dealer config facts (dealer_of number other)
-        (drop_at (of_dealer number facts) last moment) (left_by_drop config facts last moment (dealer_of number other)))
-        (desk_quiet (dealer_of number other) (drop_at (of_dealer number facts) last moment)
-        (left_by_drop config facts last moment (dealer_of number other))))
-    duty_quiet actor.Clock (duty.Drop last moment) hushed = idle
+    duty_quiet by d hushed =
+        duty_walks AnyDealer Silently AnyRoom config facts Quiet walks by d
+        (any_dealer AnyDealer config facts by d (λ number other event left is. tt)) (may d hushed)
+        (any_room AnyRoom config facts by d (λ at event left is. tt))
 
     pub sweep_quiet : (room : RoomRef) (moment : ℕ) → Quiet (sweep_effect config facts room moment)
-    unfolding sweep_effect
-    sweep_quiet room moment = room_quiet room true (at_room.Expire moment) _
+    sweep_quiet room moment =
+        sweep_walks AnyDealer Silently AnyRoom config facts Quiet walks room moment tt
 
     -- What is for another investor.
 

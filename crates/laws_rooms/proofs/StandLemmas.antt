@@ -14,8 +14,8 @@ use Rattle.investor_desk.specs.InvestorFacts.{standing_on, stands_on}
 use Rattle.investor_desk.specs.declared.standing.ShownOffer.{ShownOffer}
 use Rattle.step_replay.specs.GrowthLemmas.{any_left}
 use Rattle.step_replay.specs.Lists.{Every, In}
-use Rattle.shown_laws.proofs.ListLemmas.{AreFrom, one_with}
-use Rattle.venue_laws.proofs.KnownDesks.{asked_is, asks}
+use Rattle.laws_shown.proofs.ListLemmas.{AreFrom, one_with}
+use Rattle.laws_days.proofs.KnownDesks.{asked_is, asks}
 use Rattle.laws_rooms.proofs.FoundLemmas.{left_says, none_says}
 
 -- A request by its number, with more facts.

@@ -28,8 +28,8 @@ use Rattle.step_replay.specs.InvestorTrail.{InvestorEntry}
 use Rattle.step_replay.specs.Lists.{In}
 use Rattle.step_replay.specs.PlaceLemmas.{investor_grown, own_investor}
 use Rattle.step_replay.specs.VenueFacts.{AtInvestor, Fact, of_investor}
-use Rattle.trade_laws.specs.Trades.{at_investor as market_facts}
-use Rattle.venue_laws.specs.Conditions.{holds_for, is_known, is_known_to}
+use Rattle.laws_shown.specs.ShownRequests.{at_investor as market_facts}
+use Rattle.laws_days.specs.Conditions.{holds_for, is_known, is_known_to}
 use Rattle.laws_rooms.specs.Told.{IsTold, WasClosed}
 
 pub market_grown : (investor : ℕ) (facts more : List Fact)

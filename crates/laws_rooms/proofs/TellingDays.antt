@@ -23,22 +23,22 @@ use Rattle.step_replay.specs.PlaceLemmas.{room_grown}
 use Rattle.step_replay.specs.VenueFacts.{Fact, of_investor, of_room}
 use Rattle.step_replay.specs.declared.steps.Step.{Step}
 use Rattle.step_replay.specs.declared.steps.Step.TheVariants as step
-use Rattle.day_parts.specs.DayParts.{pending_ok as queue_ok}
-use Rattle.day_parts.specs.KeptItems.{every_drop}
-use Rattle.shown_laws.proofs.ShownDay.{DayOk, day_ok}
-use Rattle.shown_laws.proofs.ShownParts.{DutyOk as ShownOk}
-use Rattle.trade_laws.specs.LiveDuties.{NoDutyIsLeft}
-use Rattle.venue_laws.proofs.ConditionMet.{met}
-use Rattle.venue_laws.proofs.LiveQuotes.{LoneQuotes}
-use Rattle.venue_laws.proofs.VenueDay.{venue_ok}
-use Rattle.venue_laws.proofs.VenueDesk.{WordsOfDay}
-use Rattle.venue_laws.proofs.VenueInvariant.{VenueOk}
-use Rattle.venue_laws.proofs.VenueKnown.{pending_ok}
-use Rattle.venue_laws.proofs.VenueParts.{did_in, duties_by, later_same}
-use Rattle.venue_laws.proofs.VenueSteps.{Here, day}
-use Rattle.venue_laws.proofs.VenueTurns.{beside, doing_now, turn, turns_of}
-use Rattle.laws_rooms.specs.Answered.{Answer}
-use Rattle.laws_rooms.specs.Tellings.{AreToldFirst, AreToldInTurn, change_in, changes_in}
+use Rattle.laws_days.specs.DayParts.{pending_ok as queue_ok}
+use Rattle.laws_days.specs.KeptItems.{every_drop}
+use Rattle.laws_shown.proofs.ShownDay.{DayOk, day_ok}
+use Rattle.laws_shown.proofs.ShownParts.{DutyOk as ShownOk}
+use Rattle.laws_days.specs.LiveDuties.{NoDutyIsLeft}
+use Rattle.laws_days.proofs.ConditionMet.{met}
+use Rattle.laws_days.proofs.LiveQuotes.{LoneQuotes}
+use Rattle.laws_days.proofs.VenueDay.{venue_ok}
+use Rattle.laws_days.proofs.VenueDesk.{WordsOfDay}
+use Rattle.laws_days.proofs.VenueInvariant.{VenueOk}
+use Rattle.laws_days.proofs.VenueKnown.{pending_ok}
+use Rattle.laws_days.proofs.VenueParts.{did_in, duties_by, later_same}
+use Rattle.laws_days.proofs.VenueSteps.{Here, day}
+use Rattle.laws_days.proofs.VenueTurns.{beside, doing_now, turn, turns_of}
+use Rattle.laws_rooms.specs.Answered.{Answer, change_in, changes_in}
+use Rattle.laws_rooms.specs.Tellings.{AreToldFirst, AreToldInTurn}
 use Rattle.laws_rooms.proofs.FollowLemmas.{FitsOn, message_none, mine_follows, none_fits, others_none}
 use Rattle.laws_rooms.proofs.FollowLemmas.{sweep_none, tellings, tells_of}
 use Rattle.laws_rooms.proofs.GoneDays.{desk_fits, duty_gones, message_gones, sweep_gones}

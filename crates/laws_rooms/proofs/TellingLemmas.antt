@@ -43,12 +43,12 @@ use Rattle.step_replay.specs.Lists.{Every, In}
 use Rattle.step_replay.specs.OwnerLemmas.{quote_at}
 use Rattle.step_replay.specs.PlaceLemmas.{investor_grown, own_investor}
 use Rattle.step_replay.specs.VenueFacts.{Fact, of_investor}
-use Rattle.shown_laws.proofs.ListLemmas.{AreFrom}
-use Rattle.shown_laws.proofs.ShownMarket.{entries_facts, requests_in}
-use Rattle.shown_laws.proofs.ShownParts.{DutyOk as ShownOk, Relays}
-use Rattle.trade_laws.specs.Trades.{at_investor as market_facts}
-use Rattle.venue_laws.specs.Conditions.{is_known, is_met}
-use Rattle.venue_laws.proofs.VenueKnown.{room_self}
+use Rattle.laws_shown.proofs.ListLemmas.{AreFrom}
+use Rattle.laws_shown.proofs.ShownMarket.{entries_facts, requests_in}
+use Rattle.laws_shown.proofs.ShownParts.{DutyOk as ShownOk, Relays}
+use Rattle.laws_shown.specs.ShownRequests.{at_investor as market_facts}
+use Rattle.laws_days.specs.Conditions.{is_known, is_met}
+use Rattle.laws_days.proofs.VenueKnown.{room_self}
 use Rattle.laws_rooms.specs.Answered.{Answer, Declines, Quotes, Withdraws}
 use Rattle.laws_rooms.specs.Offers.{is_of, quotes_shown}
 use Rattle.laws_rooms.specs.Responses.{Said, said_to}

@@ -15,8 +15,8 @@ use Rattle.step_replay.specs.GrowthLemmas.{in_left}
 use Rattle.step_replay.specs.InvestorTrail as investor_trail
 use Rattle.step_replay.specs.InvestorTrail.{AtDesk, InvestorEntry, Sent, facts_of}
 use Rattle.step_replay.specs.Lists.{Every}
-use Rattle.shown_laws.proofs.ShownParts.{offers_both}
-use Rattle.venue_laws.proofs.ListLemmas.{find_grown}
+use Rattle.laws_shown.proofs.ShownParts.{offers_both}
+use Rattle.laws_days.proofs.ListLemmas.{find_grown}
 use Rattle.laws_rooms.specs.Answered.{Answer, Declines, Quotes, Withdraws}
 use Rattle.laws_rooms.specs.Offers.{quotes_shown, shown_of}
 use Rattle.laws_rooms.specs.Tellings.{IsAnothers, IsIts, IsOther, SayNone, Says, SaysDecline}

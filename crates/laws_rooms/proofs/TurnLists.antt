@@ -1,16 +1,17 @@
 -- Quotes, withdrawals and declines of a dealer in their order: which of its quotes stands behind them.
-use Rattle.std.proofs.Common.{◌≡◌, ◌==◌, ◌||◌, ℕ, true, false, List, [], ◌∷◌, ◌++◌, filter_map}
+use Rattle.std.proofs.Common.{◌≡◌, ◌==◌, ◌||◌, ◌⊎◌, ℕ, true, false, List, [], ◌∷◌, ◌++◌, filter_map}
 use Rattle.std.proofs.Common.{Option, Some, None, refl, sym, ap, ◌∙◌, inl, inr}
 use Rattle.std.specs.List.{cons_option, list_any}
 use Rattle.std.proofs.lemmas.Bool.{and_parts, cases_Bool, eq-eqb, eqb-true, false≢true, or_cases, or_parts}
+use Rattle.std.proofs.lemmas.Bool.{or_right}
 use Rattle.std.proofs.lemmas.List.{append_assoc}
 use Rattle.std.proofs.lemmas.Option.{same_Some}
 use Rattle.request_room.specs.Book.{book_of, is_quote_of, stands, takes_out}
 use Rattle.request_room.specs.RoomFacts.{Noted, Posted, RoomFact, Unposted}
 use Rattle.request_room.specs.declared.quotes.PostedQuote.{PostedQuote}
 use Rattle.step_replay.specs.Lists.{Every}
-use Rattle.laws_rooms.specs.Answered.{Answer, Declines, Quotes, Withdraws, answer_in, answers_in}
-use Rattle.laws_rooms.specs.Tellings.{as_told, changes_in, gone_first}
+use Rattle.laws_rooms.specs.Answered.{Answer, Declines, Quotes, Withdraws, answer_in, answers_in, changes_in}
+use Rattle.laws_rooms.specs.Tellings.{as_told, gone_first}
 
 -- the word of the quote that stands behind these, where this one stood before
 abbrev pub stands_after : Option ℕ → List Answer → Option ℕ
@@ -188,3 +189,63 @@ module _ (dealer : ℕ) where
     | inr differs ↦ rw differs (stands_live word later live (rw differs at fit) is)
   ]
   stands_live word (fact ∷ later) live fit is = stands_live word later live fit is
+
+  -- what stood before these facts is in no way touched by them
+  abbrev AreElsewhere : List RoomFact → Type 0
+  AreElsewhere facts = (quote : PostedQuote) → quote.dealer ≡ dealer → list_any (takes_out quote) facts ≡ false
+
+  not_its : (quote : PostedQuote) (other : ℕ) → quote.dealer ≡ dealer → (other == dealer) ≡ false
+      → (quote.dealer == other) ≡ false
+  not_its quote other own differs = elim (cases_Bool (quote.dealer == other)) [
+    | inr isnt ↦ isnt
+    | inl same ↦ absurd (false≢true (sym differs
+        ∙ eq-eqb other dealer (sym (eqb-true quote.dealer other same) ∙ own)))
+  ]
+
+  -- a quote more in the book
+  behind_it : (quote : PostedQuote) (word : ℕ) (later : List RoomFact) → stands (book_of later) dealer word ≡ true
+      → stands (book_of (Posted quote ∷ later)) dealer word ≡ true
+  behind_it quote word later is = elim (cases_Bool (list_any (takes_out quote) later)) [
+    | inl taken ↦ rw taken is
+    | inr stays ↦ rw stays (or_right (is_quote_of dealer word quote) (stands (book_of later) dealer word) is)
+  ]
+
+  -- the quote that stands behind these stands in the book, or it stood before them
+  live_stands : (word : ℕ) (facts : List RoomFact) (live : Option ℕ) → stands_after live (changes facts) ≡ Some word
+      → (stands (book_of facts) dealer word ≡ true) ⊎ ((live ≡ Some word) × AreElsewhere facts)
+  live_stands word [] live is = inr (is, λ quote own. refl)
+  live_stands word (Posted quote ∷ later) live is = elim (cases_Bool (quote.dealer == dealer)) [
+    | inl same ↦ elim (live_stands word later (Some quote.word) (rw same at is)) [
+      | inl there ↦ inl (behind_it quote word later there)
+      | inr it ↦
+          (let stays = it.1 quote (eqb-true quote.dealer dealer same) in
+          let its : (quote.word == word) ≡ true = eq-eqb quote.word word (same_Some quote.word word it.0) in
+          inl (rw (stays, same, its) refl))
+    ]
+    | inr differs ↦ elim (live_stands word later live (rw differs at is)) [
+      | inl there ↦ inl (behind_it quote word later there)
+      | inr it ↦ inr (it.0, λ other own. rw (not_its other quote.dealer own differs) (it.1 other own))
+    ]
+  ]
+  live_stands word (Unposted other gone ∷ later) live is = elim (cases_Bool (other == dealer)) [
+    | inl same ↦ elim (live_stands word later None (rw same at is)) [
+      | inl there ↦ inl there
+      | inr it ↦ cc (it.0)
+    ]
+    | inr differs ↦ elim (live_stands word later live (rw differs at is)) [
+      | inl there ↦ inl there
+      | inr it ↦ inr (it.0, λ quote own. rw (not_its quote other own differs) (it.1 quote own))
+    ]
+  ]
+  live_stands word (Noted other ∷ later) live is = elim (cases_Bool (other == dealer)) [
+    | inl same ↦ live_stands word later live (rw same at is)
+    | inr differs ↦ live_stands word later live (rw differs at is)
+  ]
+  live_stands word (fact ∷ later) live is = live_stands word later live is
+
+  pub stands_there : (word : ℕ) (facts : List RoomFact) → stands_after None (changes facts) ≡ Some word
+      → stands (book_of facts) dealer word ≡ true
+  stands_there word facts is = elim (live_stands word facts None is) [
+    | inl there ↦ there
+    | inr it ↦ cc (it.0)
+  ]

@@ -8,9 +8,9 @@ use Rattle.step_replay.specs.AuditTrail.{AuditTrail, is_same_actor}
 use Rattle.step_replay.specs.EachLemmas.{every_both}
 use Rattle.step_replay.specs.Lists.{Every}
 use Rattle.step_replay.specs.QueueLemmas.{one_actor, same_actor}
-use Rattle.venue_laws.proofs.VenueParts.{did_in, duties_by}
-use Rattle.venue_laws.proofs.VenueSteps.{Here, day}
-use Rattle.venue_laws.proofs.VenueTurns.{doing_now, grown, own_did, own_left}
+use Rattle.laws_days.proofs.VenueParts.{did_in, duties_by}
+use Rattle.laws_days.proofs.VenueSteps.{Here, day}
+use Rattle.laws_days.proofs.VenueTurns.{doing_now, grown, own_did, own_left}
 
 module _ (h : Here) (effect : Effect) where
   abbrev then_day : AuditTrail

@@ -1,21 +1,18 @@
--- What a dealer answers on a request: its quotes and declines as its messages leave them, and as they take
--- effect in the room of the request. (Of withdrawals `Tellings` speaks.)
-use Rattle.std.specs.Prelude.{◌≡◌, ℕ, ◌==◌, false, List, [], ◌++◌, ◌∷◌, filter_map, Option, Some, None}
-use Rattle.std.specs.Prelude.{if◌then◌else◌}
-use Rattle.dealer_desk.specs.DealerOutput.{is_same_room}
-use Rattle.market_terms.specs.declared.duties.Duty.{Duty}
-use Rattle.market_terms.specs.declared.duties.Duty.TheVariants as duty
+-- What a dealer answers on a request: its quotes, its withdrawals and its decline, as they stand at its
+-- desk, and as they take effect in the room of the request.
+use Rattle.std.specs.Prelude.{◌≡◌, ℕ, ◌==◌, ◌&&◌, Bool, false, List, [], ◌++◌, ◌∷◌, filter_map}
+use Rattle.std.specs.Prelude.{Option, Some, None, if◌then◌else◌}
+use Rattle.std.specs.List.{cons_option, list_any}
+use Rattle.dealer_desk.specs.DealerFacts.{DealerFact, Declined, Quoted, Withdrawn}
+use Rattle.dealer_desk.specs.DealerOutput.{number_in}
+use Rattle.dealer_desk.specs.declared.standing.Withdrawal.TheVariants as by
 use Rattle.market_terms.specs.declared.rooms.RoomRef.{RoomRef}
 use Rattle.request_room.specs.Book.{quote_posted}
-use Rattle.request_room.specs.RoomFacts.{Noted, Posted, RoomFact, is_ended}
+use Rattle.request_room.specs.RoomFacts.{Noted, Posted, RoomFact, Unposted, is_ended}
 use Rattle.request_room.specs.declared.quotes.PostedQuote.{PostedQuote}
-use Rattle.step_replay.specs.AuditTrail.{AuditTrail, after_step, no_steps}
-use Rattle.step_replay.specs.DutyEffects.{message_effect}
-use Rattle.step_replay.specs.declared.steps.Step.{Step}
-use Rattle.step_replay.specs.declared.steps.Step.TheVariants as step
-use Rattle.venue_places.specs.Dealers.{dealer_of, word_for}
+use Rattle.step_replay.specs.DealerTrail.{DealerEntry, facts_of, rooms_by}
+use Rattle.venue_places.specs.Dealers.{Dealer, word_for}
 use Rattle.venue_rows.specs.Rows.{Configuration}
-use Rattle.venue_rows.specs.declared.dealer_rows.DealerRow.{DealerRow}
 
 -- an answer: a quote, by its dealer, its word, its price and its valid-until, that the quote with a word
 -- is withdrawn, or a decline
@@ -24,39 +21,47 @@ pub data Answer : Type 0 where
   Withdraws : ℕ → Answer
   Declines : Answer
 
--- What was left.
+-- At the dealer's desk.
 
--- the quote or the decline that a duty of this dealer brings to this room, where it brings one
-abbrev pub answer_of : Configuration → ℕ → DealerRow → RoomRef → Duty → Option Answer
-answer_of config dealer row room (duty.Post at quote price valid_until moment) =
-    if is_same_room at room
-    then Some (Quotes (quote_posted dealer (word_for config (dealer_of dealer row) quote) price valid_until))
-    else None
-answer_of config dealer row room (duty.Decline at moment) =
-    if is_same_room at room then Some Declines else None
-answer_of config dealer row room other = None
+-- whether a fact accepts the quote with this number on this request
+abbrev pub accepts : ℕ → ℕ → DealerFact → Bool
+accepts request number (Quoted quote) = (quote.number == number) && (quote.request == request)
+accepts request number other = false
 
--- the answers that a step of a day leaves: those of a message of the dealer
-abbrev pub left_at : Configuration → ℕ → DealerRow → RoomRef → AuditTrail → Step → List Answer
-left_at config dealer row room venue (step.In firm moment bytes) =
-    if firm == dealer
-    then filter_map (answer_of config dealer row room)
-    (message_effect config venue.facts firm moment bytes).duties
-    else []
-left_at config dealer row room venue other = []
+module _ (config : Configuration) (own : Dealer) where
+  -- The answer on this request that a fact at the desk says behind these others, where it says one: a
+  -- quote that was accepted, one that is withdrawn, or a decline. (A quote that another one replaces goes
+  -- with it, and is not withdrawn by itself.)
+  abbrev pub answer_at : ℕ → List DealerFact → DealerFact → Option Answer
+  answer_at request before (Quoted quote) =
+      if quote.request == request
+      then Some (Quotes (quote_posted own.number (word_for config own quote.number) quote.price
+      quote.valid_until))
+      else None
+  answer_at request before (Withdrawn number by.Cancel) =
+      if list_any (accepts request number) before
+      then Some (Withdraws (word_for config own number))
+      else None
+  answer_at request before (Declined number) = if number == request then Some Declines else None
+  answer_at request before other = None
 
--- those that steps leave from a day on, in their order
-abbrev pub left_from : Configuration → ℕ → DealerRow → RoomRef → AuditTrail → List Step → List Answer
-left_from config dealer row room venue [] = []
-left_from config dealer row room venue (more ∷ steps) =
-    left_at config dealer row room venue more
-    ++ left_from config dealer row room (after_step config venue more) steps
+  -- those of some facts behind others, in their order
+  abbrev pub answers_behind : ℕ → List DealerFact → List DealerFact → List Answer
+  answers_behind request before [] = []
+  answers_behind request before (fact ∷ later) =
+      cons_option (answer_at request before fact)
+      (answers_behind request (before ++ fact ∷ []) later)
 
--- all answers of a dealer to this room that its messages left, in their order
-abbrev pub answers_left : Configuration → ℕ → DealerRow → RoomRef → List Step → List Answer
-answers_left config dealer row room steps = left_from config dealer row room no_steps steps
+  -- all on the request that the dealer was shown under this number, where it was shown one
+  abbrev pub answers_on : List DealerFact → Option ℕ → List Answer
+  answers_on facts None = []
+  answers_on facts (Some request) = answers_behind request [] facts
 
--- What took effect.
+  -- all on the request of this room at the desk of the dealer with this trail, in their order
+  abbrev pub answers_at : RoomRef → List DealerEntry → List Answer
+  answers_at room trail = answers_on (facts_of trail) (number_in (rooms_by trail) room)
+
+-- In the room.
 
 -- the quote or the decline of this dealer that a fact of a room says, where it says one
 abbrev pub answer_in : ℕ → RoomFact → Option Answer
@@ -68,9 +73,18 @@ answer_in dealer other = None
 abbrev pub answers_in : ℕ → List RoomFact → List Answer
 answers_in dealer facts = filter_map (answer_in dealer) facts
 
--- In a room with these facts the answers of this dealer that took effect are the first of these, in
--- their order, and all of them unless the room has ended.
+-- the quote, the withdrawal or the decline of this dealer that a fact of a room says, where it says one
+abbrev pub change_in : ℕ → RoomFact → Option Answer
+change_in dealer (Unposted other word) = if other == dealer then Some (Withdraws word) else None
+change_in dealer fact = answer_in dealer fact
+
+-- those of a room with these facts, in their order
+abbrev pub changes_in : ℕ → List RoomFact → List Answer
+changes_in dealer facts = filter_map (change_in dealer) facts
+
+-- In a room with these facts what took effect of this dealer's quotes, withdrawals and declines are the
+-- first of these answers, in their order, and all of them unless the room has ended.
 pub record TookEffect (facts : List RoomFact) (dealer : ℕ) (left : List Answer) : Type 0 where
   pub rest : List Answer
-  pub begins : left ≡ answers_in dealer facts ++ rest
+  pub begins : left ≡ changes_in dealer facts ++ rest
   pub whole : is_ended facts ≡ false → rest ≡ []

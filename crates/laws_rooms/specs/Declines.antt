@@ -11,7 +11,7 @@ use Rattle.investor_desk.specs.declared.standing.AcceptedRequest.{AcceptedReques
 use Rattle.step_replay.specs.InvestorTrail.{sent_by}
 use Rattle.step_replay.specs.Lists.{In}
 use Rattle.step_replay.specs.VenueFacts.{Fact, of_investor}
-use Rattle.trade_laws.specs.Trades.{at_investor}
+use Rattle.laws_shown.specs.ShownRequests.{at_investor}
 use Rattle.laws_rooms.specs.Responses.{Said, said_to}
 use Rattle.laws_rooms.specs.Told.{WasClosed}
 

@@ -1,7 +1,7 @@
 -- What an investor was told of the answers of one dealer on one request, in its order: each quote that
 -- it was shown, each that is gone, and that the dealer declined.
-use Rattle.std.specs.Prelude.{◌≡◌, ℕ, ◌==◌, Bool, true, List, [], ◌++◌, ◌∷◌, filter_map, Option, Some, None}
-use Rattle.std.specs.Prelude.{is_some, if◌then◌else◌}
+use Rattle.std.specs.Prelude.{◌≡◌, ℕ, Bool, true, List, [], ◌++◌, ◌∷◌, Option, Some, None}
+use Rattle.std.specs.Prelude.{is_some}
 use Rattle.quote_messages.specs.declared.out_messages.OutMessage.{OutMessage}
 use Rattle.quote_messages.specs.declared.out_messages.OutMessage.TheVariants as out
 use Rattle.investor_desk.specs.InvestorFacts.{Asked, Gone, InvestorFact, Offered, book_of}
@@ -9,28 +9,19 @@ use Rattle.investor_desk.specs.InvestorFacts.{offer_numbered, open_request}
 use Rattle.investor_desk.specs.InvestorRules.{InvestorMarket}
 use Rattle.investor_desk.specs.declared.standing.AcceptedRequest.{AcceptedRequest}
 use Rattle.investor_desk.specs.declared.standing.ShownOffer.{ShownOffer}
-use Rattle.request_room.specs.RoomFacts.{RoomFact, Unposted}
+use Rattle.request_room.specs.RoomFacts.{RoomFact}
 use Rattle.request_room.specs.declared.quotes.PostedQuote.{PostedQuote}
 use Rattle.step_replay.specs.InvestorTrail.{AtDesk, InvestorEntry, Sent, facts_of}
 use Rattle.step_replay.specs.Lists.{Every, In}
 use Rattle.step_replay.specs.LiveDays.{live_trail}
 use Rattle.step_replay.specs.declared.steps.Step.{Step}
-use Rattle.trade_laws.specs.LiveDuties.{NoDutyIsLeft}
+use Rattle.laws_days.specs.LiveDuties.{NoDutyIsLeft}
 use Rattle.venue_rows.specs.Rows.{Configuration}
-use Rattle.laws_rooms.specs.Answered.{Answer, Declines, Quotes, Withdraws, answer_in, answers_in}
+use Rattle.laws_rooms.specs.Answered.{Answer, Declines, Quotes, Withdraws, answers_in, changes_in}
 use Rattle.laws_rooms.specs.Offers.{quotes_shown, shown_of}
 use Rattle.laws_rooms.specs.Responses.{Said, said_to}
 
--- What took effect.
-
--- the quote, the withdrawal or the decline of this dealer that a fact of a room says, where it says one
-abbrev pub change_in : ℕ → RoomFact → Option Answer
-change_in dealer (Unposted other word) = if other == dealer then Some (Withdraws word) else None
-change_in dealer fact = answer_in dealer fact
-
--- those of a room with these facts, in their order
-abbrev pub changes_in : ℕ → List RoomFact → List Answer
-changes_in dealer facts = filter_map (change_in dealer) facts
+-- What has to be told.
 
 -- that the quote with this word is gone, where there is one
 abbrev pub gone_first : Option ℕ → List Answer

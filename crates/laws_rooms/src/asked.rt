@@ -7,8 +7,8 @@ ghost use Rattle.step_replay.specs.AuditTrail as venue;
 ghost use Rattle.step_replay.specs.Lists.{In};
 ghost use Rattle.step_replay.specs.VenueFacts.{of_dealer};
 ghost use Rattle.step_replay.specs.declared.steps.Step.{Step};
-ghost use Rattle.trade_laws.specs.LiveDuties.{NoDutyIsLeft};
-ghost use Rattle.trade_laws.specs.Trades.{at_investor, room_of};
+ghost use Rattle.laws_days.specs.LiveDuties.{NoDutyIsLeft};
+ghost use Rattle.laws_shown.specs.ShownRequests.{at_investor, room_of};
 ghost use Rattle.venue_rows.specs.Rows.{Configuration};
 
 use dealer_desk::{limits_are_kept, what_is_asked_is_of_the_day};
@@ -19,7 +19,7 @@ use dealer_desk::{limits_are_kept, what_is_asked_is_of_the_day};
 ///
 /// It ends at: days on which work is left; that a QuoteRequest (35=R) is sent each time a request
 /// is shown, and its 131: a definition says so (`DealerOutput`), and no law. (By
-/// `shown_laws::requests_are_shown_as_written` these are the dealers that the investor wrote in
+/// `laws_shown::requests_are_shown_as_written` these are the dealers that the investor wrote in
 /// 448.)
 pub fn each_accepted_request_is_shown()
     ensures { (config : Configuration) (steps : List Step) (investor : ℕ)

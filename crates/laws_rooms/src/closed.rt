@@ -6,7 +6,7 @@ ghost use Rattle.request_room.specs.RoomFacts.{is_ended};
 ghost use Rattle.step_replay.specs.AuditTrail as venue;
 ghost use Rattle.step_replay.specs.VenueFacts.{of_room};
 ghost use Rattle.step_replay.specs.declared.steps.Step.{Step};
-ghost use Rattle.trade_laws.specs.Trades.{at_investor};
+ghost use Rattle.laws_shown.specs.ShownRequests.{at_investor};
 ghost use Rattle.venue_rows.specs.Rows.{Configuration};
 
 use dealer_desk::{limits_are_kept, what_is_asked_is_of_the_day};

@@ -7,8 +7,9 @@
 //!   dealer that it names.
 //! - [`a_request_is_shown_to_no_other_dealer`]: at each moment of a day, a request is shown to no dealer
 //!   that it does not name, and none is shown that was not accepted.
-//! - [`each_answer_takes_effect_in_its_order`]: then the quotes and declines of a dealer took effect in
-//!   the room in their order, and all of them unless the room has ended.
+//! - [`each_answer_takes_effect_in_its_order`]: then the quotes, withdrawals and declines that stand at a
+//!   dealer's desk took effect in the room in their order, and all of them unless the room has ended.
+//! - [`each_answer_takes_effect_on_a_live_day`]: on a day whose steps come one by one all of them did.
 //! - [`quotes_are_shown_as_they_took_effect`]: then the quotes of a dealer that an investor was shown on
 //!   a request are the first of those that took effect, in their order, and all of them while the
 //!   request is open at its desk.
@@ -51,7 +52,7 @@ mod shown;
 mod told;
 mod turns;
 
-pub use answers::each_answer_takes_effect_in_its_order;
+pub use answers::{each_answer_takes_effect_in_its_order, each_answer_takes_effect_on_a_live_day};
 pub use asked::each_accepted_request_is_shown;
 pub use closed::a_closed_request_has_an_ended_room;
 pub use declines::each_decline_comes_to_its_investor;

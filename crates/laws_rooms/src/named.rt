@@ -8,7 +8,7 @@ ghost use Rattle.step_replay.specs.AuditTrail as venue;
 ghost use Rattle.step_replay.specs.Lists.{In};
 ghost use Rattle.step_replay.specs.VenueFacts.{of_dealer};
 ghost use Rattle.step_replay.specs.declared.steps.Step.{Step};
-ghost use Rattle.trade_laws.specs.Trades.{at_investor, room_of};
+ghost use Rattle.laws_shown.specs.ShownRequests.{at_investor, room_of};
 ghost use Rattle.venue_rows.specs.Rows.{Configuration};
 
 use dealer_desk::{limits_are_kept, what_is_asked_is_of_the_day};
@@ -20,8 +20,8 @@ use dealer_desk::{limits_are_kept, what_is_asked_is_of_the_day};
 /// are left.
 ///
 /// It ends at: the messages: the law speaks of the facts at the dealer's desk.
-/// (`shown_laws::what_is_shown_was_quoted` says the same of the messages 35=R that a dealer was
-/// sent, `shown_laws::requests_are_shown_as_written` of the names that the investor wrote.)
+/// (`laws_shown::what_is_shown_was_quoted` says the same of the messages 35=R that a dealer was
+/// sent, `laws_shown::requests_are_shown_as_written` of the names that the investor wrote.)
 pub fn a_request_is_shown_to_no_other_dealer()
     ensures only { (config : Configuration) (steps : List Step) (investor : ℕ)
         (request : AcceptedRequest) (dealer : ℕ)

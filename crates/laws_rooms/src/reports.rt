@@ -4,7 +4,7 @@ ghost use Rattle.investor_desk.specs.InvestorDesk.{market_of};
 ghost use Rattle.laws_rooms.specs.Reports.{AreReported};
 ghost use Rattle.step_replay.specs.AuditTrail as venue;
 ghost use Rattle.step_replay.specs.declared.steps.Step.{Step};
-ghost use Rattle.trade_laws.specs.Trades.{at_investor};
+ghost use Rattle.laws_shown.specs.ShownRequests.{at_investor};
 ghost use Rattle.venue_rows.specs.Rows.{Configuration, investor_numbered};
 ghost use Rattle.venue_rows.specs.declared.investor_rows.InvestorRow.{InvestorRow};
 

@@ -5,8 +5,8 @@ ghost use Rattle.market_terms.specs.declared.rooms.RoomRef.{RoomRef};
 ghost use Rattle.step_replay.specs.AuditTrail as venue;
 ghost use Rattle.step_replay.specs.VenueFacts.{of_room};
 ghost use Rattle.step_replay.specs.declared.steps.Step.{Step};
-ghost use Rattle.trade_laws.specs.LiveDuties.{NoDutyIsLeft};
-ghost use Rattle.trade_laws.specs.Trades.{at_investor};
+ghost use Rattle.laws_days.specs.LiveDuties.{NoDutyIsLeft};
+ghost use Rattle.laws_shown.specs.ShownRequests.{at_investor};
 ghost use Rattle.venue_rows.specs.Rows.{Configuration, dealer_numbered};
 ghost use Rattle.venue_rows.specs.declared.dealer_rows.DealerRow.{DealerRow};
 

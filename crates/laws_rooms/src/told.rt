@@ -7,7 +7,7 @@ ghost use Rattle.step_replay.specs.AuditTrail as venue;
 ghost use Rattle.step_replay.specs.LiveDays.{live_trail};
 ghost use Rattle.step_replay.specs.VenueFacts.{of_investor, of_room};
 ghost use Rattle.step_replay.specs.declared.steps.Step.{Step};
-ghost use Rattle.trade_laws.specs.LiveDuties.{NoDutyIsLeft};
+ghost use Rattle.laws_days.specs.LiveDuties.{NoDutyIsLeft};
 ghost use Rattle.venue_rows.specs.Rows.{Configuration, dealer_numbered, investor_numbered};
 ghost use Rattle.venue_rows.specs.declared.dealer_rows.DealerRow.{DealerRow};
 ghost use Rattle.venue_rows.specs.declared.investor_rows.InvestorRow.{InvestorRow};

@@ -7,7 +7,7 @@ ghost use Rattle.step_replay.specs.AuditTrail as venue;
 ghost use Rattle.step_replay.specs.LiveDays.{live_trail};
 ghost use Rattle.step_replay.specs.VenueFacts.{of_investor, of_room};
 ghost use Rattle.step_replay.specs.declared.steps.Step.{Step};
-ghost use Rattle.trade_laws.specs.LiveDuties.{NoDutyIsLeft};
+ghost use Rattle.laws_days.specs.LiveDuties.{NoDutyIsLeft};
 ghost use Rattle.venue_rows.specs.Rows.{Configuration, KeepsLimits, dealer_numbered};
 ghost use Rattle.venue_rows.specs.Rows.{investor_numbered};
 ghost use Rattle.venue_rows.specs.declared.dealer_rows.DealerRow.{DealerRow};
@@ -24,7 +24,7 @@ use dealer_desk::{limits_are_kept, what_is_asked_is_of_the_day};
 /// before that one was shown. It was told all of them while the request is open at its desk.
 ///
 /// It ends at: days on which a duty is left; that no other message says a decline; two firms of one
-/// name, which no program takes (`KeepsLimits`); the dealer's own desk (of quotes and declines
+/// name, which no program takes (`KeepsLimits`); the dealer's own desk (of that
 /// `laws_rooms::each_answer_takes_effect_in_its_order`). (The message that says that a quote is
 /// gone: `laws_rooms::each_quote_that_is_gone_is_reported`.)
 pub fn each_answer_is_told_in_its_turn()

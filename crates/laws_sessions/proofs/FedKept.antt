@@ -6,7 +6,7 @@ use Rattle.std.proofs.lemmas.Bool.{cases_Bool, eqb-true, eq-eqb, false≢true}
 use Rattle.std.proofs.lemmas.Bool.Decides.{nat_tests}
 use Rattle.fix_fields.specs.Frame.{Field}
 use Rattle.fix_sessions.specs.Texts.{is_that}
-use Rattle.session_laws.specs.Kept.{Entry, IsFree, IsKept, Within, is_answer_body}
+use Rattle.laws_sessions.specs.Kept.{Entry, IsFree, IsKept, Within, is_answer_body}
 use Rattle.laws_sessions.specs.Fed.{has_number}
 
 -- Tests.

@@ -19,9 +19,9 @@ use Rattle.fix_sessions.specs.declared.messages.Reading.{Reading}
 use Rattle.fix_sessions.specs.declared.state.Session.{Session}
 use Rattle.fix_sessions.specs.declared.texts.Names.{Names}
 use Rattle.fix_sessions.specs.declared.turns.Want.TheVariants as want
-use Rattle.session_laws.specs.Days.{Event, after}
-use Rattle.session_laws.specs.Days.{Came, Gone, Given, Handed, Tick, Ordered, LoggedOut}
-use Rattle.session_laws.specs.Kept.{Entry, IsKept, Within}
+use Rattle.laws_sessions.specs.Days.{Event, after}
+use Rattle.laws_sessions.specs.Days.{Came, Gone, Given, Handed, Tick, Ordered, LoggedOut}
+use Rattle.laws_sessions.specs.Kept.{Entry, IsKept, Within}
 use Rattle.laws_sessions.specs.Fed.{IsDue, IsFed, MayResend, leaves_under}
 use Rattle.laws_sessions.specs.Fed.{times_left, wants_number}
 use Rattle.laws_sessions.proofs.FedKept.{choice, not_less, is_less}

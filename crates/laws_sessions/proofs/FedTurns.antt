@@ -20,7 +20,7 @@ use Rattle.fix_sessions.specs.declared.turns.Turn.{Turn}
 use Rattle.fix_sessions.specs.declared.turns.Want.TheVariants as want
 use Rattle.fix_sessions.specs.declared.turns.Way.TheVariants as way
 use Rattle.fix_sessions.specs.declared.turns.Word.TheVariants as word
-use Rattle.session_laws.specs.Kept.{Entry, IsKept, is_answer_body}
+use Rattle.laws_sessions.specs.Kept.{Entry, IsKept, is_answer_body}
 use Rattle.laws_sessions.specs.Fed.{IsDue, IsHandedBack, has_number, leaves_under}
 use Rattle.laws_sessions.proofs.FedKept.{choice, less_by, not_less, at_most, is_at_most}
 use Rattle.laws_sessions.proofs.FedKept.{by_true, by_false, other_number}

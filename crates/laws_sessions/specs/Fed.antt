@@ -15,9 +15,9 @@ use Rattle.fix_sessions.specs.declared.turns.Want.{Want}
 use Rattle.fix_sessions.specs.declared.turns.Want.TheVariants as want
 use Rattle.fix_sessions.specs.declared.turns.Word.{Word}
 use Rattle.fix_sessions.specs.declared.turns.Word.TheVariants as word
-use Rattle.session_laws.specs.Days.{Event, Handed, turn}
-use Rattle.session_laws.specs.Kept.{Entry, IsAnswered, IsKept, is_answer_body}
-use Rattle.session_laws.specs.Logons.{is_leaving}
+use Rattle.laws_sessions.specs.Days.{Event, Handed, turn}
+use Rattle.laws_sessions.specs.Kept.{Entry, IsAnswered, IsKept, is_answer_body}
+use Rattle.laws_sessions.specs.Logons.{is_leaving}
 
 -- The firm is logged on, and the numbers of the day are not used up. The line has settled, so that
 -- no Reject is held back. Where numbers are sent again, the next of them is not above what has left.

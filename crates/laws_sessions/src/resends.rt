@@ -11,8 +11,8 @@ ghost use Rattle.fix_sessions.specs.declared.state.Live.{Live};
 ghost use Rattle.fix_sessions.specs.declared.state.Phase.TheVariants as phase;
 ghost use Rattle.fix_sessions.specs.declared.state.Session.{Session};
 ghost use Rattle.fix_sessions.specs.declared.texts.Names.{Names};
-ghost use Rattle.session_laws.specs.Days.{Event, after};
-ghost use Rattle.session_laws.specs.Kept.{Entry, IsKept, Within};
+ghost use Rattle.laws_sessions.specs.Days.{Event, after};
+ghost use Rattle.laws_sessions.specs.Kept.{Entry, IsKept, Within};
 ghost use Rattle.laws_sessions.specs.Fed.{IsDue, IsFed, MayResend, times_left, wants_number};
 
 /// A resend comes to its end, if nothing else comes.

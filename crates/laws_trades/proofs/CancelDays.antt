@@ -47,19 +47,19 @@ use Rattle.step_replay.specs.VenueFacts.{Fact, of_dealer}
 use Rattle.step_replay.specs.declared.steps.Step.{Step}
 use Rattle.step_replay.specs.declared.steps.Step.TheVariants as step
 use Rattle.step_replay.specs.declared.steps.TheConstants.{MOST_TURNS_BEHIND}
-use Rattle.day_parts.specs.ActionCases.{by_does, if_does, invested_does}
-use Rattle.day_parts.specs.KeptItems.{every_all}
-use Rattle.day_parts.specs.LeftDuties.{duty_leaves}
-use Rattle.trade_laws.specs.LiveDuties.{NoDutyIsLeft}
-use Rattle.venue_laws.specs.Conditions.{is_met}
-use Rattle.venue_laws.proofs.ConditionMet.{met}
-use Rattle.venue_laws.proofs.LiveQuotes.{LoneQuotes}
-use Rattle.venue_laws.proofs.VenueDay.{venue_ok}
-use Rattle.venue_laws.proofs.VenueDesk.{WordsOfDay}
-use Rattle.venue_laws.proofs.VenueInvariant.{VenueOk}
-use Rattle.venue_laws.proofs.VenueKnown.{pending_ok}
-use Rattle.venue_laws.proofs.VenueParts.{later_same}
-use Rattle.shown_laws.proofs.ListLemmas.{AreFrom}
+use Rattle.laws_days.specs.ActionCases.{by_does, if_does, invested_does}
+use Rattle.laws_days.specs.KeptItems.{every_all}
+use Rattle.laws_days.specs.LeftDuties.{duty_leaves}
+use Rattle.laws_days.specs.LiveDuties.{NoDutyIsLeft}
+use Rattle.laws_days.specs.Conditions.{is_met}
+use Rattle.laws_days.proofs.ConditionMet.{met}
+use Rattle.laws_days.proofs.LiveQuotes.{LoneQuotes}
+use Rattle.laws_days.proofs.VenueDay.{venue_ok}
+use Rattle.laws_days.proofs.VenueDesk.{WordsOfDay}
+use Rattle.laws_days.proofs.VenueInvariant.{VenueOk}
+use Rattle.laws_days.proofs.VenueKnown.{pending_ok}
+use Rattle.laws_days.proofs.VenueParts.{later_same}
+use Rattle.laws_shown.proofs.ListLemmas.{AreFrom}
 use Rattle.laws_trades.specs.Cancels.{droppable, report_on, reports}
 use Rattle.laws_trades.proofs.CancelLemmas.{came_same, drop_takes, dropped_same, found_first, found_none}
 use Rattle.laws_trades.proofs.CancelLemmas.{may_drop, number_at, numbered_from, reports_counted, reports_more, up_to}

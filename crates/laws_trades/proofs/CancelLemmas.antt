@@ -37,10 +37,10 @@ use Rattle.step_replay.specs.VenueFacts.{of_dealer}
 use Rattle.step_replay.specs.declared.steps.Step.{Step}
 use Rattle.quote_messages.specs.Written.{written}
 use Rattle.laws_trades.specs.Cancels.{report_on, reports}
-use Rattle.shown_laws.proofs.AcceptedQuotes.{AcceptOk, verdict_accepts}
-use Rattle.shown_laws.proofs.ListLemmas.{AreFrom, from_both}
-use Rattle.shown_laws.proofs.OwnNumbers.{answers_quote, quotes, settled_quote}
-use Rattle.shown_laws.proofs.ShownOrder.{accepted_count, quoted_in}
+use Rattle.laws_shown.proofs.AcceptedQuotes.{AcceptOk, verdict_accepts}
+use Rattle.laws_shown.proofs.ListLemmas.{AreFrom, from_both}
+use Rattle.laws_shown.proofs.OwnNumbers.{answers_quote, quotes, settled_quote}
+use Rattle.laws_shown.proofs.ShownOrder.{accepted_count, quoted_in}
 
 -- One fact more.
 

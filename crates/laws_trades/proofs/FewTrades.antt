@@ -17,10 +17,10 @@ use Rattle.step_replay.specs.DealerTrail.{DealerEntry, facts_of}
 use Rattle.step_replay.specs.Lists.{In}
 use Rattle.step_replay.specs.VenueFacts.{of_dealer}
 use Rattle.step_replay.specs.declared.steps.Step.{Step}
-use Rattle.trade_laws.specs.LiveDuties.{NoDutyIsLeft}
-use Rattle.trade_laws.specs.TradeNames.{notice_in, notices_to}
-use Rattle.trade_laws.specs.Trades.{Trade}
-use Rattle.venue_laws.proofs.ListLemmas.{cases_some}
+use Rattle.laws_days.specs.LiveDuties.{NoDutyIsLeft}
+use Rattle.laws_trades.specs.TradeNames.{notice_in, notices_to}
+use Rattle.laws_trades.specs.Trades.{Trade}
+use Rattle.laws_days.proofs.ListLemmas.{cases_some}
 use Rattle.laws_trades.proofs.NoticedDays.{day_seen}
 
 -- Lists of which no item stands twice.

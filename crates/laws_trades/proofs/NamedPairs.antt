@@ -18,9 +18,9 @@ use Rattle.step_replay.specs.AuditTrail.{audit_trail}
 use Rattle.step_replay.specs.Lists.{In}
 use Rattle.step_replay.specs.VenueFacts.{of_dealer}
 use Rattle.step_replay.specs.declared.steps.Step.{Step}
-use Rattle.trade_laws.specs.TradeNames.{hit_in, hits_of, notices_to}
-use Rattle.trade_laws.specs.Trades.{Deal, Trade, answered, at_investor, room_of}
-use Rattle.trade_laws.proofs.NameLemmas.{dealer_name, investor_name, same_investor}
+use Rattle.laws_trades.specs.TradeNames.{hit_in, hits_of, notices_to}
+use Rattle.laws_trades.specs.Trades.{Deal, Trade, answered, at_investor, room_of}
+use Rattle.laws_days.proofs.FirmNames.{dealer_name, investor_name, same_investor}
 use Rattle.laws_trades.specs.TradeLines.{AreNamed}
 use Rattle.laws_trades.proofs.NamedTrades.{IsNamed, named}
 use Rattle.laws_trades.proofs.NoticedDays.{SameNotes, noticed_of}
@@ -39,16 +39,16 @@ in_split x (y ∷ xs) (inr is) =
 
 -- the two lists of the trades of an investor and a dealer are one
 abbrev pub OneList : Configuration → List Step → ℕ → ℕ → List ℕ → List ℕ → Type 0
-OneList config steps investor dealer buyer seller =
-    hits_of investor seller (audit_trail config steps).facts
-    ≡ notices_to buyer (of_dealer dealer (audit_trail config steps).facts)
+OneList config steps investor dealer name_of_investor name_of_dealer =
+    hits_of investor name_of_dealer (audit_trail config steps).facts
+    ≡ notices_to name_of_investor (of_dealer dealer (audit_trail config steps).facts)
 
-pub named_alike : SameNotes → (config : Configuration) (steps : List Step) (buyer : InvestorRow)
+pub named_alike : SameNotes → (config : Configuration) (steps : List Step) (investor_row : InvestorRow)
     (trade : Trade config (audit_trail config steps).facts)
-    → investor_numbered config trade.deal.investor ≡ Some buyer
-    → OneList config steps trade.deal.investor trade.deal.dealer buyer.name trade.deal.row.name
-    → (name : List ℕ) × AreNamed config (audit_trail config steps) trade.deal buyer name
-named_alike same config steps buyer trade is_buyer one_list =
+    → investor_numbered config trade.deal.investor ≡ Some investor_row
+    → OneList config steps trade.deal.investor trade.deal.dealer investor_row.name trade.deal.row.name
+    → (name : List ℕ) × AreNamed config (audit_trail config steps) trade.deal investor_row name
+named_alike same config steps investor_row trade is_investor one_list =
     let deal = trade.deal in
     let facts = (audit_trail config steps).facts in
     let says = hit_in deal.investor deal.row.name in
@@ -64,11 +64,11 @@ named_alike same config steps buyer trade is_buyer one_list =
     ∙ filter_map-append says found.0
     (answered deal.asked.number deal.shown.number deal.row.name deal.quote.price ∷ found.1)
     ∙ ap (λ (l : List RoomRef). before ++ l) one in
-    let bought = printed_of config deal.investor buyer is_buyer deal.row.name steps before later room
+    let bought = printed_of config deal.investor investor_row is_investor deal.row.name steps before later room
     hits in
-    let sold = noticed_of config deal.dealer deal.row deal.is_dealer buyer.name same steps before later
+    let sold = noticed_of config deal.dealer deal.row deal.is_dealer investor_row.name same steps before later
     room (sym one_list ∙ hits) in (
-      trade_name config.date buyer.name deal.row.name (length before + 1),
+      trade_name config.date investor_row.name deal.row.name (length before + 1),
       record {
         to_investor = bought.number;
         tells_investor = bought.tells;
@@ -86,15 +86,15 @@ get_at [] ys x = refl
 get_at (y ∷ xs) ys x = get_at xs ys x
 
 module _ (config : Configuration) (limits : KeepsLimits config) (steps : List Step) (name : List ℕ)
-    (buyer another : InvestorRow) (deal other : Deal config (audit_trail config steps).facts)
-    (is_buyer : investor_numbered config deal.investor ≡ Some buyer)
+    (investor_row another : InvestorRow) (deal other : Deal config (audit_trail config steps).facts)
+    (is_investor : investor_numbered config deal.investor ≡ Some investor_row)
     (is_another : investor_numbered config other.investor ≡ Some another)
     (few : length (hits_of deal.investor deal.row.name (audit_trail config steps).facts) ≤ 4096)
-    (is : AreNamed config (audit_trail config steps) deal buyer name)
+    (is : AreNamed config (audit_trail config steps) deal investor_row name)
     (is_too : AreNamed config (audit_trail config steps) other another name) where
-  own : IsNamed config.date buyer.name deal.row.name deal.investor deal.asked.number
+  own : IsNamed config.date investor_row.name deal.row.name deal.investor deal.asked.number
       (hits_of deal.investor deal.row.name (audit_trail config steps).facts) name
-  own = named config deal.investor buyer is_buyer deal.row.name steps deal.asked.number is.to_investor
+  own = named config deal.investor investor_row is_investor deal.row.name steps deal.asked.number is.to_investor
       name is.tells_investor is.investor_line
 
   its : IsNamed config.date another.name other.row.name other.investor other.asked.number
@@ -102,13 +102,13 @@ module _ (config : Configuration) (limits : KeepsLimits config) (steps : List St
   its = named config other.investor another is_another other.row.name steps other.asked.number
       is_too.to_investor name is_too.tells_investor is_too.investor_line
 
-  parts : (buyer.name ≡ another.name) × (deal.row.name ≡ other.row.name)
+  parts : (investor_row.name ≡ another.name) × (deal.row.name ≡ other.row.name)
       × (decimal (length own.before + 1) ≡ decimal (length its.before + 1))
   parts =
-      one_name config.date buyer.name another.name deal.row.name other.row.name
+      one_name config.date investor_row.name another.name deal.row.name other.row.name
       (length own.before + 1) (length its.before + 1)
-      (firm_plain config limits deal.investor buyer.name
-      (investor_name config deal.investor buyer is_buyer))
+      (firm_plain config limits deal.investor investor_row.name
+      (investor_name config deal.investor investor_row is_investor))
       (firm_plain config limits other.investor another.name
       (investor_name config other.investor another is_another))
       (firm_plain config limits deal.dealer deal.row.name
@@ -120,8 +120,8 @@ module _ (config : Configuration) (limits : KeepsLimits config) (steps : List St
   investors : deal.investor ≡ other.investor
   investors =
       eqb-true deal.investor other.investor
-      (sym (same_investor config limits deal.investor other.investor buyer another is_buyer is_another)
-      ∙ (bytes_eq-Decides buyer.name another.name).1 parts.0)
+      (sym (same_investor config limits deal.investor other.investor investor_row another is_investor is_another)
+      ∙ (bytes_eq-Decides investor_row.name another.name).1 parts.0)
 
   hits : hits_of deal.investor deal.row.name (audit_trail config steps).facts
       ≡ its.before ++ room_of other.investor other.asked.number ∷ its.later

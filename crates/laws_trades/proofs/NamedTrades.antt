@@ -21,8 +21,8 @@ use Rattle.step_replay.specs.InvestorTrail.{AtDesk, InvestorEntry, Sent, fact_in
 use Rattle.step_replay.specs.NotedTrail.{NotedSoFar, notes_by}
 use Rattle.step_replay.specs.VenueFacts.{of_investor}
 use Rattle.step_replay.specs.declared.steps.Step.{Step}
-use Rattle.trade_laws.specs.TradeNames.{hit_in, hits_of}
-use Rattle.trade_laws.specs.Trades.{room_of}
+use Rattle.laws_trades.specs.TradeNames.{hit_in, hits_of}
+use Rattle.laws_trades.specs.Trades.{room_of}
 use Rattle.laws_trades.specs.PrintedTrades.{TellsOfTrade}
 use Rattle.laws_trades.proofs.PrintedDays.{day_kept, line_of}
 use Rattle.laws_trades.proofs.PrintedLemmas.{IsTold, text_self}

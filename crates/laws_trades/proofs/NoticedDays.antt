@@ -14,7 +14,7 @@ use Rattle.dealer_desk.specs.declared.notes.DealerNote.{DealerNote}
 use Rattle.dealer_desk.specs.declared.notes.DealerNote.TheVariants as note
 use Rattle.step_replay.specs.AuditTrail.{audit_trail, due_to}
 use Rattle.step_replay.specs.DealerTrail.{DealerEntry}
-use Rattle.step_replay.specs.DealerView.{DealerView}
+use Rattle.step_replay.specs.DealerView.{ViewState}
 use Rattle.step_replay.specs.EachLemmas.{each_of}
 use Rattle.step_replay.specs.IsolationLemmas.{seen_is_kept}
 use Rattle.step_replay.specs.NoteViews.{dealer_note_view, notes_at}
@@ -23,7 +23,7 @@ use Rattle.step_replay.specs.StepLemmas.{kept_by_all}
 use Rattle.step_replay.specs.TrailKept.{IsKept}
 use Rattle.step_replay.specs.VenueFacts.{of_dealer}
 use Rattle.step_replay.specs.declared.steps.Step.{Step}
-use Rattle.trade_laws.specs.TradeNames.{notices_to}
+use Rattle.laws_trades.specs.TradeNames.{notices_to}
 use Rattle.laws_trades.specs.PrintedTrades.{IsPrintedToDealer}
 use Rattle.laws_trades.proofs.NoticedLemmas.{Notes}
 use Rattle.laws_trades.proofs.NoticedTrades.{IsTold}
@@ -78,7 +78,7 @@ module _ (config : Configuration) (dealer : ℕ) (row : DealerRow)
     notes_are steps =
         let seen = day_seen steps in
         let kept = day_kept steps in
-        ap (λ (view : DealerView). notes_at view.desk) seen.view_is
+        ap (λ (view : ViewState). notes_at view.desk) seen.view_is
         ∙ same config.date row seen.events kept.events
         (ap (λ (state : DeskState). state.facts) (seen.state_is ∙ sym kept.state))
 

@@ -52,7 +52,7 @@ use Rattle.step_replay.specs.DealerTrail.{message_by, rooms_by, sent_by}
 use Rattle.step_replay.specs.EachLemmas.{Each, each_append, each_weaker, every_both, every_weaker}
 use Rattle.step_replay.specs.Lists.{Every}
 use Rattle.step_replay.specs.PlaceLemmas.{get_first}
-use Rattle.trade_laws.specs.TradeNames.{ask_in, is_asked_by, notice_in, notices_to, was_asked_by}
+use Rattle.laws_trades.specs.TradeNames.{ask_in, is_asked_by, notice_in, notices_to, was_asked_by}
 use Rattle.laws_trades.specs.PrintedTrades.{TellsDealer}
 
 -- Lists.

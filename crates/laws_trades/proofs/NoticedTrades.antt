@@ -17,7 +17,7 @@ use Rattle.dealer_desk.specs.declared.notes.DealerNote.TheVariants as note
 use Rattle.step_replay.specs.DealerTrail.{AtDesk, DealerEntry, Sent, facts_of, rooms_by, sent_by}
 use Rattle.step_replay.specs.Lists.{Every}
 use Rattle.step_replay.specs.PlaceLemmas.{get_first}
-use Rattle.trade_laws.specs.TradeNames.{ask_in, is_asked_by, notice_in, notices_to, was_asked_by}
+use Rattle.laws_trades.specs.TradeNames.{ask_in, is_asked_by, notice_in, notices_to, was_asked_by}
 use Rattle.laws_trades.specs.PrintedTrades.{TellsDealer}
 use Rattle.laws_trades.proofs.NoticedLemmas.{IsWithin, Notes, asks, get_grown, get_next}
 use Rattle.laws_trades.proofs.NoticedLemmas.{some_item, text_self}

@@ -29,7 +29,7 @@ use Rattle.step_replay.specs.DealerTrail.{rooms_by, sent_by}
 use Rattle.step_replay.specs.EachLemmas.{Each, each_append, each_weaker, every_both}
 use Rattle.step_replay.specs.EachLemmas.{every_weaker}
 use Rattle.step_replay.specs.Lists.{Every}
-use Rattle.trade_laws.specs.TradeNames.{is_asked_by, notice_in, notices_to, was_asked_by}
+use Rattle.laws_trades.specs.TradeNames.{is_asked_by, notice_in, notices_to, was_asked_by}
 use Rattle.laws_trades.proofs.NoticedLemmas.{IsWithin, Notes, Says, asks, event_says, found_item}
 use Rattle.laws_trades.proofs.NoticedLemmas.{from_push, get_grown, more_within, none_told, nothing}
 use Rattle.laws_trades.proofs.NoticedLemmas.{one}

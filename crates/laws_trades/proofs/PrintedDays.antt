@@ -39,7 +39,7 @@ use Rattle.step_replay.specs.PlaceLemmas.{other_investor, own_investor}
 use Rattle.step_replay.specs.VenueFacts.{AtInvestor, Fact, InRoom, of_investor, of_room}
 use Rattle.step_replay.specs.declared.steps.Step.{Step}
 use Rattle.step_replay.specs.declared.steps.Step.TheVariants as step
-use Rattle.trade_laws.specs.TradeNames.{hits_of}
+use Rattle.laws_trades.specs.TradeNames.{hits_of}
 use Rattle.laws_trades.specs.PrintedTrades.{IsPrintedAs}
 use Rattle.laws_trades.proofs.PrintedLemmas.{IsTold, Printed, one_more}
 

@@ -41,8 +41,8 @@ use Rattle.step_replay.specs.InvestorTrail.{AtDesk, InvestorEntry, Sent, book_by
 use Rattle.step_replay.specs.InvestorTrail.{sent_by}
 use Rattle.step_replay.specs.NotedGrowth.{noted_push, notes_more}
 use Rattle.step_replay.specs.NotedTrail.{NotedAs}
-use Rattle.trade_laws.specs.TradeNames.{hit_in}
-use Rattle.trade_laws.specs.Trades.{room_of}
+use Rattle.laws_trades.specs.TradeNames.{hit_in}
+use Rattle.laws_trades.specs.Trades.{room_of}
 use Rattle.laws_trades.specs.PrintedTrades.{TellsOfTrade}
 
 -- Lists.

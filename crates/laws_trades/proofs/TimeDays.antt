@@ -44,14 +44,14 @@ use Rattle.step_replay.specs.VenueFacts.{AtDealer, Fact, InRoom, of_dealer}
 use Rattle.step_replay.specs.VenueFacts.{of_room}
 use Rattle.step_replay.specs.declared.steps.Step.{Step}
 use Rattle.step_replay.specs.declared.steps.Step.TheVariants as step
-use Rattle.laws_answers.specs.Awards.{IsInTime}
+use Rattle.laws_trades.specs.Awards.{IsInTime}
 use Rattle.laws_trades.specs.TradeTimes.{IsAwarded, IsHitOf, IsToldAt}
 use Rattle.laws_trades.specs.Withdrawals.{IsSaid}
 use Rattle.laws_trades.proofs.AwardedWords.{found_passes}
 use Rattle.laws_trades.proofs.TimeDuties.{duty_brings, message_brings, sweep_brings}
 use Rattle.laws_trades.proofs.TimeParts.{Brings, DutyTimed, FactTimed, duty_grown, fact_grown}
 use Rattle.laws_trades.proofs.WithdrawalLemmas.{AtOne, Before, Behind, places}
-use Rattle.venue_laws.proofs.PlainFacts.{at_dealer_all, in_room_all}
+use Rattle.laws_days.proofs.PlainFacts.{at_dealer_all, in_room_all}
 
 -- Lists.
 

@@ -39,7 +39,7 @@ use Rattle.investor_desk.specs.declared.events.InvestorEvent.{InvestorEvent}
 use Rattle.investor_desk.specs.declared.events.InvestorEvent.TheVariants as at_investor
 use Rattle.step_replay.specs.Actions.{Effect, answer_to_drop, at_dealer, at_market, done_for}
 use Rattle.step_replay.specs.Actions.{drop_at, left_by, left_by_drop, received_by_dealer}
-use Rattle.step_replay.specs.Actions.{settlement_of, told_of, verdict_on, where_known}
+use Rattle.step_replay.specs.Actions.{settlement_of, verdict_on}
 use Rattle.step_replay.specs.DealerTrail as dealer_trail
 use Rattle.step_replay.specs.DealerTrail.{DealerEntry}
 use Rattle.step_replay.specs.EachLemmas.{every_both}
@@ -49,9 +49,9 @@ use Rattle.step_replay.specs.InvestorTrail.{InvestorEntry}
 use Rattle.step_replay.specs.Lists.{Every, In}
 use Rattle.step_replay.specs.PlaceLemmas.{dealer_grown, investor_grown, own_investor}
 use Rattle.step_replay.specs.VenueFacts.{AtDealer, AtInvestor, Fact, of_dealer, of_investor}
-use Rattle.day_parts.specs.ActionCases.{if_does}
-use Rattle.day_parts.specs.KeptItems.{every_all, every_map}
-use Rattle.day_parts.specs.MayLeave.{MaySay, drop_each, verdict_each}
+use Rattle.laws_days.specs.ActionCases.{if_does}
+use Rattle.laws_days.specs.KeptItems.{every_all, every_map}
+use Rattle.laws_days.specs.MayLeave.{MaySay, drop_each, verdict_each}
 use Rattle.laws_trades.specs.TradeTimes.{IsAwarded, IsToldAt, room_at}
 use Rattle.laws_trades.proofs.TimeParts.{Brings, DutyTimed, FactTimed, award_grown, mapped, none}
 use Rattle.laws_trades.proofs.TimeParts.{of_tell, told_at}
@@ -199,17 +199,10 @@ module _ (config : Configuration) (facts : List Fact) where
     told_so true test = rw test (told_at config (facts ++ told_facts) dealer.number request moment close is_told, tt)
     told_so false test = rw test tt
 
-    telling_brings : Brings config facts (at_dealer config facts dealer telling [])
-    telling_brings = desk_brings dealer telling [] (told_so (is_some (closable (dealer_trail.book_by (of_dealer dealer.number facts)) request)) refl) tt
-
-  pub told_brings : (dealer : Dealer) (room : RoomRef) (close : Close) (moment : ℕ)
-      → DutyTimed config facts (duty.Tell dealer.number room close moment) → (request : Option ℕ)
-      → number_in (dealer_trail.rooms_by (of_dealer dealer.number facts)) room ≡ request
-      → Brings config facts (told_of config facts dealer close moment request)
-  told_brings dealer room close moment is None found = none config facts
-  told_brings dealer room close moment is (Some request) found =
-      if_does (Brings config facts) (none config facts) _ (at_dealer config facts dealer (at_desk.Told request close moment) [])
-      (telling_brings dealer room close moment is request found)
+    pub told_brings : Brings config facts (at_dealer config facts dealer telling [])
+    told_brings =
+        desk_brings dealer telling []
+        (told_so (is_some (closable (dealer_trail.book_by (of_dealer dealer.number facts)) request)) refl) tt
 
   -- At an investor.
 
@@ -306,12 +299,3 @@ module _ (config : Configuration) (facts : List Fact) where
           → Brings config facts (done_for (option_map (market_of config investor) found) act)
       by_row None is = none config facts
       by_row (Some row) is = each row is
-
-  -- what comes to an investor, and is no reply
-  pub comes : (investor request : ℕ) (event : InvestorEvent)
-      → ((row : InvestorRow) (is : investor_numbered config investor ≡ Some row) → MayReply investor row is event [])
-      → Brings config facts (done_for (market_for config investor) (where_known facts request None event))
-  comes investor request event may =
-      invested_brings investor (where_known facts request None event)
-      (λ row is. if_does (Brings config facts) (none config facts) _ (at_market facts (market_of config investor row) event [])
-      (market_brings investor row is event [] (may row is) tt))

@@ -1,6 +1,6 @@
 -- What each duty, message and sweep brings of the moments of trades.
 use Rattle.std.proofs.Common.{◌≡◌, ◌&&◌, ℕ, Bool, true, false, List, [], ◌∷◌, ◌++◌, Some, is_some}
-use Rattle.std.proofs.Common.{option_map, refl, sym, ap, ◌∙◌, subst, inl, inr, if◌then◌else◌}
+use Rattle.std.proofs.Common.{refl, sym, ap, ◌∙◌, subst, inl, inr, if◌then◌else◌}
 use Rattle.std.specs.Option.{option_to_list}
 use Rattle.std.proofs.lemmas.Bool.{false≢true}
 use Rattle.std.proofs.lemmas.List.{append-nil}
@@ -11,14 +11,16 @@ use Rattle.market_terms.specs.declared.duties.Duty.TheVariants as duty
 use Rattle.market_terms.specs.declared.rooms.ResponseRef.{ResponseRef}
 use Rattle.market_terms.specs.declared.rooms.RoomRef.{RoomRef}
 use Rattle.venue_rows.specs.Rows.{Configuration, dealer_numbered, investor_numbered}
+use Rattle.venue_rows.specs.declared.dealer_rows.DealerRow.{DealerRow}
 use Rattle.venue_rows.specs.declared.investor_rows.InvestorRow.{InvestorRow}
-use Rattle.venue_places.specs.Dealers.{acting_dealer, dealer_at, dealer_of, has_word_for}
+use Rattle.venue_places.specs.Dealers.{dealer_at, dealer_of}
 use Rattle.venue_places.specs.declared.actors.Actor.{Actor}
 use Rattle.venue_places.specs.declared.actors.Actor.TheVariants as actor
 use Rattle.venue_steps.specs.InvestorSteps.{replies_to}
 use Rattle.venue_steps.specs.RoomSteps.{dealers_of, duties_of_decline, duties_of_expire}
 use Rattle.venue_steps.specs.RoomSteps.{duties_of_open, duties_of_post, duties_of_unpost}
-use Rattle.venue_steps.specs.RoomSteps.{duties_of_pass, hit_word}
+use Rattle.venue_steps.specs.RoomSteps.{duties_of_pass}
+use Rattle.dealer_desk.specs.declared.events.DealerEvent.{DealerEvent}
 use Rattle.investor_desk.specs.InvestorDesk.{market_for, market_of}
 use Rattle.investor_desk.specs.InvestorFacts as investor_facts
 use Rattle.investor_desk.specs.InvestorOutput as investor_output
@@ -31,23 +33,27 @@ use Rattle.request_room.specs.Book.{expired, may_expire, may_unpost, passed, quo
 use Rattle.request_room.specs.Book as book
 use Rattle.request_room.specs.RoomFacts.{Ended, Noted, Opened, Posted, Readied, Unposted, hears}
 use Rattle.request_room.specs.RoomFacts.{is_open, is_opening, is_vacant, request_of, takes_quotes}
+use Rattle.request_room.specs.declared.events.RoomEvent.{RoomEvent}
 use Rattle.request_room.specs.declared.events.RoomEvent.TheVariants as at_room
-use Rattle.step_replay.specs.Actions.{answer_to_hit, at_market, done_by, done_for, left_by_investor}
-use Rattle.step_replay.specs.Actions.{nothing, offer_of, quote_asked, received_by_dealer}
-use Rattle.step_replay.specs.Actions.{received_by_investor, where_known, word_for}
+use Rattle.step_replay.specs.ActionKinds.{event_in}
+use Rattle.step_replay.specs.Actions.{at_dealer, at_market, done_by, done_for, left_by_investor}
+use Rattle.step_replay.specs.Actions.{offer_of, received_by_dealer}
+use Rattle.step_replay.specs.Actions.{received_by_investor, word_for}
 use Rattle.step_replay.specs.DutyEffects.{duty_effect, message_effect, sweep_effect}
 use Rattle.step_replay.specs.GrowthLemmas.{in_right}
 use Rattle.step_replay.specs.InvestorTrail as investor_trail
 use Rattle.step_replay.specs.InvestorTrail.{InvestorEntry}
 use Rattle.step_replay.specs.Lists.{Every, In}
 use Rattle.step_replay.specs.VenueFacts.{Fact, of_investor, of_room}
-use Rattle.day_parts.specs.ActionCases.{by_does, if_does, numbered_does, unless_does}
-use Rattle.laws_trades.specs.TradeTimes.{IsAwarded, room_at}
+use Rattle.laws_days.specs.ActionCases.{numbered_does}
+use Rattle.laws_days.specs.DutyWalk.{DealerMay, InvestorMay, NoHitThere, RoomMay, Walks, duty_walks}
+use Rattle.laws_days.specs.DutyWalk.{settlement_found, sweep_walks}
+use Rattle.laws_trades.specs.TradeTimes.{IsAwarded, IsHitAt, room_at}
 use Rattle.laws_trades.proofs.TimeParts.{Brings, DutyTimed, none}
-use Rattle.laws_trades.proofs.TimeDesks.{MayReply, comes, dropped_brings, grown, invested_brings}
+use Rattle.laws_trades.proofs.TimeDesks.{MayReply, dropped_brings, grown, invested_brings}
 use Rattle.laws_trades.proofs.TimeDesks.{market_brings, said_brings, shown_brings, so_facts}
 use Rattle.laws_trades.proofs.TimeDesks.{told_brings}
-use Rattle.laws_trades.proofs.TimeRooms.{expired_left, follows_so, hit_brings, in_the_room}
+use Rattle.laws_trades.proofs.TimeRooms.{expired_left, follows_so, hit_brings}
 use Rattle.laws_trades.proofs.TimeRooms.{opened_left, passed_left, plain_room}
 
 module _ (config : Configuration) (facts : List Fact) where
@@ -69,109 +75,121 @@ module _ (config : Configuration) (facts : List Fact) where
         (subst (λ (a : Reply). DutyTimed config facts (duty.Answer room response a moment)) same timed));
   }
 
-  -- All duties, line by line.
+  -- Duties.
 
-  pub duty_brings : (by : Actor) (d : Duty) → DutyTimed config facts d → Brings config facts (duty_effect config facts by d)
-  unfolding duty_effect book.event_facts
-  duty_brings by (duty.Open room ask dealers moment) is =
-      in_the_room config facts room true (at_room.Open (record { ask = ask; dealers = dealers }))
-      (duties_of_open (of_room room facts) room ask dealers moment)
-      (plain_room config facts room (is_vacant (of_room room facts)) (Opened (record { ask = ask; dealers = dealers }))
+  abbrev DealerTimed : ℕ → DealerRow → DealerEvent → List Duty → Type 0
+  DealerTimed number row event left =
+      Brings config facts (at_dealer config facts (dealer_of number row) event left)
+
+  abbrev InvestorTimed : ℕ → InvestorRow → InvestorEvent → Type 0
+  InvestorTimed number row event = Brings config facts (at_market facts (market_of config number row) event [])
+
+  abbrev RoomTimed : RoomRef → RoomEvent → List Duty → Type 0
+  RoomTimed room (at_room.Hit word moment settlement) left = IsHitAt config facts room word moment
+  RoomTimed room event left = Brings config facts (event_in config facts room event left)
+
+  in_the_room : (room : RoomRef) (event : RoomEvent) (left : List Duty) → NoHitThere event
+      → RoomTimed room event left → Brings config facts (event_in config facts room event left)
+  in_the_room room (at_room.Hit word moment settlement) left no_hit is = absurd no_hit
+  in_the_room room event left no_hit is = is
+
+  walks : Walks DealerTimed InvestorTimed RoomTimed config facts (Brings config facts)
+  walks = record {
+    idle = none config facts;
+    at_a_dealer = λ number row found event left is. is;
+    at_an_investor = λ number row found event is. is;
+    in_a_room = λ room there event no_hit left is. in_the_room room event left no_hit is;
+    by_a_hit = λ room there response word moment is.
+        hit_brings config facts room response word moment is (settlement_found config facts room word moment);
+  }
+
+  at_dealers : (by : Actor) (d : Duty) → DutyTimed config facts d → DealerMay DealerTimed config facts by d
+  at_dealers by (duty.Show dealer room ask moment) is =
+      λ row found none. shown_brings config facts (dealer_of dealer row) room ask moment
+  at_dealers by (duty.Tell dealer room close moment) is = λ row found request there may.
+      told_brings config facts (dealer_of dealer row) room close moment is request there
+  at_dealers (actor.Firm number) (duty.Drop last moment) is =
+      λ row found. dropped_brings config facts number row last moment
+  at_dealers by other is = tt
+
+  at_investors : (d : Duty) → DutyTimed config facts d → InvestorMay InvestorTimed config d
+  at_investors (duty.Relay room offer moment) is = λ row found.
+      market_brings config facts room.investor row found (at_investor.QuoteCame room.n offer moment) [] (record {
+        replies = λ request response answer other at. cc;
+        award = λ request response other at. cc;
+      }) tt
+  at_investors (duty.Gone room word moment) is = λ row found.
+      market_brings config facts room.investor row found (at_investor.QuoteGone room.n word moment) [] (record {
+        replies = λ request response answer other at. cc;
+        award = λ request response other at. cc;
+      }) tt
+  at_investors (duty.Declined room moment) is = λ dealer row found.
+      market_brings config facts room.investor row found (at_investor.DealerDeclined room.n dealer moment) [] (record {
+        replies = λ request response answer other at. cc;
+        award = λ request response other at. cc;
+      }) tt
+  at_investors (duty.Answer room response answer moment) is = λ fits row found.
+      market_brings config facts room.investor row found (at_investor.Answered room.n response answer moment) []
+      (replied room response answer moment is fits row found) tt
+  at_investors (duty.Close room moment) is = λ row found.
+      market_brings config facts room.investor row found (at_investor.Closed room.n moment) [] (record {
+        replies = λ request response answer other at. cc;
+        award = λ request response other at. cc;
+      }) tt
+  at_investors other is = tt
+
+  in_rooms : (by : Actor) (d : Duty) → DutyTimed config facts d → RoomMay RoomTimed config facts by d
+  unfolding book.event_facts
+  in_rooms by (duty.Open room ask dealers moment) is =
+      plain_room config facts room (is_vacant (of_room room facts)) (Opened (record { ask = ask; dealers = dealers }))
       (duties_of_open (of_room room facts) room ask dealers moment) (λ now. tt)
-      (λ now. opened_left config facts now room ask dealers moment (is_vacant (of_room room facts))))
-  duty_brings by (duty.Show dealer room ask moment) is =
-      numbered_does (Brings config facts) (none config facts) config dealer _ (λ row found. unless_does (Brings config facts) (none config facts) _ _
-      (shown_brings config facts (dealer_of dealer row) room ask moment))
-  duty_brings by (duty.Ready room moment) is =
-      in_the_room config facts room true at_room.Ready []
-      (plain_room config facts room (is_opening (of_room room facts)) Readied [] (λ now. tt) (λ now. tt))
-  duty_brings by (duty.Post room quote price valid_until moment) is =
-      by_does (Brings config facts) (none config facts) (acting_dealer config by) _ (λ dealer.
+      (λ now. opened_left config facts now room ask dealers moment (is_vacant (of_room room facts)))
+  in_rooms by (duty.Ready room moment) is =
+      plain_room config facts room (is_opening (of_room room facts)) Readied [] (λ now. tt) (λ now. tt)
+  in_rooms (actor.Firm number) (duty.Post room quote price valid_until moment) is = λ row found.
       let known = of_room room facts in
-      let word = word_for config dealer quote in
-      let duties = duties_of_post known room dealer.number (offer_of config dealer quote price valid_until) moment in
-      in_the_room config facts room (has_word_for config dealer quote && hears known dealer.number)
-      (at_room.Post dealer.number word price valid_until) duties
-      (plain_room config facts room (takes_quotes known) (Posted (quote_posted dealer.number word price valid_until)) duties
-      (λ now. tt) (λ now. follows_so config facts now (hears known dealer.number && takes_quotes known)
-      (duty.Relay room (offer_of config dealer quote price valid_until) moment) tt)))
-  duty_brings by (duty.Relay room offer moment) is =
-      comes config facts room.investor room.n (at_investor.QuoteCame room.n offer moment) (λ row found. record {
-        replies = λ request response answer other at. cc;
-        award = λ request response other at. cc;
-      })
-  duty_brings by (duty.Unpost room quote moment) is =
-      by_does (Brings config facts) (none config facts) (acting_dealer config by) _ (λ dealer.
+      let word = word_for config (dealer_of number row) quote in
+      let offer = offer_of config (dealer_of number row) quote price valid_until in
+      plain_room config facts room (takes_quotes known) (Posted (quote_posted number word price valid_until))
+      (duties_of_post known room number offer moment) (λ now. tt)
+      (λ now. follows_so config facts now (hears known number && takes_quotes known)
+      (duty.Relay room offer moment) tt)
+  in_rooms (actor.Firm number) (duty.Unpost room quote moment) is = λ row found.
       let known = of_room room facts in
-      let word = word_for config dealer quote in
-      let duties = duties_of_unpost known room dealer.number word moment in
-      in_the_room config facts room (has_word_for config dealer quote && hears known dealer.number)
-      (at_room.Unpost dealer.number word) duties
-      (plain_room config facts room (may_unpost known dealer.number word) (Unposted dealer.number word) duties
-      (λ now. tt) (λ now. follows_so config facts now (hears known dealer.number && may_unpost known dealer.number word)
-      (duty.Gone room word moment) tt)))
-  duty_brings by (duty.Gone room word moment) is =
-      comes config facts room.investor room.n (at_investor.QuoteGone room.n word moment) (λ row found. record {
-        replies = λ request response answer other at. cc;
-        award = λ request response other at. cc;
-      })
-  duty_brings by (duty.Decline room moment) is =
-      by_does (Brings config facts) (none config facts) (acting_dealer config by) _ (λ dealer.
+      let word = word_for config (dealer_of number row) quote in
+      plain_room config facts room (may_unpost known number word) (Unposted number word)
+      (duties_of_unpost known room number word moment) (λ now. tt)
+      (λ now. follows_so config facts now (hears known number && may_unpost known number word)
+      (duty.Gone room word moment) tt)
+  in_rooms (actor.Firm number) (duty.Decline room moment) is = λ row found.
       let known = of_room room facts in
-      let duties = duties_of_decline known room dealer.number moment in
-      in_the_room config facts room (hears known dealer.number) (at_room.Decline dealer.number) duties
-      (plain_room config facts room (takes_quotes known) (Noted dealer.number) duties
-      (λ now. tt) (λ now. follows_so config facts now (hears known dealer.number && takes_quotes known)
-      (duty.Declined room moment) tt)))
-  duty_brings by (duty.Declined room moment) is =
-      by_does (Brings config facts) (none config facts) (acting_dealer config by) _ (λ dealer. comes config facts room.investor room.n
-      (at_investor.DealerDeclined room.n dealer.row.name moment) (λ row found. record {
-        replies = λ request response answer other at. cc;
-        award = λ request response other at. cc;
-      }))
-  duty_brings by (duty.Hit room response word moment) is =
-      if_does (Brings config facts) (none config facts) _ _ (hit_brings config facts room response word moment is
-      (option_map (answer_to_hit facts) (quote_asked config (hit_word (of_room room facts) word moment))))
-  duty_brings by (duty.Pass room response moment) is =
-      in_the_room config facts room true (at_room.Pass moment) (duties_of_pass (of_room room facts) room response moment)
-      (plain_room config facts room (is_open (of_room room facts)) (Ended passed moment)
+      plain_room config facts room (takes_quotes known) (Noted number)
+      (duties_of_decline known room number moment) (λ now. tt)
+      (λ now. follows_so config facts now (hears known number && takes_quotes known)
+      (duty.Declined room moment) tt)
+  in_rooms by (duty.Hit room response word moment) is = is
+  in_rooms by (duty.Pass room response moment) is =
+      plain_room config facts room (is_open (of_room room facts)) (Ended passed moment)
       (duties_of_pass (of_room room facts) room response moment)
       (λ now kind. absurd (false≢true kind))
-      (λ now. passed_left config facts now room response moment (dealers_of (request_of (of_room room facts))) (is_open (of_room room facts))))
-  duty_brings by (duty.Answer room response answer moment) is =
-      invested_brings config facts room.investor _ (λ row found. by_test row found (replies_to response.k answer) refl)
-    where
-      by_test : (row : InvestorRow) → investor_numbered config room.investor ≡ Some row → (b : Bool)
-          → replies_to response.k answer ≡ b
-          → Brings config facts (if b then where_known facts room.n response.k
-          (at_investor.Answered room.n response answer moment) (market_of config room.investor row) else nothing)
-      by_test row found true test =
-          if_does (Brings config facts) (none config facts) _ (at_market facts (market_of config room.investor row)
-          (at_investor.Answered room.n response answer moment) [])
-          (market_brings config facts room.investor row found (at_investor.Answered room.n response answer moment) []
-          (replied room response answer moment is test row found) tt)
-      by_test row found false test = none config facts
-  duty_brings by (duty.Close room moment) is =
-      comes config facts room.investor room.n (at_investor.Closed room.n moment) (λ row found. record {
-        replies = λ request response answer other at. cc;
-        award = λ request response other at. cc;
-      })
-  duty_brings by (duty.Tell dealer room close moment) is =
-      numbered_does (Brings config facts) (none config facts) config dealer _
-      (λ row found. told_brings config facts (dealer_of dealer row) room close moment is _ refl)
-  duty_brings (actor.Firm number) (duty.Drop last moment) is =
-      numbered_does (Brings config facts) (none config facts) config number _ (λ row found. if_does (Brings config facts) (none config facts) _ _
-      (dropped_brings config facts number row last moment))
-  duty_brings actor.Clock (duty.Drop last moment) is = none config facts
+      (λ now. passed_left config facts now room response moment (dealers_of (request_of (of_room room facts)))
+      (is_open (of_room room facts)))
+  in_rooms by other is = tt
+
+  pub duty_brings : (by : Actor) (d : Duty) → DutyTimed config facts d → Brings config facts (duty_effect config facts by d)
+  duty_brings by d is =
+      duty_walks DealerTimed InvestorTimed RoomTimed config facts (Brings config facts) walks by d
+      (at_dealers by d is) (at_investors d is) (in_rooms by d is)
 
   pub sweep_brings : (room : RoomRef) (moment : ℕ) → Brings config facts (sweep_effect config facts room moment)
-  unfolding sweep_effect book.event_facts
+  unfolding book.event_facts
   sweep_brings room moment =
-      in_the_room config facts room true (at_room.Expire moment) (duties_of_expire (of_room room facts) room moment)
+      sweep_walks DealerTimed InvestorTimed RoomTimed config facts (Brings config facts) walks room moment
       (plain_room config facts room (may_expire (of_room room facts) moment) (Ended expired moment)
       (duties_of_expire (of_room room facts) room moment)
       (λ now kind. absurd (false≢true kind))
-      (λ now. expired_left config facts now room moment (dealers_of (request_of (of_room room facts))) (may_expire (of_room room facts) moment)))
+      (λ now. expired_left config facts now room moment (dealers_of (request_of (of_room room facts)))
+      (may_expire (of_room room facts) moment)))
 
   -- A message of an investor.
 

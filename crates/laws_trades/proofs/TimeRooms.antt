@@ -1,5 +1,5 @@
 -- What an action in a room brings of the moments of trades.
-use Rattle.std.proofs.Common.{◌≡◌, ◌&&◌, ℕ, Bool, true, false, List, [], ◌∷◌, ◌++◌, map, Option}
+use Rattle.std.proofs.Common.{◌≡◌, ℕ, Bool, true, false, List, [], ◌∷◌, ◌++◌, map, Option}
 use Rattle.std.proofs.Common.{Some, None, refl, sym, ap, ◌∙◌, subst, inl, if◌then◌else◌, Result, Ok}
 use Rattle.std.proofs.Common.{Err}
 use Rattle.market_terms.specs.declared.asks.Ask.{Ask}
@@ -10,7 +10,7 @@ use Rattle.market_terms.specs.declared.duties.Duty.TheVariants as duty
 use Rattle.market_terms.specs.declared.rooms.ResponseRef.{ResponseRef}
 use Rattle.market_terms.specs.declared.rooms.RoomRef.{RoomRef}
 use Rattle.quote_word.specs.declared.settled.Settled.{Settled}
-use Rattle.venue_rows.specs.Rows.{Configuration, has_room}
+use Rattle.venue_rows.specs.Rows.{Configuration}
 use Rattle.venue_steps.specs.RoomSteps.{close_for, dealers_of, hit_duties, reply_to_pass}
 use Rattle.venue_steps.specs.RoomSteps.{shown_then_ready, told_in, where_follows}
 use Rattle.request_room.specs.Book.{award_of, end_by, expired, hit_outcome, hit_refusal, passed}
@@ -18,8 +18,7 @@ use Rattle.request_room.specs.Book.{where_so}
 use Rattle.request_room.specs.Book as book
 use Rattle.request_room.specs.RoomFacts.{Ended, RoomFact, request_of}
 use Rattle.request_room.specs.declared.ends.End.{End}
-use Rattle.request_room.specs.declared.events.RoomEvent.{RoomEvent}
-use Rattle.step_replay.specs.Actions.{QuoteRef, hit_with, in_room, lifting, nothing}
+use Rattle.step_replay.specs.Actions.{QuoteRef, hit_with, lifting, nothing}
 use Rattle.step_replay.specs.Actions.{quote_with_word}
 use Rattle.step_replay.specs.DealerTrail as dealer_trail
 use Rattle.step_replay.specs.EachLemmas.{every_both}
@@ -27,20 +26,13 @@ use Rattle.step_replay.specs.GrowthLemmas.{in_right}
 use Rattle.step_replay.specs.Lists.{Every, In}
 use Rattle.step_replay.specs.PlaceLemmas.{own_room, room_grown}
 use Rattle.step_replay.specs.VenueFacts.{AtDealer, Fact, InRoom, of_room}
-use Rattle.day_parts.specs.ActionCases.{if_does}
-use Rattle.day_parts.specs.KeptItems.{every_map}
+use Rattle.laws_days.specs.KeptItems.{every_map}
 use Rattle.laws_trades.proofs.AwardedWords.{IsWon, is_won, settled_end}
 use Rattle.laws_trades.specs.TradeTimes.{IsAwarded, IsHitAt}
-use Rattle.laws_trades.proofs.TimeParts.{Brings, DutyTimed, FactTimed, hit_grown, none, tell_at}
+use Rattle.laws_trades.proofs.TimeParts.{Brings, DutyTimed, FactTimed, hit_grown, tell_at}
 
 module _ (config : Configuration) (facts : List Fact) where
   -- In a room.
-
-  pub in_the_room : (room : RoomRef) (may : Bool) (event : RoomEvent) (duties : List Duty)
-      → Brings config facts (record { facts = map (InRoom room) (book.event_facts (of_room room facts) event); duties = duties })
-      → Brings config facts (in_room config facts room may event duties)
-  in_the_room room may event duties is =
-      if_does (Brings config facts) (none config facts) (has_room config room.investor room.n && may) _ is
 
   -- a fact that says nothing of an end, and duties that are of no hit
   pub plain_room : (room : RoomRef) (b : Bool) (fact : RoomFact) (duties : List Duty)

@@ -78,17 +78,17 @@ in_order date one other last =
     append_assoc (date ++ 45 ∷ one) (45 ∷ other) (45 ∷ last)
     ∙ append_assoc date (45 ∷ one) ((45 ∷ other) ++ (45 ∷ last))
 
-pub one_name : (date buyer buyer_too seller seller_too : List ℕ) (k k_too : ℕ)
-    → Every IsPlain buyer → Every IsPlain buyer_too → Every IsPlain seller
-    → Every IsPlain seller_too
-    → trade_name date buyer seller k ≡ trade_name date buyer_too seller_too k_too
-    → (buyer ≡ buyer_too) × (seller ≡ seller_too) × (decimal k ≡ decimal k_too)
-one_name date buyer buyer_too seller seller_too k k_too plain plain_too sold sold_too is =
-    let same = append_cancel_left date _ _ (sym (in_order date buyer seller (decimal k)) ∙ is
-    ∙ in_order date buyer_too seller_too (decimal k_too)) in
-    let first = parted buyer buyer_too (seller ++ (45 ∷ decimal k))
-    (seller_too ++ (45 ∷ decimal k_too)) plain plain_too (ap (drop 1) same) in
-    let second = parted seller seller_too (decimal k) (decimal k_too) sold sold_too first.1 in
+pub one_name : (date investor investor_too dealer dealer_too : List ℕ) (k k_too : ℕ)
+    → Every IsPlain investor → Every IsPlain investor_too → Every IsPlain dealer
+    → Every IsPlain dealer_too
+    → trade_name date investor dealer k ≡ trade_name date investor_too dealer_too k_too
+    → (investor ≡ investor_too) × (dealer ≡ dealer_too) × (decimal k ≡ decimal k_too)
+one_name date investor investor_too dealer dealer_too k k_too plain plain_too sold sold_too is =
+    let same = append_cancel_left date _ _ (sym (in_order date investor dealer (decimal k)) ∙ is
+    ∙ in_order date investor_too dealer_too (decimal k_too)) in
+    let first = parted investor investor_too (dealer ++ (45 ∷ decimal k))
+    (dealer_too ++ (45 ∷ decimal k_too)) plain plain_too (ap (drop 1) same) in
+    let second = parted dealer dealer_too (decimal k) (decimal k_too) sold sold_too first.1 in
     (first.0, second.0, second.1)
 
 -- a line of one firm and number is of one name

@@ -67,8 +67,8 @@ use Rattle.step_replay.specs.StepLemmas.{kept_by_all}
 use Rattle.step_replay.specs.TrailKept.{IsKept}
 use Rattle.step_replay.specs.VenueFacts.{Fact, of_dealer}
 use Rattle.step_replay.specs.declared.steps.Step.{Step}
-use Rattle.shown_laws.specs.ShownQuotes.{AreOfTheirOwn}
-use Rattle.trade_laws.specs.Trades.{Trade}
+use Rattle.laws_shown.specs.ShownQuotes.{AreOfTheirOwn}
+use Rattle.laws_trades.specs.Trades.{Trade}
 use Rattle.laws_trades.specs.Withdrawals.{Confirms, IsSaid}
 
 -- Lists.

@@ -1,5 +1,9 @@
+pub mod Awards
 pub mod Cancels
 pub mod PrintedTrades
+pub mod SentTrades
 pub mod TradeLines
+pub mod TradeNames
 pub mod TradeTimes
+pub mod Trades
 pub mod Withdrawals

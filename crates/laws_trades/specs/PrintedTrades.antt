@@ -12,7 +12,7 @@ use Rattle.investor_desk.specs.declared.standing.RequestClose.TheVariants.{Award
 use Rattle.step_replay.specs.DealerTrail as dealer_trail
 use Rattle.step_replay.specs.DealerTrail.{DealerEntry, rooms_by}
 use Rattle.step_replay.specs.InvestorTrail.{InvestorEntry, AtDesk, Sent, sent_by}
-use Rattle.trade_laws.specs.TradeNames.{was_asked_by}
+use Rattle.laws_trades.specs.TradeNames.{was_asked_by}
 
 -- To an investor.
 

@@ -19,7 +19,7 @@ use Rattle.investor_desk.specs.declared.standing.AcceptedRequest.{AcceptedReques
 use Rattle.investor_desk.specs.declared.verdicts.InvestorVerdict.TheVariants as verdict
 use Rattle.request_room.specs.RoomFacts.{Ended, is_awarded_kind}
 use Rattle.request_room.specs.declared.ends.End.{End}
-use Rattle.venue_steps.specs.InvestorSteps.{replies_to}
+use Rattle.venue_steps.specs.Replies.{replies_to}
 use Rattle.step_replay.specs.DealerTrail.{rooms_by}
 use Rattle.step_replay.specs.InvestorTrail.{InvestorEntry, book_by, entries_of, facts_of}
 use Rattle.step_replay.specs.Lists.{In}

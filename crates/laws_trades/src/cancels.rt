@@ -9,12 +9,12 @@ ghost use Rattle.step_replay.specs.LiveDays.{live_trail};
 ghost use Rattle.step_replay.specs.VenueFacts.{of_dealer};
 ghost use Rattle.step_replay.specs.declared.steps.Step.{Step};
 ghost use Rattle.step_replay.specs.declared.steps.Step.TheVariants.{In};
-ghost use Rattle.trade_laws.specs.LiveDuties.{NoDutyIsLeft};
+ghost use Rattle.laws_days.specs.LiveDuties.{NoDutyIsLeft};
 ghost use Rattle.venue_rows.specs.Rows.{Configuration, dealer_numbered};
 ghost use Rattle.venue_rows.specs.declared.dealer_rows.DealerRow.{DealerRow};
 
 use dealer_desk::{limits_are_kept, what_is_asked_is_of_the_day};
-use trade_laws::no_duty_is_left_on_a_live_day;
+use laws_days::no_duty_is_left_on_a_live_day;
 
 /// After the line by which a dealer cancels all its quotes, it was sent one 35=AI more for each
 /// quote that was droppable, in the order of acceptance, and nothing else.

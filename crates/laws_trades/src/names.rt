@@ -1,43 +1,51 @@
-//! One name for each trade, in the lines of both sides.
+//! How a trade is named by those who made it.
 ghost use Rattle.std.specs.Prelude.{◌≡◌, ℕ, List, Some};
-ghost use Rattle.laws_trades.specs.TradeLines.{AreNamed};
-ghost use Rattle.step_replay.specs.AuditTrail as venue;
-ghost use Rattle.step_replay.specs.declared.steps.Step.{Step};
-ghost use Rattle.trade_laws.specs.LiveDuties.{NoDutyIsLeft};
-ghost use Rattle.trade_laws.specs.Trades.{Deal, Trade};
-ghost use Rattle.venue_rows.specs.Rows.{Configuration, KeepsLimits, investor_numbered};
+ghost use Rattle.venue_rows.specs.Rows.{Configuration, KeepsLimits, dealer_numbered};
+ghost use Rattle.venue_rows.specs.Rows.{investor_numbered};
+ghost use Rattle.venue_rows.specs.declared.dealer_rows.DealerRow.{DealerRow};
 ghost use Rattle.venue_rows.specs.declared.investor_rows.InvestorRow.{InvestorRow};
+ghost use Rattle.step_replay.specs.AuditTrail.{audit_trail};
+ghost use Rattle.step_replay.specs.declared.steps.Step.{Step};
+ghost use Rattle.step_replay.specs.VenueFacts.{of_dealer};
+ghost use Rattle.laws_days.specs.LiveDuties.{NoDutyIsLeft};
+ghost use Rattle.laws_trades.specs.TradeNames.{NamesOneTrade, hits_of, notices_to};
 
-use dealer_desk::{limits_are_kept, the_same_facts_have_the_same_notes};
-use trade_laws::{a_trade_is_named_on_both_sides, both_sides_of_a_trade_agree};
+use dealer_desk::{limits_are_kept, what_is_asked_is_of_the_day};
 
-/// Where no duty is left, the `trade` lines that the venue prints of one trade, one for each side,
-/// have the same name (`both`), and no other trade of the day has it (`no_other`).
+/// A trade has one name: by the firms' names (448), as they stand at each firm's desk, the rooms of
+/// a dealer's notices 694=1 on an investor's requests begin the list of those of the investor's
+/// answers 297=0 to hits of the dealer's quotes.
 ///
-/// Each line stands behind the message that tells its side of the trade (`specs/TradeLines`). The
+/// So the k-th of each is of one request, and the day, the two names and k name a trade. The
 /// premise: the configuration keeps its limits.
 ///
-/// It ends at: days on which a duty is left; that no other `trade` line is printed; TradeID (1003),
-/// which is tested to be that name.
-pub fn a_trade_is_printed_under_one_name()
-    ensures both { (config : Configuration) (steps : List Step) (buyer : InvestorRow)
-        → KeepsLimits config → NoDutyIsLeft (venue.audit_trail config steps)
-        → (trade : Trade config (venue.audit_trail config steps).facts)
-        → investor_numbered config trade.deal.investor ≡ Some buyer
-        → (name : List ℕ)
-        × AreNamed config (venue.audit_trail config steps) trade.deal buyer name }
-    ensures no_other { (config : Configuration) (steps : List Step) (name : List ℕ)
-        (one other : Deal config (venue.audit_trail config steps).facts)
-        (buyer another : InvestorRow) → KeepsLimits config
-        → NoDutyIsLeft (venue.audit_trail config steps)
-        → investor_numbered config one.investor ≡ Some buyer
-        → investor_numbered config other.investor ≡ Some another
-        → AreNamed config (venue.audit_trail config steps) one buyer name
-        → AreNamed config (venue.audit_trail config steps) other another name
-        → (one.investor ≡ other.investor) × (one.asked.number ≡ other.asked.number) }
+/// It ends at: two firms of one name, which no program takes (`KeepsLimits`); the `trade` lines
+/// from which TradeID (1003) is made (`laws_trades::a_trade_is_printed_under_one_name`).
+pub fn a_trade_has_one_name()
+    ensures { (config : Configuration) (steps : List Step) (investor dealer : ℕ)
+        (investor_row : InvestorRow) (dealer_row : DealerRow) → KeepsLimits config
+        → investor_numbered config investor ≡ Some investor_row
+        → dealer_numbered config dealer ≡ Some dealer_row
+        → NamesOneTrade (audit_trail config steps).facts investor dealer investor_row.name dealer_row.name }
 {
-    a_trade_is_named_on_both_sides();
-    both_sides_of_a_trade_agree();
     limits_are_kept();
-    the_same_facts_have_the_same_notes();
+    what_is_asked_is_of_the_day();
+}
+
+/// Where no duty is left, the two lists of `a_trade_has_one_name` are one: each trade has one place
+/// in both.
+///
+/// The premise is that of `a_trade_has_one_name`.
+///
+/// It ends at: days on which a duty is left; what `a_trade_has_one_name` ends at.
+pub fn a_trade_is_named_on_both_sides()
+    ensures { (config : Configuration) (steps : List Step) (investor dealer : ℕ)
+        (investor_row : InvestorRow) (dealer_row : DealerRow) → KeepsLimits config
+        → investor_numbered config investor ≡ Some investor_row
+        → dealer_numbered config dealer ≡ Some dealer_row → NoDutyIsLeft (audit_trail config steps)
+        → hits_of investor dealer_row.name (audit_trail config steps).facts
+        ≡ notices_to investor_row.name (of_dealer dealer (audit_trail config steps).facts) }
+{
+    limits_are_kept();
+    what_is_asked_is_of_the_day();
 }

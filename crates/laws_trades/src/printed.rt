@@ -8,7 +8,7 @@ ghost use Rattle.step_replay.specs.NoteViews.{dealer_note_view};
 ghost use Rattle.step_replay.specs.NotedTrail.{notes_by};
 ghost use Rattle.step_replay.specs.VenueFacts.{of_dealer, of_investor};
 ghost use Rattle.step_replay.specs.declared.steps.Step.{Step};
-ghost use Rattle.trade_laws.specs.TradeNames.{hits_of, notices_to};
+ghost use Rattle.laws_trades.specs.TradeNames.{hits_of, notices_to};
 ghost use Rattle.venue_rows.specs.Rows.{Configuration, dealer_numbered, investor_numbered};
 ghost use Rattle.venue_rows.specs.declared.dealer_rows.DealerRow.{DealerRow};
 ghost use Rattle.venue_rows.specs.declared.investor_rows.InvestorRow.{InvestorRow};
@@ -24,14 +24,14 @@ use dealer_desk::the_same_facts_have_the_same_notes;
 /// It ends at: the lines that are printed to the dealer
 /// (`laws_trades::a_trade_is_printed_to_its_dealer`).
 pub fn a_trade_is_printed_to_its_investor()
-    ensures { (config : Configuration) (steps : List Step) (investor : ℕ) (buyer : InvestorRow)
+    ensures { (config : Configuration) (steps : List Step) (investor : ℕ) (investor_row : InvestorRow)
         (dealer : List ℕ) (before later : List RoomRef) (room : RoomRef)
-        → investor_numbered config investor ≡ Some buyer
+        → investor_numbered config investor ≡ Some investor_row
         → hits_of investor dealer (venue.audit_trail config steps).facts
         ≡ before ++ room ∷ later
-        → IsPrintedAs config.date buyer.name dealer
+        → IsPrintedAs config.date investor_row.name dealer
         (of_investor investor (venue.audit_trail config steps).facts)
-        (notes_by (market_of config investor buyer)
+        (notes_by (market_of config investor investor_row)
         (of_investor investor (venue.audit_trail config steps).facts)) room
         (length before + 1) }
 {}
@@ -45,14 +45,14 @@ pub fn a_trade_is_printed_to_its_investor()
 /// It ends at: the lines that are printed to the investor
 /// (`laws_trades::a_trade_is_printed_to_its_investor`).
 pub fn a_trade_is_printed_to_its_dealer()
-    ensures { (config : Configuration) (steps : List Step) (dealer : ℕ) (seller : DealerRow)
+    ensures { (config : Configuration) (steps : List Step) (dealer : ℕ) (dealer_row : DealerRow)
         (investor : List ℕ) (before later : List RoomRef) (room : RoomRef)
-        → dealer_numbered config dealer ≡ Some seller
+        → dealer_numbered config dealer ≡ Some dealer_row
         → notices_to investor (of_dealer dealer (venue.audit_trail config steps).facts)
         ≡ before ++ room ∷ later
-        → IsPrintedToDealer config.date seller.name investor
+        → IsPrintedToDealer config.date dealer_row.name investor
         (of_dealer dealer (venue.audit_trail config steps).facts)
-        (dealer_note_view config.date seller
+        (dealer_note_view config.date dealer_row
         (venue.due_to dealer (venue.audit_trail config steps))) room (length before + 1) }
 {
     the_same_facts_have_the_same_notes();

@@ -17,7 +17,7 @@ ghost use Rattle.step_replay.specs.declared.steps.Step.{Step};
 ghost use Rattle.venue_rows.specs.Rows.{Configuration, dealer_numbered};
 ghost use Rattle.venue_rows.specs.declared.dealer_rows.DealerRow.{DealerRow};
 
-use laws_answers::an_award_is_in_time;
+use crate::awards::an_award_is_in_time;
 
 /// Both messages of a trade bear the moment of the award, which is that of the hit.
 ///

@@ -8,11 +8,11 @@ ghost use Rattle.step_replay.specs.DealerTrail.{facts_of, was_lifted};
 ghost use Rattle.step_replay.specs.Lists.{In};
 ghost use Rattle.step_replay.specs.VenueFacts.{of_dealer};
 ghost use Rattle.step_replay.specs.declared.steps.Step.{Step};
-ghost use Rattle.trade_laws.specs.Trades.{Trade};
+ghost use Rattle.laws_trades.specs.Trades.{Trade};
 ghost use Rattle.venue_rows.specs.Rows.{Configuration, dealer_numbered};
 ghost use Rattle.venue_rows.specs.declared.dealer_rows.DealerRow.{DealerRow};
 
-use shown_laws::quotes_are_shown_once;
+use laws_shown::quotes_are_shown_once;
 use step_replay::no_quote_is_lifted_and_withdrawn;
 
 /// A quote whose withdrawal was confirmed is never traded.

@@ -1,17 +1,15 @@
--- Every duty, message and sweep, line by line of the market's table: what it adds for a dealer and
--- what it leaves may be said.
-use Rattle.std.proofs.Common.{◌≡◌, ℕ, ◌<◌, Bool, true, false, ◌&&◌, List, [], ◌++◌, map}
+-- Every duty, message and sweep: what it adds for a dealer and what it leaves may be said.
+use Rattle.std.proofs.Common.{◌≡◌, ℕ, ◌<◌, Bool, true, false, List, [], ◌++◌, map}
 use Rattle.std.proofs.Common.{Option, Some, None, option_map, option_to_list, Result, Ok, Err, refl}
 use Rattle.std.proofs.Common.{if◌then◌else◌, is_some}
 use Rattle.fix_fields.specs.declared.limits.TheConstants.{A_DAY}
-use Rattle.market_terms.specs.declared.closes.Close.{Close}
 use Rattle.market_terms.specs.declared.closes.HitRefusal.{HitRefusal}
 use Rattle.market_terms.specs.declared.duties.Duty.{Duty}
 use Rattle.market_terms.specs.declared.duties.Duty.TheVariants as duty
 use Rattle.market_terms.specs.declared.rooms.ResponseRef.{ResponseRef}
 use Rattle.market_terms.specs.declared.rooms.RoomRef.{RoomRef}
 use Rattle.quote_word.specs.declared.settled.Settled.{Settled}
-use Rattle.venue_rows.specs.Rows.{Configuration, dealer_numbered, has_room, investor_numbered}
+use Rattle.venue_rows.specs.Rows.{Configuration, dealer_numbered, investor_numbered}
 use Rattle.venue_rows.specs.declared.dealer_rows.DealerRow.{DealerRow}
 use Rattle.venue_rows.specs.declared.investor_rows.InvestorRow.{InvestorRow}
 use Rattle.dealer_desk.specs.DealerFacts.{quote_to_drop}
@@ -30,20 +28,17 @@ use Rattle.request_room.specs.RoomFacts.{RoomFact}
 use Rattle.request_room.specs.declared.ends.End.{End}
 use Rattle.request_room.specs.declared.events.RoomEvent.{RoomEvent}
 use Rattle.request_room.specs.declared.events.RoomEvent.TheVariants as at_room
-use Rattle.venue_places.specs.Dealers.{Dealer, QuoteRef, acting_dealer, dealer_at, dealer_of}
+use Rattle.venue_places.specs.Dealers.{Dealer, QuoteRef, dealer_at, dealer_of}
 use Rattle.venue_places.specs.Dealers.{offer_of, quote_with_word, word_for}
 use Rattle.venue_places.specs.declared.actors.Actor.{Actor}
 use Rattle.venue_places.specs.declared.actors.Actor.TheVariants as actor
-use Rattle.venue_steps.specs.InvestorSteps.{replies_to}
-use Rattle.venue_steps.specs.RoomSteps.{duties_of_decline}
-use Rattle.venue_steps.specs.RoomSteps.{duties_of_post, duties_of_unpost}
-use Rattle.step_replay.specs.Actions.{Effect, answer_to_drop, answered_by, at_dealer, at_market}
-use Rattle.step_replay.specs.Actions.{declined_by, done_by, done_for, drop_at, dropped_by}
-use Rattle.step_replay.specs.Actions.{hit_with, in_room, left_by, left_by_drop, left_by_investor}
-use Rattle.step_replay.specs.Actions.{lifting, nothing, posted_by, received_by_dealer}
-use Rattle.step_replay.specs.Actions.{received_by_investor, settlement_of, shown_to, told_of}
-use Rattle.step_replay.specs.Actions.{told_to}
-use Rattle.step_replay.specs.Actions.{unposted_by, verdict_on, where_known}
+use Rattle.venue_steps.specs.RoomSteps.{duties_of_hit}
+use Rattle.step_replay.specs.Actions.{Effect, answer_to_drop, at_dealer, at_market}
+use Rattle.step_replay.specs.Actions.{done_by, done_for, drop_at}
+use Rattle.step_replay.specs.Actions.{hit_with, left_by, left_by_investor}
+use Rattle.step_replay.specs.Actions.{lifting, nothing, received_by_dealer}
+use Rattle.step_replay.specs.Actions.{received_by_investor, settlement_of}
+use Rattle.step_replay.specs.Actions.{verdict_on}
 use Rattle.step_replay.specs.DealerTrail as dealer_trail
 use Rattle.step_replay.specs.DealerTrail.{book_by, entries_of, rooms_by}
 use Rattle.step_replay.specs.DutyEffects.{duty_effect, message_effect, sweep_effect}
@@ -52,9 +47,10 @@ use Rattle.step_replay.specs.InvestorTrail as investor_trail
 use Rattle.step_replay.specs.Lists.{Every}
 use Rattle.step_replay.specs.VenueFacts.{AtDealer, AtInvestor, Fact, InRoom, of_dealer}
 use Rattle.step_replay.specs.VenueFacts.{of_investor, of_room}
+use Rattle.laws_days.specs.DutyWalk.{AnyInvestor, DealerMay, RoomMay, Walks, any_investor}
+use Rattle.laws_days.specs.DutyWalk.{duty_walks, settlement_found, sweep_walks}
 use Rattle.laws_wire.proofs.DealerTexts as dealer
 use Rattle.laws_wire.proofs.DealerTexts.{event_adds}
-use Rattle.laws_wire.proofs.FieldValues.{IsGiven}
 use Rattle.laws_wire.proofs.InvestorTexts as investor
 use Rattle.laws_wire.proofs.DutyTexts.{AreNamed, DutyGiven, EffectGiven, EntryGiven, FactGiven}
 use Rattle.laws_wire.proofs.DutyTexts.{dealer_leaves}
@@ -73,23 +69,8 @@ module _ (D : ℕ → Type 0) (of_day : (n : ℕ) → n < A_DAY → D n) (config
   when true effect given = given
   when false effect given = nothing_given
 
-  unless : (b : Bool) (effect : Effect) → EffectGiven D effect
-      → EffectGiven D (if b then nothing else effect)
-  unless true effect given = nothing_given
-  unless false effect given = given
-
   rooms : (at : RoomRef) (added : List RoomFact) → Every (FactGiven D) (map (InRoom at) added)
   rooms at added = each_made (FactGiven D) (InRoom at) (λ fact. tt) added
-
-  in_a_room : (at : RoomRef) (may : Bool) (event : RoomEvent) (duties : List Duty)
-      → Every (DutyGiven D) duties → EffectGiven D (in_room config facts at may event duties)
-  in_a_room at may event duties given =
-      when (has_room config at.investor at.n && may)
-      (record {
-        facts = map (InRoom at) (room.event_facts (of_room at facts) event);
-        duties = duties;
-      })
-      (record { facts = rooms at (room.event_facts (of_room at facts) event); duties = given })
 
   market_given : (market : InvestorMarket) (event : InvestorEvent) (duties : List Duty)
       → Every (DutyGiven D) duties → EffectGiven D (at_market facts market event duties)
@@ -97,11 +78,6 @@ module _ (D : ℕ → Type 0) (of_day : (n : ℕ) → n < A_DAY → D n) (config
     facts = each_made (FactGiven D) (AtInvestor market.firm) (λ entry. tt) _;
     duties = given;
   }
-
-  known : (request : ℕ) (quote : Option ℕ) (event : InvestorEvent) (market : InvestorMarket)
-      → EffectGiven D (where_known facts request quote event market)
-  known request quote event market =
-      when _ (at_market facts market event []) (market_given market event [] tt)
 
   invested : (number : ℕ) (action : InvestorMarket → Effect)
       → ((row : InvestorRow) → investor_numbered config number ≡ Some row
@@ -124,13 +100,6 @@ module _ (D : ℕ → Type 0) (of_day : (n : ℕ) → n < A_DAY → D n) (config
           → EffectGiven D (done_by (option_map (dealer_of number) found) action)
       by_row None is = nothing_given
       by_row (Some row) is = each row is
-
-  acting : (by : Actor) (action : Dealer → Effect)
-      → ((number : ℕ) (row : DealerRow) → dealer_numbered config number ≡ Some row
-      → EffectGiven D (action (dealer_of number row)))
-      → EffectGiven D (done_by (acting_dealer config by) action)
-  acting (actor.Firm number) action each = numbered number action (each number)
-  acting actor.Clock action each = nothing_given
 
   desk_given : (number : ℕ) (row : DealerRow) (event : DealerEvent) (duties : List Duty)
       → dealer.EventGiven D event → Every (DutyGiven D) duties
@@ -157,33 +126,6 @@ module _ (D : ℕ → Type 0) (of_day : (n : ℕ) → n < A_DAY → D n) (config
         duties = left;
       }
 
-  -- At a dealer.
-
-  tells_of : (number : ℕ) (row : DealerRow) (close : Close) (moment : ℕ) → D moment
-      → (request : Option ℕ)
-      → EffectGiven D (told_of config facts (dealer_of number row) close moment request)
-  tells_of number row close moment day None = nothing_given
-  tells_of number row close moment day (Some request) =
-      when _ (at_dealer config facts (dealer_of number row) (at_desk.Told request close moment) [])
-      (desk_given number row (at_desk.Told request close moment) [] day tt)
-
-  drops : (last moment number : ℕ) (row : DealerRow) → D moment
-      → EffectGiven D (dropped_by config facts last moment (dealer_of number row))
-  drops last moment number row day =
-      let own = of_dealer number facts in
-      when _ (at_dealer config facts (dealer_of number row) (drop_at own last moment)
-      (left_by_drop config facts last moment (dealer_of number row)))
-      (desk_given number row (drop_at own last moment)
-      (left_by_drop config facts last moment (dealer_of number row)) day
-      (every_both (DutyGiven D)
-      (option_to_list (unpost_dropped (rooms_by own) moment (answer_to_drop own last)
-      (quote_to_drop (book_by own) last)))
-      (option_to_list (further_drop
-      (book_by (own ++ entries_of config.date row own (drop_at own last moment))) last moment))
-      (unposts D (rooms_by own) moment (answer_to_drop own last) (quote_to_drop (book_by own) last)
-      day)
-      (drops_on D _ last moment day)))
-
   -- A hit.
 
   lifted : (found : Option QuoteRef) (outcome : Result End HitRefusal)
@@ -192,10 +134,11 @@ module _ (D : ℕ → Type 0) (of_day : (n : ℕ) → n < A_DAY → D n) (config
   lifted (Some hit) (Ok award) = (tt, tt)
   lifted (Some hit) (Err reason) = tt
 
-  hits_with : (at : RoomRef) (response : ResponseRef) (word moment : ℕ)
-      (settlement : Option Settled) → IsGiven response.id → D moment
+  hit_given : (at : RoomRef) (response : ResponseRef) (word moment : ℕ)
+      (settlement : Option Settled) → Every (DutyGiven D)
+      (duties_of_hit (of_room at facts) at response word moment true settlement)
       → EffectGiven D (hit_with config facts at response word moment settlement)
-  hits_with at response word moment settlement given day =
+  hit_given at response word moment settlement left =
       let before = of_room at facts in
       let outcome = hit_outcome before word moment settlement in
       let happened = room.event_facts before (at_room.Hit word moment settlement) in
@@ -203,68 +146,76 @@ module _ (D : ℕ → Type 0) (of_day : (n : ℕ) → n < A_DAY → D n) (config
         facts = every_both (FactGiven D) (lifting (quote_with_word config word) outcome)
             (map (InRoom at) happened) (lifted (quote_with_word config word) outcome)
             (rooms at happened);
-        duties = hits D before at response moment outcome given day;
+        duties = left;
       }
 
-  -- All duties, line by line.
+  -- Duties.
+
+  abbrev DealerGiven : ℕ → DealerRow → DealerEvent → List Duty → Type 0
+  DealerGiven number row event left = dealer.EventGiven D event × Every (DutyGiven D) left
+
+  abbrev RoomGiven : RoomRef → RoomEvent → List Duty → Type 0
+  RoomGiven at event left = Every (DutyGiven D) left
+
+  walks : Walks DealerGiven AnyInvestor RoomGiven config facts (EffectGiven D)
+  walks = record {
+    idle = nothing_given;
+    at_a_dealer = λ number row found event left given. desk_given number row event left given.0 given.1;
+    at_an_investor = λ number row found event any. market_given (market_of config number row) event [] tt;
+    in_a_room = λ at there event no_hit left given.
+        record { facts = rooms at (room.event_facts (of_room at facts) event); duties = given };
+    by_a_hit = λ at there response word moment given.
+        hit_given at response word moment (settlement_found config facts at word moment) given;
+  }
+
+  at_dealers : (by : Actor) (left : Duty) → DutyGiven D left → DealerMay DealerGiven config facts by left
+  at_dealers by (duty.Show dealer at ask moment) given = λ row found none. (given, tt)
+  at_dealers by (duty.Tell dealer at close moment) given =
+      λ row found request there may. (given, tt)
+  at_dealers (actor.Firm number) (duty.Drop last moment) given = λ row found.
+      let own = of_dealer number facts in (
+        given,
+        every_both (DutyGiven D)
+            (option_to_list (unpost_dropped (rooms_by own) moment (answer_to_drop own last)
+            (quote_to_drop (book_by own) last)))
+            (option_to_list (further_drop
+            (book_by (own ++ entries_of config.date row own (drop_at own last moment))) last moment))
+            (unposts D (rooms_by own) moment (answer_to_drop own last)
+            (quote_to_drop (book_by own) last) given)
+            (drops_on D _ last moment given),
+      )
+  at_dealers by other given = tt
+
+  in_rooms : (by : Actor) (left : Duty) → DutyGiven D left → RoomMay RoomGiven config facts by left
+  in_rooms by (duty.Open at ask dealers moment) given =
+      opens D (of_room at facts) at ask dealers moment given.0 given.1
+  in_rooms (actor.Firm number) (duty.Post at quote price valid_until moment) given = λ row found.
+      let offer = offer_of config (dealer_of number row) quote price valid_until in
+      follows D _ (duty.Relay at offer moment) ((named.dealers number row found, given.0), given.1)
+  in_rooms (actor.Firm number) (duty.Unpost at quote moment) given = λ row found.
+      follows D _ (duty.Gone at (word_for config (dealer_of number row) quote) moment) given
+  in_rooms (actor.Firm number) (duty.Decline at moment) given =
+      λ row found. follows D _ (duty.Declined at moment) given
+  in_rooms by (duty.Hit at response word moment) given =
+      hits D (of_room at facts) at response moment
+      (hit_outcome (of_room at facts) word moment (settlement_found config facts at word moment))
+      given.0 given.1
+  in_rooms by (duty.Pass at response moment) given =
+      passes D (of_room at facts) at response moment given.0 given.1
+  in_rooms by other given = tt
 
   pub duty_given : (by : Actor) (left : Duty) → DutyGiven D left
       → EffectGiven D (duty_effect config facts by left)
-  unfolding duty_effect
-  duty_given by (duty.Open at ask dealers moment) given =
-      in_a_room at true _ _ (opens D (of_room at facts) at ask dealers moment given.0 given.1)
-  duty_given by (duty.Show dealer at ask moment) given =
-      numbered dealer (shown_to config facts at ask moment)
-      (λ row is. unless _
-      (at_dealer config facts (dealer_of dealer row) (at_desk.Shown at ask moment) [])
-      (desk_given dealer row (at_desk.Shown at ask moment) [] given tt))
-  duty_given by (duty.Ready at moment) given = in_a_room at true _ [] tt
-  duty_given by (duty.Post at quote price valid_until moment) given =
-      acting by (posted_by config facts at quote price valid_until moment)
-      (λ number row is.
-      let offer = offer_of config (dealer_of number row) quote price valid_until in
-      in_a_room at _ _ (duties_of_post (of_room at facts) at number offer moment)
-      (follows D _ (duty.Relay at offer moment) ((named.dealers number row is, given.0), given.1)))
-  duty_given by (duty.Relay at offer moment) given =
-      invested at.investor _ (λ row is. known at.n None _ (market_of config at.investor row))
-  duty_given by (duty.Unpost at quote moment) given =
-      acting by (unposted_by config facts at quote moment)
-      (λ number row is.
-      let word = word_for config (dealer_of number row) quote in
-      in_a_room at _ _ (duties_of_unpost (of_room at facts) at number word moment)
-      (follows D _ (duty.Gone at word moment) given))
-  duty_given by (duty.Gone at word moment) given =
-      invested at.investor _ (λ row is. known at.n None _ (market_of config at.investor row))
-  duty_given by (duty.Decline at moment) given =
-      acting by (declined_by config facts at moment)
-      (λ number row is. in_a_room at _ _ (duties_of_decline (of_room at facts) at number moment)
-      (follows D _ (duty.Declined at moment) given))
-  duty_given by (duty.Declined at moment) given =
-      acting by _ (λ number row is.
-      invested at.investor _ (λ buyer there. known at.n None _
-      (market_of config at.investor buyer)))
-  duty_given by (duty.Hit at response word moment) given =
-      when _ _ (hits_with at response word moment _ given.0 given.1)
-  duty_given by (duty.Pass at response moment) given =
-      in_a_room at true _ _ (passes D (of_room at facts) at response moment given.0 given.1)
-  duty_given by (duty.Answer at response reply moment) given =
-      invested at.investor (answered_by facts at response reply moment)
-      (λ row is. when (replies_to response.k reply) _
-      (known at.n response.k _ (market_of config at.investor row)))
-  duty_given by (duty.Close at moment) given =
-      invested at.investor _ (λ row is. known at.n None _ (market_of config at.investor row))
-  duty_given by (duty.Tell dealer at close moment) given =
-      numbered dealer (told_to config facts at close moment)
-      (λ row is. tells_of dealer row close moment given _)
-  duty_given by (duty.Drop last moment) given =
-      acting by (dropped_by config facts last moment)
-      (λ number row is. drops last moment number row given)
+  duty_given by left given =
+      duty_walks DealerGiven AnyInvestor RoomGiven config facts (EffectGiven D) walks by left
+      (at_dealers by left given) (any_investor AnyInvestor config by left (λ number row event is. tt))
+      (in_rooms by left given)
 
   pub sweep_given : (at : RoomRef) (moment : ℕ) → D moment
       → EffectGiven D (sweep_effect config facts at moment)
-  unfolding sweep_effect
   sweep_given at moment day =
-      in_a_room at true _ _ (expires D (of_room at facts) at moment day)
+      sweep_walks DealerGiven AnyInvestor RoomGiven config facts (EffectGiven D) walks at moment
+      (expires D (of_room at facts) at moment day)
 
   -- A message.
 

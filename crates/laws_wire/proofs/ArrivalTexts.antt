@@ -39,7 +39,7 @@ use Rattle.quote_messages.specs.declared.session_faults.SessionRejectReason.TheV
 use Rattle.venue_rows.specs.Texts.{same_text, text_if}
 use Rattle.venue_rows.specs.declared.dealer_rows.DealerRow.{DealerRow}
 use Rattle.venue_rows.specs.declared.investor_rows.InvestorRow.{InvestorRow}
-use Rattle.shown_laws.proofs.ReadFields.{Stood, lines_kept, optional_kept, required_kept}
+use Rattle.laws_shown.proofs.ReadFields.{Stood, lines_kept, optional_kept, required_kept}
 use Rattle.laws_wire.proofs.FieldValues.{IsGiven, MayBeGiven, id_given, sequence_given, type_given}
 use Rattle.laws_wire.proofs.MessageFields.{IfMoment, RejectGiven}
 

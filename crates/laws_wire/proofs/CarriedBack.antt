@@ -11,7 +11,7 @@ use Rattle.step_replay.specs.Lists.{Every}
 use Rattle.step_replay.specs.declared.steps.Step.{Step}
 use Rattle.step_replay.specs.declared.steps.Step.TheVariants as step
 use Rattle.wire_messages.specs.ToFirm.{has_added, venue_fields}
-use Rattle.wire_laws.specs.Carried.{AreCarried, AreMade, IsCarried, IsMade}
+use Rattle.laws_wire.specs.Carried.{AreCarried, AreMade, IsCarried, IsMade}
 use Rattle.laws_wire.specs.Carriable.{CanAllBeCarried, CanBeCarried, is_of_day}
 use Rattle.laws_wire.proofs.BarLemmas.{InDay}
 use Rattle.laws_wire.proofs.DayTexts.{StepGiven}

@@ -2,7 +2,7 @@
 use Rattle.std.proofs.Common.{◌≡◌, ℕ, ◌-◌, ◌<◌, ◌==◌, zero, suc, Bool, true, false, not, List, []}
 use Rattle.std.proofs.Common.{◌∷◌, ◌++◌, count_by, drop, filter_map, fold, length, map}
 use Rattle.std.proofs.Common.{Option, Some, None, option_to_list, refl, sym, subst, ◌∙◌}
-use Rattle.std.proofs.Common.{if◌then◌else◌, IsTrue, is_some}
+use Rattle.std.proofs.Common.{if◌then◌else◌, IsTrue}
 use Rattle.std.specs.List.{AllByRecursion}
 use Rattle.std.specs.Prelude.{slice_get}
 use Rattle.std.proofs.lemmas.Bool.{and_parts, cond_both}
@@ -11,9 +11,7 @@ use Rattle.std.proofs.lemmas.Option.{same_Some}
 use Rattle.fix_fields.specs.declared.limits.TheConstants.{A_DAY}
 use Rattle.market_terms.specs.declared.duties.Duty.{Duty}
 use Rattle.market_terms.specs.declared.duties.Duty.TheVariants as duty
-use Rattle.market_terms.specs.declared.rooms.RoomRef.{RoomRef}
-use Rattle.venue_rows.specs.Rows.{Configuration, KeepsLimits, dealer_numbered, firm_names}
-use Rattle.venue_rows.specs.Rows.{has_room, investor_numbered}
+use Rattle.venue_rows.specs.Rows.{Configuration, KeepsLimits, firm_names}
 use Rattle.venue_rows.specs.Texts.{is_among, is_firm_name, is_name, reserved_names}
 use Rattle.venue_rows.specs.declared.dealer_rows.DealerRow.{DealerRow}
 use Rattle.venue_rows.specs.declared.investor_rows.InvestorRow.{InvestorRow}
@@ -23,15 +21,11 @@ use Rattle.investor_desk.specs.InvestorDesk.{DeskEvents, book_at, market_for, no
 use Rattle.investor_desk.specs.InvestorRules.{InvestorMarket}
 use Rattle.investor_views.specs.Comings.{Coming, For, Own, after_coming, at_desk_of, comes_by}
 use Rattle.investor_views.specs.Comings.{comes_by_turn, comings, comings_from}
+use Rattle.investor_views.specs.DeskPlaces.{IsSoElsewhere, MayBring, placed_so}
 use Rattle.investor_views.specs.InvestorDues.{due_by, due_to_investor, dues_from, dues_where}
-use Rattle.venue_places.specs.Dealers.{Dealer, dealer_of, has_word_for, offer_of, word_for}
-use Rattle.venue_places.specs.Placed as place
 use Rattle.venue_places.specs.Placed.{placed}
 use Rattle.venue_places.specs.declared.actors.Actor.{Actor}
 use Rattle.venue_places.specs.declared.actors.Actor.TheVariants as actor
-use Rattle.venue_places.specs.declared.arrivals.ForInvestor.{ForInvestor}
-use Rattle.venue_places.specs.declared.arrivals.ForRoom.{ForRoom}
-use Rattle.venue_places.specs.declared.arrivals.ForRoom.TheVariants as to_room
 use Rattle.venue_places.specs.declared.arrivals.ForInvestor.TheVariants as to_investor
 use Rattle.venue_places.specs.declared.arrivals.Placement.{Placement}
 use Rattle.venue_places.specs.declared.arrivals.Placement.TheVariants as arrival
@@ -245,71 +239,26 @@ module _ (D : ℕ → Type 0) (of_day : (n : ℕ) → n < A_DAY → D n) (config
   PlacedGiven (Some (arrival.Investor firm what)) = BroughtGiven D what
   PlacedGiven other = Unit {0}
 
-  at_one : (firm : ℕ) (what : ForInvestor) → BroughtGiven D what
-      → PlacedGiven (place.at_investor config firm what)
-  at_one firm what given =
-      cond_both (is_some (investor_numbered config firm)) (Some (arrival.Investor firm what)) None
-      PlacedGiven (λ there. given) (λ none. tt)
+  elsewhere : IsSoElsewhere config PlacedGiven
+  elsewhere = record {
+    nowhere = tt;
+    at_a_dealer = λ firm what. tt;
+    by_a_drop = λ firm last moment. tt;
+    in_a_room = λ at what. tt;
+    by_a_hit = λ at response word moment. tt;
+  }
 
-  in_a_room : (at : RoomRef) (what : ForRoom) → PlacedGiven (place.in_room config at what)
-  in_a_room at what =
-      cond_both (has_room config at.investor at.n) (Some (arrival.Room at what)) None PlacedGiven
-      (λ there. tt) (λ none. tt)
-
-  declined_place : (by : Actor) (left : Dealer → Option Placement)
-      → ((number : ℕ) (row : DealerRow) → dealer_numbered config number ≡ Some row
-      → PlacedGiven (left (dealer_of number row)))
-      → PlacedGiven (place.by_dealer config by left)
-  declined_place (actor.Firm number) left each = by_row (dealer_numbered config number) refl
-    where
-      by_row : (o : Option DealerRow) → dealer_numbered config number ≡ o
-          → PlacedGiven (place.by_dealer config (actor.Firm number) left)
-      by_row None is = rw is tt
-      by_row (Some row) is = rw is (each number row is)
-  declined_place actor.Clock left each = tt
+  may_bring : (by : Actor) (left : Duty) → DutyGiven D left → MayBring config PlacedGiven by left
+  may_bring by (duty.Relay at offer moment) given = given
+  may_bring by (duty.Gone at word moment) given = given
+  may_bring (actor.Firm number) (duty.Declined at moment) given =
+      λ row found. (named.dealers number row found, given)
+  may_bring by (duty.Answer at response reply moment) given = given
+  may_bring by (duty.Close at moment) given = given
+  may_bring by other given = tt
 
   placed_given : (by : Actor) (left : Duty) → DutyGiven D left → PlacedGiven (placed config by left)
-  unfolding placed
-  placed_given by (duty.Open at ask dealers moment) given =
-      cond_both (has_room config at.investor at.n) _ _ PlacedGiven (λ is. tt) (λ no. tt)
-  placed_given by (duty.Show dealer at ask moment) given =
-      cond_both (is_some (dealer_numbered config dealer)) _ _ PlacedGiven (λ is. tt) (λ no. tt)
-  placed_given by (duty.Ready at moment) given =
-      cond_both (has_room config at.investor at.n) _ _ PlacedGiven (λ is. tt) (λ no. tt)
-  placed_given by (duty.Post at quote price valid_until moment) given =
-      declined_place by (place.posted config at quote price valid_until moment)
-      (λ number row is.
-      let own = dealer_of number row in
-      let offer = offer_of config own quote price valid_until in
-      cond_both (has_word_for config own quote)
-      (place.in_room config at (to_room.Post number offer moment)) None PlacedGiven
-      (λ has. in_a_room at (to_room.Post number offer moment)) (λ none. tt))
-  placed_given by (duty.Relay at offer moment) given = at_one at.investor _ given
-  placed_given by (duty.Unpost at quote moment) given =
-      declined_place by (place.unposted config at quote moment)
-      (λ number row is.
-      let own = dealer_of number row in
-      let word = word_for config own quote in
-      cond_both (has_word_for config own quote)
-      (place.in_room config at (to_room.Unpost number word moment)) None PlacedGiven
-      (λ has. in_a_room at (to_room.Unpost number word moment)) (λ none. tt))
-  placed_given by (duty.Gone at word moment) given = at_one at.investor _ given
-  placed_given by (duty.Decline at moment) given =
-      declined_place by _ (λ number row is.
-      cond_both (has_room config at.investor at.n) _ _ PlacedGiven (λ there. tt) (λ no. tt))
-  placed_given by (duty.Declined at moment) given =
-      declined_place by _ (λ number row is.
-      at_one at.investor (to_investor.Declined at.n row.name moment)
-      (named.dealers number row is, given))
-  placed_given by (duty.Hit at response word moment) given =
-      cond_both (has_room config at.investor at.n) _ _ PlacedGiven (λ is. tt) (λ no. tt)
-  placed_given by (duty.Pass at response moment) given =
-      cond_both (has_room config at.investor at.n) _ _ PlacedGiven (λ is. tt) (λ no. tt)
-  placed_given by (duty.Answer at response reply moment) given = at_one at.investor _ given
-  placed_given by (duty.Close at moment) given = at_one at.investor _ given
-  placed_given by (duty.Tell dealer at close moment) given =
-      cond_both (is_some (dealer_numbered config dealer)) _ _ PlacedGiven (λ is. tt) (λ no. tt)
-  placed_given by (duty.Drop last moment) given = declined_place by _ (λ number row is. tt)
+  placed_given by left given = placed_so config PlacedGiven elsewhere by left (may_bring by left given)
 
   at_desk_given : (number : ℕ) (o : Option Placement) → PlacedGiven o
       → Every (ComingGiven D) (option_to_list (at_desk_of number o))

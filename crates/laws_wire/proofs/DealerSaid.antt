@@ -15,7 +15,7 @@ use Rattle.dealer_desk.specs.DealerOutput.{next_message, sent_with, word_asked}
 use Rattle.dealer_desk.specs.declared.events.DealerEvent.{DealerEvent}
 use Rattle.dealer_desk.specs.declared.events.DealerEvent.TheVariants as event
 use Rattle.dealer_desk.specs.declared.notes.DealerNote.{DealerNote}
-use Rattle.step_replay.specs.DealerView.{DealerView, after_due, answer_to, dealer_view}
+use Rattle.step_replay.specs.DealerView.{ViewState, after_due, answer_to, dealer_view}
 use Rattle.step_replay.specs.DealerView.{lifting_counts, no_room, view_after, view_at_start}
 use Rattle.step_replay.specs.EachLemmas.{every_both}
 use Rattle.step_replay.specs.Lists.{Every}
@@ -111,7 +111,7 @@ module _ (D : ℕ → Type 0) (of_day : (n : ℕ) → n < A_DAY → D n) (date :
     events = every_both (EventGiven D) desk.events (more ∷ []) is.events (given, tt);
   }
 
-  due_given : (view : DealerView) (item : Due) → DeskGiven D date row view.desk → DueGiven D item
+  due_given : (view : ViewState) (item : Due) → DeskGiven D date row view.desk → DueGiven D item
       → DeskGiven D date row (after_due view item).desk
   unfolding after_due
   due_given view (due.Own moment message) is given =
@@ -124,7 +124,7 @@ module _ (D : ℕ → Type 0) (of_day : (n : ℕ) → n < A_DAY → D n) (date :
         lifted =
             view.lifted ++ quote ∷ [];
       }) view
-      (λ (v : DealerView). DeskGiven D date row v.desk) (λ counts. is) (λ other. is)
+      (λ (v : ViewState). DeskGiven D date row v.desk) (λ counts. is) (λ other. is)
   due_given view (due.Closed request close moment) is given =
       cond_both (may_close view.desk request)
       (with_event view.desk (event.Told request close moment)) view.desk (DeskGiven D date row)
@@ -133,7 +133,7 @@ module _ (D : ℕ → Type 0) (of_day : (n : ℕ) → n < A_DAY → D n) (date :
       desk_with view.desk (event.Drop last moment
       (option_map (answer_to view) (number_to_drop (book_at view.desk) last))) is given
 
-  dues_given : (dues : List Due) (view : DealerView) → DeskGiven D date row view.desk
+  dues_given : (dues : List Due) (view : ViewState) → DeskGiven D date row view.desk
       → Every (DueGiven D) dues → DeskGiven D date row (fold after_due view dues).desk
   dues_given [] view is given = is
   dues_given (item ∷ dues) view is given =

@@ -15,8 +15,8 @@ use Rattle.fix_fields.specs.UtcTimestamp.{IsDate, clock_text, timestamp_text}
 use Rattle.market_terms.specs.Texts.{is_id, is_id_character}
 use Rattle.quote_messages.specs.Texts.{is_msg_type, is_sequence_number}
 use Rattle.venue_rows.specs.Texts.{is_bond_id, is_capital_or_digit, is_name}
-use Rattle.shown_laws.proofs.ReadBack.{both_values, number_value, plain_value, price_value}
-use Rattle.shown_laws.proofs.ReadBack.{date_value, timestamp_value}
+use Rattle.laws_shown.proofs.ReadBack.{both_values, number_value, plain_value, price_value}
+use Rattle.laws_shown.proofs.ReadBack.{date_value, timestamp_value}
 
 -- Texts that a message is given.
 

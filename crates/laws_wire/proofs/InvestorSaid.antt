@@ -8,7 +8,7 @@ use Rattle.quote_messages.specs.declared.out_messages.OutMessage.{OutMessage}
 use Rattle.venue_places.specs.Brought.{investor_with}
 use Rattle.venue_places.specs.declared.arrivals.ForInvestor.{ForInvestor}
 use Rattle.venue_places.specs.declared.arrivals.ForInvestor.TheVariants as to_investor
-use Rattle.venue_steps.specs.InvestorSteps.{where_so}
+use Rattle.venue_steps.specs.InvestorSteps.{with_event_if}
 use Rattle.investor_desk.specs.InvestorDesk.{DeskEvents, book_at, no_events, with_event}
 use Rattle.investor_desk.specs.InvestorFacts.{book_of}
 use Rattle.investor_desk.specs.InvestorOutput.{DeskState, after_event, beside_each, desk_after}
@@ -136,7 +136,7 @@ module _ (D : ℕ → Type 0) (of_day : (n : ℕ) → n < A_DAY → D n) (market
   }
 
   where_with : (b : Bool) (desk : DeskEvents) (more : InvestorEvent) → DeskGiven desk
-      → EventGiven D more → DeskGiven (where_so b desk more)
+      → EventGiven D more → DeskGiven (with_event_if b desk more)
   where_with b desk more is given =
       cond_both b (with_event desk more) desk DeskGiven (λ may. desk_with desk more is given)
       (λ no. is)

@@ -51,7 +51,7 @@ use Rattle.investor_desk.specs.declared.verdicts.InvestorVerdict.{InvestorVerdic
 use Rattle.investor_desk.specs.declared.verdicts.InvestorVerdict.TheVariants as verdict
 use Rattle.step_replay.specs.EachLemmas.{every_both}
 use Rattle.step_replay.specs.Lists.{Every}
-use Rattle.shown_laws.proofs.ReadFields.{text_same}
+use Rattle.laws_shown.proofs.ReadFields.{text_same}
 use Rattle.laws_wire.proofs.ArrivalTexts.{ArrivalGiven, InvestorSaid, investor_came}
 use Rattle.laws_wire.proofs.DealerTexts.{IfThere, found_there}
 use Rattle.laws_wire.proofs.FieldValues.{IsGiven}

@@ -47,10 +47,10 @@ use Rattle.step_replay.specs.VenueFacts.{of_dealer, of_investor, of_room}
 use Rattle.venue_steps.specs.RoomSteps.{hit_word}
 use Rattle.step_replay.specs.declared.steps.Step.{Step}
 use Rattle.step_replay.specs.declared.steps.Step.TheVariants as step
-use Rattle.session_laws.specs.Kept.{is_answer_body}
-use Rattle.shown_laws.proofs.ReadBack.{type_read}
+use Rattle.laws_sessions.specs.Kept.{is_answer_body}
+use Rattle.laws_shown.proofs.ReadBack.{type_read}
 use Rattle.wire_messages.specs.ToFirm.{venue_fields}
-use Rattle.wire_laws.specs.Carried.{IsMade}
+use Rattle.laws_wire.specs.Carried.{IsMade}
 use Rattle.laws_wire.specs.VenueMessages.{IsWritten, venue_types}
 
 -- what an action adds: where it sends a message, that is written

@@ -21,7 +21,7 @@ use Rattle.step_replay.specs.EachLemmas.{every_both, every_weaker}
 use Rattle.step_replay.specs.Lists.{Every}
 use Rattle.wire_messages.specs.ToFirm.{IsTold, VenueMessage, has_added, referred, timed}
 use Rattle.wire_messages.specs.ToFirm.{time_stands_before, to_firm, told_fields, wire_behind}
-use Rattle.shown_laws.proofs.ReadBack.{lawful_field}
+use Rattle.laws_shown.proofs.ReadBack.{lawful_field}
 use Rattle.laws_wire.specs.Carriable.{IsBrief, IsToldBeside}
 use Rattle.laws_wire.proofs.FieldValues.{AreValues, IsGiven, IsShortValue, number_short}
 use Rattle.laws_wire.proofs.FieldValues.{short_values}

@@ -1,2 +1,4 @@
 pub mod Carriable
+pub mod Carried
+pub mod Sound
 pub mod VenueMessages

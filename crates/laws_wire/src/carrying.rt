@@ -9,9 +9,9 @@ ghost use Rattle.investor_views.specs.InvestorDues.{due_to_investor};
 ghost use Rattle.investor_views.specs.InvestorView.{seen_by};
 ghost use Rattle.investor_views.specs.NoteView.{note_view};
 ghost use Rattle.laws_wire.specs.Carriable.{AreToldBeside, CanAllBeCarried, has_no_bar, is_of_day};
-ghost use Rattle.session_laws.specs.Days.{Event, without_resets};
-ghost use Rattle.session_laws.specs.Given.{given_bodies, of_venue};
-ghost use Rattle.session_laws.specs.Kept.{all_kept};
+ghost use Rattle.laws_sessions.specs.Days.{Event, without_resets};
+ghost use Rattle.laws_sessions.specs.Given.{given_bodies, of_venue};
+ghost use Rattle.laws_sessions.specs.Kept.{all_kept};
 ghost use Rattle.step_replay.specs.AuditTrail as venue;
 ghost use Rattle.step_replay.specs.Lists.{In};
 ghost use Rattle.step_replay.specs.NoteViews.{dealer_note_view};
@@ -20,11 +20,11 @@ ghost use Rattle.venue_rows.specs.Rows.{Configuration, KeepsLimits, dealer_numbe
 ghost use Rattle.venue_rows.specs.Rows.{investor_numbered};
 ghost use Rattle.venue_rows.specs.declared.dealer_rows.DealerRow.{DealerRow};
 ghost use Rattle.venue_rows.specs.declared.investor_rows.InvestorRow.{InvestorRow};
-ghost use Rattle.wire_laws.specs.Carried.{AreMade, AreRead};
+ghost use Rattle.laws_wire.specs.Carried.{AreMade, AreRead};
 
+use crate::kept::what_is_kept_reads_back;
 use investor_views::investors_are_sent_their_view;
 use step_replay::dealers_are_sent_their_view;
-use wire_laws::what_is_kept_reads_back;
 
 /// The wire carries each message of the venue, with whatever is told beside it: none is refused for
 /// its form, number, fields or length (`specs/Carriable`).

@@ -2,12 +2,12 @@
 ghost use Rattle.std.specs.Prelude.{◌≡◌, ℕ, List, Option, Some, false};
 ghost use Rattle.fix_fields.specs.Frame.{Field, frame_of, value_of};
 ghost use Rattle.laws_wire.specs.VenueMessages.{IsWritten, venue_types};
-ghost use Rattle.session_laws.specs.Kept.{is_answer_body};
+ghost use Rattle.laws_sessions.specs.Kept.{is_answer_body};
 ghost use Rattle.step_replay.specs.AuditTrail as venue;
 ghost use Rattle.step_replay.specs.Lists.{In};
 ghost use Rattle.step_replay.specs.declared.steps.Step.{Step};
 ghost use Rattle.venue_rows.specs.Rows.{Configuration};
-ghost use Rattle.wire_laws.specs.Carried.{IsMade};
+ghost use Rattle.laws_wire.specs.Carried.{IsMade};
 
 /// Each message that a firm is sent is one that the venue writes (`written`), whoever reads it
 /// reads one of its types (`typed`), and what the wire makes of it is no 35=0, so that no gap fill

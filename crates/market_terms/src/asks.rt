@@ -2,7 +2,7 @@
 ghost use Rattle.std.specs.Prelude.{◌≡◌};
 
 use crate::Quantity;
-use bond_prices::Grid;
+use bond_prices::{Band, Grid};
 use fix_fields::Moment;
 use venue_rows::{BondId, Name};
 
@@ -21,6 +21,8 @@ pub struct Ask {
     pub deadline: Moment,
     /// The grid of the bond's prices, on which each quote's price is.
     pub grid: Grid,
+    /// The band of the bond's prices, in which each quote's price is.
+    pub band: Band,
 }
 
 impl Ask {
@@ -35,6 +37,7 @@ impl Ask {
             quantity: self.quantity,
             deadline: self.deadline,
             grid: self.grid,
+            band: self.band,
         }
     }
 }

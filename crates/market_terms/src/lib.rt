@@ -12,7 +12,7 @@
 //! ```
 //! let dealers = AskedDealers::new(&[0, 1, 2])?;
 //! let quantity = Quantity::new(2_000_000)?;
-//! let ask = Ask { investor, bond, side: Side::Buy, quantity, deadline, grid };
+//! let ask = Ask { investor, bond, side: Side::Buy, quantity, deadline, grid, band };
 //! let duty = Duty::Open { room: RoomRef { investor: 3, n: 1 }, ask, dealers, moment };
 //! ```
 //!

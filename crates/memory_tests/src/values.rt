@@ -1,5 +1,5 @@
 //! Values of the market that the tests share.
-use bond_prices::{Grid, Ticks};
+use bond_prices::{Band, Grid, Ticks};
 use fix_fields::Moment;
 use market_terms::{Ask, Id, IdBuf, Offer, Quantity, ResponseRef, Side};
 use std::process::Abort;
@@ -27,6 +27,7 @@ pub(crate) fn ask(rt: &impl Abort) -> Ask {
         quantity: Quantity::new(2_000_000).expect(rt, "a quantity"),
         deadline: at(rt, DEADLINE),
         grid: Grid::FINEST,
+        band: Band::WHOLE,
     }
 }
 

@@ -3,7 +3,7 @@
 //! | call | does | answers |
 //! |---|---|---|
 //! | `open NAME QUOTES EXPOSURE TRADER ..` | the desk of this dealer at the start of the day | |
-//! | `shown INVESTOR BOND SIDE QUANTITY DEADLINE TIME [GRID]` | `show`: a request is shown; its room is `7.N` for the N-th of these calls | what is sent |
+//! | `shown INVESTOR BOND SIDE QUANTITY DEADLINE TIME [GRID [LOW HIGH]]` | `show`: a request is shown; its room is `7.N` for the N-th of these calls | what is sent |
 //! | `show ROOM INVESTOR ..` | the same with its room, `FIRM.N` | the number, what is sent |
 //! | `say TRADER TIME TYPE BODY`, `own TIME BYTES`, `long COUNT TIME TEXT` | `question` and `take`: a message comes, bytes come, COUNT times TEXT comes | what is sent |
 //! | `take TRADER TIME TYPE BODY`, `judge ..` | the same of a message, `judge` by `judge` and `receive_judged` | the word that is asked, what is left to be done, what is sent |

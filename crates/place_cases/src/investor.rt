@@ -2,7 +2,7 @@
 //!
 //! | call | does | answers |
 //! |---|---|---|
-//! | `bond ID GRID`, `dealer NAME`, `investor NAME REQUESTS OPEN QUANTITY TRADER` | a row more of the configuration | |
+//! | `bond ID GRID [LOW HIGH]`, `dealer NAME`, `investor NAME REQUESTS OPEN QUANTITY TRADER` | a row more of the configuration | |
 //! | `open NAME` | the desk of this investor at the start of the day | |
 //! | `say TRADER TIME TYPE BODY`, `own TIME BYTES`, `long COUNT TIME TEXT` | `take`: a message comes, bytes come, COUNT times TEXT comes | what is left to be done, what is sent |
 //! | `quote_came N DEALER WORD PRICE TIME [UNTIL]` | a quote for request N; PRICE is in 256ths | what is sent |

@@ -1,4 +1,5 @@
 //! What a place answers, as text.
+use bond_prices::Band;
 use case_lines::CaseFault;
 use fix_fields::{Moment, time_text};
 use market_terms::{Ask, HitRefusal, Reply, Side};
@@ -31,13 +32,25 @@ pub(crate) fn push_firms(answer: &mut String, firms: &[u16]) -> Result<(), CaseF
     Ok(())
 }
 
-/// What is asked for: the investor, the bond, the side, the quantity, the deadline and the grid.
+/// What is asked for: the investor, the bond, the side, the quantity, the deadline, the grid, and the
+/// ends of the band, where not every price is in it.
 pub(crate) fn push_ask(answer: &mut String, ask: &Ask) -> Result<(), CaseFault> {
     let (investor, bond) = (ask.investor.as_str(), ask.bond.as_str());
     let (side, quantity) = (side_name(ask.side), ask.quantity.get());
     write!(answer, " {investor} {bond} {side} {quantity}")?;
     push_time(answer, ask.deadline)?;
-    push_number(answer, u64::from(ask.grid.get()))
+    push_number(answer, u64::from(ask.grid.get()))?;
+    push_band(answer, ask.band)
+}
+
+/// The ends of a band, each behind a space, where not every price is in it.
+fn push_band(answer: &mut String, band: Band) -> Result<(), CaseFault> {
+    let Band { low, high } = band;
+    if band.is_whole() {
+        return Ok(());
+    }
+    push_number(answer, u64::from(low.get()))?;
+    push_number(answer, u64::from(high.get()))
 }
 
 /// What a side is called in a line.

@@ -1,6 +1,6 @@
 //! Words that stand for terms of the market.
 use bond_prices::Grid;
-use case_lines::{CaseFault, Words, ask_of, name_of, price_of, refusal_of};
+use case_lines::{CaseFault, Words, ask_of, band_of, name_of, price_of, refusal_of};
 use fix_fields::Moment;
 use market_terms::{Ask, AskedDealers, Id, IdBuf, Offer, QuoteState, Reply, ResponseRef, RoomRef};
 use quote_word::Settled;
@@ -43,16 +43,18 @@ pub(crate) fn room(words: &mut Words<'_>) -> Result<RoomRef, CaseFault> {
     Ok(RoomRef { investor, n })
 }
 
-/// `INVESTOR BOND SIDE QUANTITY DEADLINE TIME [GRID]`: what is asked for, and when it is shown.
-/// Without GRID the grid is 256.
+/// `INVESTOR BOND SIDE QUANTITY DEADLINE TIME [GRID [LOW HIGH]]`: what is asked for, and when it is
+/// shown. Without GRID the grid is 256, without LOW HIGH every price is in the band. These are in
+/// 256ths.
 pub(crate) fn ask(words: &mut Words<'_>) -> Result<(Ask, Moment), CaseFault> {
     let mut ask = ask_of(words)?;
     let moment = words.moment()?;
     ask.grid = grid(words)?;
+    ask.band = band_of(words)?;
     Ok((ask, moment))
 }
 
-/// The last word, as a grid, or 256 where there is none.
+/// The next word, as a grid, or 256 where there is none.
 fn grid(words: &mut Words<'_>) -> Result<Grid, CaseFault> {
     if words.is_at_end() {
         return Ok(Grid::FINEST);

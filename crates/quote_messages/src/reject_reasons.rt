@@ -11,7 +11,8 @@ pub enum QuoteRejectReason {
     TooLate,
     /// 6: the QuoteID was used by an earlier accepted quote.
     DuplicateQuote,
-    /// 8: the price is on the wrong side, missing, out of range or off the grid.
+    /// 8: the price is on the wrong side, missing, out of range, off the grid or outside
+    /// the band.
     InvalidPrice,
     /// 99: any other reason.
     Other,

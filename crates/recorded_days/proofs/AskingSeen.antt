@@ -14,7 +14,7 @@ use Rattle.dealer_desk.specs.DealerOutput.{DeskState, desk_after}
 use Rattle.dealer_desk.specs.SettledWords.{settled_words, asked_word}
 use Rattle.dealer_desk.specs.DeskLaws.{is_lifted, is_taken_back, says_lifted, says_withdrawn}
 use Rattle.dealer_desk.specs.declared.events.DealerEvent.{DealerEvent}
-use Rattle.step_replay.specs.DealerView.{DealerView, after_due, answer_to, view_after}
+use Rattle.step_replay.specs.DealerView.{ViewState, after_due, answer_to, view_after}
 use Rattle.step_replay.specs.declared.dues.Due.{Due}
 use Rattle.step_replay.specs.declared.dues.Due.TheVariants as due
 use Rattle.recorded_days.specs.DayDues.{after_recorded, settlement_taken, lifting_learned}
@@ -31,10 +31,10 @@ module _ (date : List ℕ) (row : DealerRow) where
     abbrev words : List (ℕ × Settled)
     words = settled_words (desk_after date row events).facts
 
-    abbrev view_with : List ℕ → DealerView
+    abbrev view_with : List ℕ → ViewState
     view_with lifted = view_of date row before.seen lifted
 
-    abbrev told : List ℕ → Option Settled → DealerView
+    abbrev told : List ℕ → Option Settled → ViewState
     told lifted settlement = view_of date row (before.seen ++ put settlement ∷ []) lifted
 
     not_lifted : (quote : ℕ) → word_of quote ≡ Some Withdrawn → AreOne word_of words

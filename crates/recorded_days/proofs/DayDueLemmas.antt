@@ -18,7 +18,7 @@ use Rattle.dealer_desk.specs.declared.events.DealerEvent.{DealerEvent}
 use Rattle.dealer_desk.specs.declared.events.DealerEvent.TheVariants as event
 use Rattle.step_replay.specs.declared.dues.Due.{Due}
 use Rattle.step_replay.specs.declared.dues.Due.TheVariants as due
-use Rattle.recorded_days.specs.DayDues.{AreAnsweredFrom, DayDues, IsAnswered, after_drop, after_own}
+use Rattle.recorded_days.specs.DayDues.{AreAnsweredFrom, DayDues, IsSettledIfAsked, after_drop, after_own}
 use Rattle.recorded_days.specs.DayDues.{after_recorded, settlement_taken, lifting_learned}
 
 -- Lists.
@@ -47,17 +47,17 @@ abbrev with_events : DeskEvents → List DealerEvent → DeskEvents
 with_events desk more = record desk { events = desk.events ++ more }
 
 pub answered_more : (desk : DeskEvents) (events : List DealerEvent) (now : DealerEvent)
-    → AreAnsweredFrom desk events → IsAnswered (with_events desk events) now
+    → AreAnsweredFrom desk events → IsSettledIfAsked (with_events desk events) now
     → AreAnsweredFrom desk (events ++ now ∷ [])
 answered_more desk [] now before is = (
-  subst (λ (l : List DealerEvent). IsAnswered (record desk { events = l }) now)
+  subst (λ (l : List DealerEvent). IsSettledIfAsked (record desk { events = l }) now)
       (append-nil desk.events) is,
   tt,
 )
 answered_more desk (first ∷ events) now before is = (
   before.0,
   answered_more (with_event desk first) events now before.1
-      (subst (λ (l : List DealerEvent). IsAnswered (record desk { events = l }) now)
+      (subst (λ (l : List DealerEvent). IsSettledIfAsked (record desk { events = l }) now)
       (sym (append_snoc desk.events first events)) is),
 )
 
@@ -68,12 +68,12 @@ answered_before desk (first ∷ events) now all =
     (all.0, answered_before (with_event desk first) events now all.1)
 
 pub answered_last : (desk : DeskEvents) (events : List DealerEvent) (now : DealerEvent)
-    → AreAnsweredFrom desk (events ++ now ∷ []) → IsAnswered (with_events desk events) now
+    → AreAnsweredFrom desk (events ++ now ∷ []) → IsSettledIfAsked (with_events desk events) now
 answered_last desk [] now all =
-    subst (λ (l : List DealerEvent). IsAnswered (record desk { events = l }) now)
+    subst (λ (l : List DealerEvent). IsSettledIfAsked (record desk { events = l }) now)
     (sym (append-nil desk.events)) all.0
 answered_last desk (first ∷ events) now all =
-    subst (λ (l : List DealerEvent). IsAnswered (record desk { events = l }) now)
+    subst (λ (l : List DealerEvent). IsSettledIfAsked (record desk { events = l }) now)
     (append_snoc desk.events first events)
     (answered_last (with_event desk first) events now all.1)
 

@@ -10,7 +10,7 @@ use Rattle.dealer_desk.specs.DealerOutput.{DeskState, after_event, desk_after}
 use Rattle.dealer_desk.specs.SettledWords.{settled_words, asked_by}
 use Rattle.dealer_desk.specs.DeskLaws.{says_lifted, says_withdrawn, withdraws}
 use Rattle.dealer_desk.specs.declared.events.DealerEvent.{DealerEvent}
-use Rattle.step_replay.specs.DealerView.{DealerView, after_due, view_after, view_at_start}
+use Rattle.step_replay.specs.DealerView.{ViewState, after_due, view_after, view_at_start}
 use Rattle.step_replay.specs.declared.dues.Due.{Due}
 use Rattle.step_replay.specs.declared.dues.Due.TheVariants as due
 use Rattle.recorded_days.specs.DayDues.{DayDues, after_recorded, dues_after, dues_at_start}
@@ -88,12 +88,12 @@ module _ (date : List ℕ) (row : DealerRow) where
       fold-append after_recorded (dues_at_start date row) events (now ∷ [])
       ∙ ap (λ (day : DayDues). after_recorded day now) is ∙ then_is
 
-  pub view_pushed : (dues : List Due) (item : Due) (view next : DealerView)
+  pub view_pushed : (dues : List Due) (item : Due) (view next : ViewState)
       → view_after date row dues ≡ view → after_due view item ≡ next
       → view_after date row (dues ++ item ∷ []) ≡ next
   view_pushed dues item view next is then_is =
       fold-append after_due (view_at_start date row) dues (item ∷ [])
-      ∙ ap (λ (v : DealerView). after_due v item) is ∙ then_is
+      ∙ ap (λ (v : ViewState). after_due v item) is ∙ then_is
 
   -- A lifting that counts.
 
@@ -124,6 +124,6 @@ module _ (date : List ℕ) (row : DealerRow) where
           within
           ∙ ap (λ (b : Bool). true && not b) standing
 
-      view_if : Bool → DealerView
+      view_if : Bool → ViewState
       view_if b =
           if b then view_of date row seen (lifted ++ quote ∷ []) else view_of date row seen lifted

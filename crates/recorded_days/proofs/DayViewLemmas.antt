@@ -10,7 +10,7 @@ use Rattle.dealer_desk.specs.DealerOutput.{DeskState, desk_after, word_asked}
 use Rattle.dealer_desk.specs.SettledWords.{settled_words, asked_by}
 use Rattle.dealer_desk.specs.declared.events.DealerEvent.{DealerEvent}
 use Rattle.dealer_desk.specs.declared.events.DealerEvent.TheVariants as event
-use Rattle.step_replay.specs.DealerView.{DealerView, after_due, answer_to, dealer_view, sent_at}
+use Rattle.step_replay.specs.DealerView.{ViewState, after_due, answer_to, dealer_view, sent_at}
 use Rattle.step_replay.specs.declared.dues.Due.TheVariants as due
 use Rattle.recorded_days.specs.DayDues.{AreAnsweredFrom, DayDues, after_drop, after_own}
 use Rattle.recorded_days.specs.DayDues.{after_recorded, dues_after}
@@ -129,4 +129,4 @@ module _ (date : List ℕ) (row : DealerRow) where
   view_is_sent events seen =
       ap (λ (state : DeskState). state.sent) (sym seen.seen_is)
       ∙ sym (ap (λ (day : DayDues). dealer_view date row day.dues) seen.walk_is
-      ∙ ap (λ (view : DealerView). sent_at view.desk) seen.view_is)
+      ∙ ap (λ (view : ViewState). sent_at view.desk) seen.view_is)

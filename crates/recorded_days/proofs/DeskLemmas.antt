@@ -4,10 +4,10 @@ use Rattle.venue_rows.specs.declared.dealer_rows.DealerRow.{DealerRow}
 use Rattle.dealer_desk.specs.DealerFacts.{DealerFact}
 use Rattle.dealer_desk.specs.DealerOutput.{DeskState}
 use Rattle.dealer_desk.specs.declared.events.DealerEvent.{DealerEvent}
-use Rattle.step_replay.specs.DealerView.{DealerView}
+use Rattle.step_replay.specs.DealerView.{ViewState}
 
 -- the view at a desk with these events, where these quotes are lifted
-abbrev pub view_of : List ℕ → DealerRow → List DealerEvent → List ℕ → DealerView
+abbrev pub view_of : List ℕ → DealerRow → List DealerEvent → List ℕ → ViewState
 view_of date row events lifted = record {
   desk = record { date = date; row = row; events = events };
   lifted = lifted;

@@ -16,7 +16,7 @@ use Rattle.dealer_desk.specs.DeskLaws.{says_lifted}
 use Rattle.dealer_desk.specs.declared.standing.StandingRequest.{StandingRequest}
 use Rattle.dealer_desk.specs.declared.events.DealerEvent.{DealerEvent}
 use Rattle.dealer_desk.specs.declared.events.DealerEvent.TheVariants as event
-use Rattle.step_replay.specs.DealerView.{DealerView, after_due, no_room}
+use Rattle.step_replay.specs.DealerView.{ViewState, after_due, no_room}
 use Rattle.step_replay.specs.declared.dues.Due.TheVariants as due
 use Rattle.recorded_days.specs.DayDues.{DayDues, after_recorded}
 use Rattle.recorded_days.proofs.DeskLemmas.{both, view_of}
@@ -114,7 +114,7 @@ module _ (date : List ℕ) (row : DealerRow) where
     day_with desk =
         record { desk = desk; dues = before.dues ++ due.Closed request close moment ∷ [] }
 
-    abbrev view_at : DeskEvents → DealerView
+    abbrev view_at : DeskEvents → ViewState
     view_at desk = record { desk = desk; lifted = before.lifted }
 
     pub told_is_seen : WordsGrow → DaySeen date row (events ++ now ∷ [])

@@ -107,14 +107,14 @@ day_dues_of config day dealer =
 -- When the settlements of a desk agree.
 
 -- an event that comes to this desk has a settlement exactly where it asks a word
-abbrev pub IsAnswered : DeskEvents → DealerEvent → Type 0
-IsAnswered desk now = is_some (settlement_of now) ≡ is_some (quote_asked desk now)
+abbrev pub IsSettledIfAsked : DeskEvents → DealerEvent → Type 0
+IsSettledIfAsked desk now = is_some (settlement_of now) ≡ is_some (quote_asked desk now)
 
 -- so has each of the events that come to it
 abbrev pub AreAnsweredFrom : DeskEvents → List DealerEvent → Type 0
 AreAnsweredFrom desk [] = Unit {0}
 AreAnsweredFrom desk (now ∷ later) =
-    IsAnswered desk now × AreAnsweredFrom (with_event desk now) later
+    IsSettledIfAsked desk now × AreAnsweredFrom (with_event desk now) later
 
 -- so had each of the events of a desk
 abbrev pub AreAnswered : DeskEvents → Type 0

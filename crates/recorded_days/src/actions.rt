@@ -100,3 +100,26 @@ impl Kind {
         }
     }
 }
+
+/// The moment that a duty bears.
+pub fn moment_of(duty: &Duty) -> Moment
+    ensures { result ≡ spec.moment_of duty.now }
+{
+    match duty {
+        Duty::Open { moment, .. } => *moment,
+        Duty::Show { moment, .. } => *moment,
+        Duty::Ready { moment, .. } => *moment,
+        Duty::Post { moment, .. } => *moment,
+        Duty::Relay { moment, .. } => *moment,
+        Duty::Unpost { moment, .. } => *moment,
+        Duty::Gone { moment, .. } => *moment,
+        Duty::Decline { moment, .. } => *moment,
+        Duty::Declined { moment, .. } => *moment,
+        Duty::Hit { moment, .. } => *moment,
+        Duty::Pass { moment, .. } => *moment,
+        Duty::Answer { moment, .. } => *moment,
+        Duty::Close { moment, .. } => *moment,
+        Duty::Tell { moment, .. } => *moment,
+        Duty::Drop { moment, .. } => *moment,
+    }
+}

@@ -201,6 +201,6 @@ pub fn events_are_settled_one_by_one()
     ensures none { (date : List ℕ) (row : DealerRow)
         → spec.AreAnswered (record { date = date; row = row; events = [] }) }
     ensures more { (desk : DeskEvents) (now : DealerEvent)
-        → spec.AreAnswered desk → spec.IsAnswered desk now
+        → spec.AreAnswered desk → spec.IsSettledIfAsked desk now
         → spec.AreAnswered (with_event desk now) }
 {}

@@ -19,6 +19,6 @@ mod actions;
 mod day_dues;
 mod records;
 
-pub use actions::{Action, Inbound, Kind, Sweep};
+pub use actions::{Action, Inbound, Kind, Sweep, moment_of};
 pub use day_dues::{events_are_settled_one_by_one, recorded_dealers_are_sent_their_view};
 pub use records::{DayRecord, DealerDay, InvestorDay, RoomDay};

@@ -12,7 +12,7 @@ use Rattle.quote_word.specs.Board.{Front, SettlesOnBoard}
 use Rattle.quote_word.specs.SettleLog.{entry_of}
 use Rattle.quote_word.specs.declared.settled.Settled.{Settled}
 use Rattle.quote_word.specs.declared.settled.Settlement.{Settlement}
-use Rattle.recorded_days.specs.DayDues.{AnswersAre, AreAnswered, IsAnswered, day_due_list}
+use Rattle.recorded_days.specs.DayDues.{AnswersAre, AreAnswered, IsSettledIfAsked, day_due_list}
 use Rattle.step_replay.specs.DealerView.{dealer_view}
 use Rattle.venue_rows.specs.declared.dealer_rows.DealerRow.{DealerRow}
 use Rattle.venue_steps.specs.Words.{AsksAtMost, SettlesSo, settlement_in, has_word, word_of}
@@ -32,7 +32,7 @@ AsksEventByEvent = (date : List ℕ) (row : DealerRow) (events : List DealerEven
 -- a settlement exactly where a word is asked, event by event
 abbrev pub AnsweredOneByOne : Type 0
 AnsweredOneByOne = (desk : DeskEvents) (now : DealerEvent)
-    → AreAnswered desk → IsAnswered desk now → AreAnswered (with_event desk now)
+    → AreAnswered desk → IsSettledIfAsked desk now → AreAnswered (with_event desk now)
 
 -- both
 pub record DeskLaws : Type 0 where

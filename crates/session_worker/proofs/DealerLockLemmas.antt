@@ -18,7 +18,7 @@ use Rattle.quote_word.specs.SettleLog.{entry_of}
 use Rattle.quote_word.specs.declared.settled.Settled.{Settled}
 use Rattle.quote_word.specs.declared.settled.Settled.TheVariants.{Withdrawn}
 use Rattle.step_replay.specs.Actions.{dealer_of, first_word}
-use Rattle.recorded_days.specs.DayDues.{AnswersAre, AreAnswered, IsAnswered, day_due_list}
+use Rattle.recorded_days.specs.DayDues.{AnswersAre, AreAnswered, IsSettledIfAsked, day_due_list}
 use Rattle.step_replay.specs.DealerView.{dealer_view}
 use Rattle.venue_rows.specs.Rows.{Configuration, dealer_numbered}
 use Rattle.venue_rows.specs.declared.dealer_rows.DealerRow.{DealerRow}
@@ -48,7 +48,7 @@ keeps_later board config firm first desk seen later keeps is = record {
 -- later token
 pub keeps_event : DeskLaws → (board : BoardName) (config : Configuration) (firm first : ℕ)
     (desk : DeskEvents) (seen later : Front) (more : DealerEvent)
-    → KeepsDealer board config firm first desk seen → IsLater seen later → IsAnswered desk more
+    → KeepsDealer board config firm first desk seen → IsLater seen later → IsSettledIfAsked desk more
     → All (StandsIn later.log)
     (map (by_word first) (asked_by desk.date desk.row (book_at desk) more))
     → KeepsDealer board config firm first (with_event desk more) later

@@ -7,7 +7,7 @@ use Rattle.std.specs.Option.{option_and_then, option_to_list}
 use Rattle.investor_desk.specs.InvestorDesk.{DeskEvents, no_events, with_event}
 use Rattle.investor_desk.specs.declared.events.InvestorEvent.{InvestorEvent}
 use Rattle.market_terms.specs.declared.duties.Duty.{Duty}
-use Rattle.venue_steps.specs.InvestorSteps.{where_so}
+use Rattle.venue_steps.specs.InvestorSteps.{with_event_if}
 use Rattle.session_worker.specs.LeftResponseWords.{response_in}
 use Rattle.session_worker.specs.LeftResponses.{left_from, response_left, response_of}
 use Rattle.session_worker.specs.LeftResponses.{responses_left}
@@ -57,7 +57,7 @@ left_more desk more = left_last (no_events desk.market) desk.events more
 -- an event more that leaves no response, where it comes
 pub left_stays : (desk : DeskEvents) (may : Bool) (more : InvestorEvent)
     → response_left desk more ≡ None
-    → responses_left (where_so may desk more) ≡ responses_left desk
+    → responses_left (with_event_if may desk more) ≡ responses_left desk
 left_stays desk true more none =
     left_more desk more ∙ ap (λ one. responses_left desk ++ option_to_list one) none
     ∙ append-nil (responses_left desk)

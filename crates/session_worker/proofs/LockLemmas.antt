@@ -12,7 +12,7 @@ use Rattle.quote_word.specs.declared.settled.Settled.TheVariants.{Lifted}
 use Rattle.quote_word.specs.declared.settled.Settlement.{Settlement}
 use Rattle.venue_rows.specs.Rows.{Configuration, investor_numbered}
 use Rattle.venue_steps.specs.Words.{AsksAtMost, SettlesSo, settlement_in}
-use Rattle.venue_steps.specs.InvestorSteps.{desk_after_own, duties_of_own, where_so}
+use Rattle.venue_steps.specs.InvestorSteps.{desk_after_own, duties_of_own, with_event_if}
 use Rattle.venue_steps.specs.RoomSteps.{hit_word, where_done, word_asked_by}
 use Rattle.investor_desk.specs.InvestorDesk.{DeskEvents as InvestorEvents, market_for, market_of}
 use Rattle.investor_desk.specs.InvestorDesk.{no_events, verdict_at}
@@ -74,7 +74,7 @@ as_late seen = (refl, λ w was stands. stands)
 
 -- the market of a desk that may have one event more
 pub market_stays : (may : Bool) (desk : InvestorEvents) (more : InvestorEvent)
-    → (where_so may desk more).market ≡ desk.market
+    → (with_event_if may desk more).market ≡ desk.market
 market_stays true desk more = refl
 market_stays false desk more = refl
 
@@ -88,7 +88,7 @@ market_kept config desk after same keeps =
 -- a desk that may have one event more, by which no response is left
 pub told_kept : (config : Configuration) (desk after : InvestorEvents) (left : List LeftResponse)
     (may : Bool) (more : InvestorEvent) → response_left desk more ≡ None
-    → KeepsInvestor config desk left → after ≡ where_so may desk more
+    → KeepsInvestor config desk left → after ≡ with_event_if may desk more
     → KeepsInvestor config after left
 told_kept config desk after left may more none keeps is = record {
   market_is = market_kept config desk after

@@ -7,6 +7,8 @@ use Rattle.std.proofs.lemmas.List.Sums.{sum_by-cons}
 use Rattle.std.proofs.lemmas.Slice.Eq.{bytes_eq-Decides}
 use Rattle.std.specs.List.{list_all, list_any}
 use Rattle.std.specs.Str.{bytes_eq}
+use Rattle.bond_prices.specs.Band.{same_band}
+use Rattle.bond_prices.specs.declared.band.Band.{Band}
 use Rattle.dealer_desk.specs.declared.events.DealerEvent.{DealerEvent}
 use Rattle.dealer_desk.specs.declared.events.DealerEvent.TheVariants as at_dealer
 use Rattle.market_terms.specs.Codes.{close_code, side_code}
@@ -67,13 +69,30 @@ text_same one other e = (bytes_eq-Decides one other).0 e
 text_itself : (text : List ℕ) → bytes_eq text text ≡ true
 text_itself text = (bytes_eq-Decides text text).1 refl
 
+band_same : (one other : Band) → same_band one other ≡ true → one ≡ other
+band_same one other e =
+    let ends = and_parts (one.low == other.low) (one.high == other.high) e in
+    let low = number_same one.low other.low ends.0 in
+    let high = number_same one.high other.high ends.1 in
+    rw (low, high) refl
+
+band_itself : (band : Band) → same_band band band ≡ true
+band_itself band =
+    both_true (band.low == band.low) (band.high == band.high) (number_itself band.low)
+    (number_itself band.high)
+
 -- requests that ask for the same are equal
 ask_same : (one other : Ask) → same_ask one other ≡ true → other ≡ one
+unfolding same_ask
 ask_same one other e =
+    let upto_grid = and_parts (bytes_eq one.investor other.investor
+    && bytes_eq one.bond other.bond && (side_code one.side == side_code other.side)
+    && (one.quantity == other.quantity) && (one.deadline == other.deadline)
+    && (one.grid == other.grid)) (same_band one.band other.band) e in
     let upto_deadline = and_parts (bytes_eq one.investor other.investor
     && bytes_eq one.bond other.bond && (side_code one.side == side_code other.side)
     && (one.quantity == other.quantity) && (one.deadline == other.deadline))
-    (one.grid == other.grid) e in
+    (one.grid == other.grid) upto_grid.0 in
     let upto_quantity = and_parts (bytes_eq one.investor other.investor
     && bytes_eq one.bond other.bond && (side_code one.side == side_code other.side)
     && (one.quantity == other.quantity)) (one.deadline == other.deadline) upto_deadline.0 in
@@ -90,11 +109,16 @@ ask_same one other e =
     let quantity = number_same one.quantity other.quantity upto_side.1 in
     let deadline = number_same one.deadline other.deadline upto_quantity.1 in
     let grid = number_same one.grid other.grid upto_deadline.1 in
-    sym (rw (investor, bond, side, quantity, deadline, grid) refl)
+    let band = band_same one.band other.band upto_grid.1 in
+    sym (rw (investor, bond, side, quantity, deadline, grid, band) refl)
 
 ask_itself : (ask : Ask) → same_ask ask ask ≡ true
+unfolding same_ask
 ask_itself ask =
     both_true (bytes_eq ask.investor ask.investor && bytes_eq ask.bond ask.bond
+    && (side_code ask.side == side_code ask.side) && (ask.quantity == ask.quantity)
+    && (ask.deadline == ask.deadline) && (ask.grid == ask.grid)) (same_band ask.band ask.band)
+    (both_true (bytes_eq ask.investor ask.investor && bytes_eq ask.bond ask.bond
     && (side_code ask.side == side_code ask.side) && (ask.quantity == ask.quantity)
     && (ask.deadline == ask.deadline)) (ask.grid == ask.grid)
     (both_true (bytes_eq ask.investor ask.investor && bytes_eq ask.bond ask.bond
@@ -106,7 +130,8 @@ ask_itself ask =
     (side_code ask.side == side_code ask.side)
     (both_true (bytes_eq ask.investor ask.investor) (bytes_eq ask.bond ask.bond)
     (text_itself ask.investor) (text_itself ask.bond)) (number_itself (side_code ask.side)))
-    (number_itself ask.quantity)) (number_itself ask.deadline)) (number_itself ask.grid)
+    (number_itself ask.quantity)) (number_itself ask.deadline)) (number_itself ask.grid))
+    (band_itself ask.band)
 
 -- where numbers are counted to be the same
 count_same : (m n : ℕ) → m ≡ n → (m == n) ≡ true

@@ -34,35 +34,9 @@ module _ (is_such : Kind → Bool) (kind : Kind) (moment : ℕ) (before after : 
 -- a duty is no message
 pub duty_is_no_message : (own : Duty) → is_in (kind_of own) ≡ false
 duty_is_no_message (duty.Open room ask dealers moment) = refl
-duty_is_no_message (duty.Show dealer room ask moment) = refl
-duty_is_no_message (duty.Ready room moment) = refl
-duty_is_no_message (duty.Post room quote price valid_until moment) = refl
-duty_is_no_message (duty.Relay room offer moment) = refl
-duty_is_no_message (duty.Unpost room quote moment) = refl
-duty_is_no_message (duty.Gone room word moment) = refl
-duty_is_no_message (duty.Decline room moment) = refl
-duty_is_no_message (duty.Declined room moment) = refl
-duty_is_no_message (duty.Hit room response word moment) = refl
-duty_is_no_message (duty.Pass room response moment) = refl
-duty_is_no_message (duty.Answer room response reply moment) = refl
-duty_is_no_message (duty.Close room moment) = refl
-duty_is_no_message (duty.Tell dealer room close moment) = refl
-duty_is_no_message (duty.Drop last moment) = refl
+duty_is_no_message other = refl
 
 -- and no sweep
 pub duty_is_no_sweep : (own : Duty) → is_expire (kind_of own) ≡ false
 duty_is_no_sweep (duty.Open room ask dealers moment) = refl
-duty_is_no_sweep (duty.Show dealer room ask moment) = refl
-duty_is_no_sweep (duty.Ready room moment) = refl
-duty_is_no_sweep (duty.Post room quote price valid_until moment) = refl
-duty_is_no_sweep (duty.Relay room offer moment) = refl
-duty_is_no_sweep (duty.Unpost room quote moment) = refl
-duty_is_no_sweep (duty.Gone room word moment) = refl
-duty_is_no_sweep (duty.Decline room moment) = refl
-duty_is_no_sweep (duty.Declined room moment) = refl
-duty_is_no_sweep (duty.Hit room response word moment) = refl
-duty_is_no_sweep (duty.Pass room response moment) = refl
-duty_is_no_sweep (duty.Answer room response reply moment) = refl
-duty_is_no_sweep (duty.Close room moment) = refl
-duty_is_no_sweep (duty.Tell dealer room close moment) = refl
-duty_is_no_sweep (duty.Drop last moment) = refl
+duty_is_no_sweep other = refl

@@ -21,7 +21,7 @@ use Rattle.request_room.specs.declared.events.RoomEvent.TheVariants as in_room
 use Rattle.recorded_days.specs.Records.{DealerLists, RoomLists}
 use Rattle.recorded_days.specs.declared.actions.Inbound.{Inbound}
 use Rattle.recorded_days.specs.declared.actions.Sweep.{Sweep}
-use Rattle.venue_steps.specs.RoomSteps.{close_for}
+use Rattle.venue_steps.specs.RoomDuties.{close_for}
 use Rattle.session_worker.specs.declared.notices.Notice.{Notice}
 
 -- A room of a day: which one it is, and what is recorded of it.

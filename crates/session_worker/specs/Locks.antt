@@ -19,7 +19,7 @@ use Rattle.step_replay.specs.Actions.{dealer_of, first_word}
 use Rattle.recorded_days.specs.DayDues.{AreAnswered}
 use Rattle.recorded_days.specs.Records.{ActionRef}
 use Rattle.venue_rows.specs.Rows.{Configuration, dealer_numbered, has_room}
-use Rattle.venue_steps.specs.Words.{word_of}
+use Rattle.venue_steps.specs.WordNumbers.{word_of}
 use Rattle.session_worker.specs.LeftResponses.{responses_left}
 use Rattle.session_worker.specs.declared.left_responses.LeftResponse.{LeftResponse}
 

@@ -20,7 +20,7 @@ use Rattle.request_room.specs.RoomFacts.{request_of}
 use Rattle.request_room.specs.declared.quotes.PostedQuote.{PostedQuote}
 use Rattle.venue_rows.specs.Rows.{Configuration, dealer_numbered}
 use Rattle.venue_rows.specs.declared.dealer_rows.DealerRow.{DealerRow}
-use Rattle.venue_steps.specs.RoomSteps.{dealers_of}
+use Rattle.venue_steps.specs.RoomDuties.{dealers_of}
 use Rattle.session_worker.specs.Arrivals.{arrivals_from}
 use Rattle.session_worker.specs.DayChecks.{DayRoom}
 use Rattle.session_worker.specs.RoomOutputs.{outputs_of}

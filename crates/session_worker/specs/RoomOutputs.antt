@@ -13,7 +13,7 @@ use Rattle.request_room.specs.RoomFacts.{RoomFact, hears, is_open, is_opening, i
 use Rattle.request_room.specs.RoomFacts.{takes_quotes}
 use Rattle.request_room.specs.declared.events.RoomEvent.{RoomEvent}
 use Rattle.request_room.specs.declared.events.RoomEvent.TheVariants as in_room
-use Rattle.venue_steps.specs.RoomSteps.{reply_to_pass}
+use Rattle.venue_steps.specs.RoomDuties.{reply_to_pass}
 use Rattle.session_worker.specs.declared.room_outputs.RoomOutput.{RoomOutput}
 use Rattle.session_worker.specs.declared.room_outputs.RoomOutput.TheVariants as output
 

@@ -6,6 +6,7 @@ use Rattle.std.specs.Prelude.{ℕ, ◌+◌, Bool, true, false, ◌&&◌, ◌==�
 use Rattle.std.specs.Prelude.{Option, Some, None, is_some, if◌then◌else◌}
 use Rattle.std.specs.List.{list_all, list_any}
 use Rattle.std.specs.Str.{bytes_eq}
+use Rattle.bond_prices.specs.Band.{same_band}
 use Rattle.dealer_desk.specs.declared.events.DealerEvent.{DealerEvent}
 use Rattle.dealer_desk.specs.declared.events.DealerEvent.TheVariants as at_dealer
 use Rattle.market_terms.specs.Codes.{side_code}
@@ -33,8 +34,8 @@ abbrev pub shows_room : RoomRef → DealerEvent → Bool
 shows_room room event = is_room room (room_shown event)
 
 -- whether two requests ask for the same: the investor, the bond, the side, the quantity, the
--- deadline and the grid
-abbrev pub same_ask : Ask → Ask → Bool
+-- deadline, the grid and the band
+unfoldable pub same_ask : Ask → Ask → Bool
 same_ask one other =
     bytes_eq one.investor other.investor
     && bytes_eq one.bond other.bond
@@ -42,6 +43,7 @@ same_ask one other =
     && (one.quantity == other.quantity)
     && (one.deadline == other.deadline)
     && (one.grid == other.grid)
+    && same_band one.band other.band
 
 -- whether this is asked for, where something is
 abbrev pub is_ask : Ask → Option Ask → Bool

@@ -1,5 +1,6 @@
 //! The sessions of firms and the clock.
 ghost use Rattle.std.specs.Prelude.{◌≡◌, [], ◌∷◌, ◌++◌, map, IfOk, OnOk};
+ghost use Rattle.recorded_days.specs.Kinds as kinds;
 ghost use Rattle.recorded_days.specs.Kinds.{is_expire, is_in, kind_of};
 ghost use Rattle.session_worker.specs.Shifts as spec;
 ghost use Rattle.session_worker.specs.Watched.{word_in};
@@ -11,7 +12,7 @@ use crate::venue::SharedVenue;
 use crate::watched::Acting;
 use fix_fields::{Memory, Moment};
 use market_terms::Duty;
-use recorded_days::{Action, Inbound, Kind, Sweep};
+use recorded_days::{Action, Inbound, Kind, Sweep, moment_of};
 use std::collections::VecDeque;
 use std::sync::Wait;
 use step_replay::Actor;
@@ -106,7 +107,7 @@ impl<'v, J: Naming, R: Wait, G: Gate> Shift<'v, J, R, G> {
 
     /// Does one duty.
     fn turn(&mut self, duty: Duty) -> Result<(), Memory>
-        ensures noted { OnOk result (spec.IsNoted (kind_of duty) (spec.moment_of duty)
+        ensures noted { OnOk result (spec.IsNoted (kind_of duty) (kinds.moment_of duty)
             self.old.actions.items self.new.actions.items) }
         ensures messages { OnOk result (spec.moments_of is_in self.new.actions.items
             ≡ spec.moments_of is_in self.old.actions.items) }
@@ -147,29 +148,6 @@ fn leave(queue: &mut VecDeque<Duty>, duties: Duties) -> Result<(), Memory>
         queue.push_back(duty)?;
     }
     Ok(())
-}
-
-/// The moment that a duty bears.
-fn moment_of(duty: &Duty) -> Moment
-    ensures { result ≡ spec.moment_of duty.now }
-{
-    match duty {
-        Duty::Open { moment, .. } => *moment,
-        Duty::Show { moment, .. } => *moment,
-        Duty::Ready { moment, .. } => *moment,
-        Duty::Post { moment, .. } => *moment,
-        Duty::Relay { moment, .. } => *moment,
-        Duty::Unpost { moment, .. } => *moment,
-        Duty::Gone { moment, .. } => *moment,
-        Duty::Decline { moment, .. } => *moment,
-        Duty::Declined { moment, .. } => *moment,
-        Duty::Hit { moment, .. } => *moment,
-        Duty::Pass { moment, .. } => *moment,
-        Duty::Answer { moment, .. } => *moment,
-        Duty::Close { moment, .. } => *moment,
-        Duty::Tell { moment, .. } => *moment,
-        Duty::Drop { moment, .. } => *moment,
-    }
 }
 
 /// The session of a firm: its messages in their order, and after each all pending duties. It

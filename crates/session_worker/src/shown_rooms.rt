@@ -75,6 +75,7 @@ pub(crate) fn is_shown_once(by_room: &BTreeMap<RoomRef, Shown>, room: RoomRef, a
 }
 
 /// Whether two requests ask for the same.
+#[tactic(auto, unfolding(crate::specs::ShownRequests::same_ask))]
 fn is_same_ask(one: &Ask, other: &Ask) -> bool
     ensures { result ≡ spec.same_ask one.now other.now }
 {
@@ -93,5 +94,8 @@ fn is_same_ask(one: &Ask, other: &Ask) -> bool
     if one.deadline != other.deadline {
         return false;
     }
-    one.grid.get() == other.grid.get()
+    if one.grid.get() != other.grid.get() {
+        return false;
+    }
+    one.band.is_same(other.band)
 }

@@ -1,41 +1,154 @@
 -- What an action does is what comes by the market's table.
-use Rattle.step_replay.proofs.Common.{◌≡◌, ℕ, true, List, is_some, Option, Some, None, sym, ap}
-use Rattle.step_replay.proofs.Common.{subst, ◌<◌, [], length, ◌∙◌, arith, Duty, RoomRef}
-use Rattle.step_replay.proofs.Common.{Configuration, dealer_numbered, placed, swept, Actor, Effect}
-use Rattle.step_replay.proofs.Common.{duty_effect, sweep_effect, dealer_gets, investor_gets}
-use Rattle.step_replay.proofs.Common.{room_gets, Fact, ActsOnce, Does, Stands, Floor, has_item}
-use Rattle.market_terms.specs.declared.duties.Duty.TheVariants as duty
+use Rattle.step_replay.proofs.Common.{◌≡◌, ◌&&◌, ℕ, Bool, true, false, List, is_some, Option, Some}
+use Rattle.step_replay.proofs.Common.{None, if◌then◌else◌, option_map, refl, sym, ap, subst, ◌<◌, []}
+use Rattle.step_replay.proofs.Common.{length, ◌∙◌, Duty, RoomRef, Configuration, dealer_numbered}
+use Rattle.step_replay.proofs.Common.{placed, swept, Actor, Effect, nothing, done_by, done_for}
+use Rattle.step_replay.proofs.Common.{dropped_by, duty_effect, sweep_effect, dealer_gets}
+use Rattle.step_replay.proofs.Common.{investor_gets, room_gets, Fact, ActsOnce, Does, Stands, Floor}
+use Rattle.step_replay.proofs.Common.{has_item}
+use Rattle.std.specs.Prelude.{option_and_then}
+use Rattle.market_terms.specs.declared.rooms.ResponseRef.{ResponseRef}
+use Rattle.venue_rows.specs.Rows.{has_room, investor_numbered}
+use Rattle.venue_rows.specs.declared.dealer_rows.DealerRow.{DealerRow}
+use Rattle.venue_rows.specs.declared.investor_rows.InvestorRow.{InvestorRow}
+use Rattle.investor_desk.specs.InvestorDesk.{market_of}
+use Rattle.investor_desk.specs.InvestorRules.{InvestorMarket}
+use Rattle.venue_places.specs.Dealers.{Dealer, acting_dealer, dealer_of, has_word_for}
+use Rattle.venue_places.specs.Placed.{has_place, placed_by, where_there}
+use Rattle.venue_places.specs.Table.{Line, acting, brings, drops, line_of, quoting}
+use Rattle.venue_places.specs.declared.actors.Actor.TheVariants as actor
+use Rattle.venue_places.specs.declared.arrivals.ForRoom.{ForRoom}
+use Rattle.venue_places.specs.declared.arrivals.ForRoom.TheVariants as to_room
 use Rattle.venue_places.specs.declared.arrivals.Placement.{Placement}
-use Rattle.step_replay.specs.Coming.{arrival_effect, effect_where}
+use Rattle.venue_places.specs.declared.arrivals.Placement.TheVariants as arrival
+use Rattle.step_replay.specs.Coming.{arrival_effect, room_gets_where}
+use Rattle.step_replay.specs.WhereComing.{effect_where}
+use Rattle.step_replay.specs.DutyEffects.{line_effect}
 use Rattle.step_replay.proofs.FloorLemmas.{dealer_count}
 use Rattle.step_replay.proofs.FoundDealers.{idle_does}
+use Rattle.step_replay.proofs.RoomActionLemmas.{none_gets}
 
 module _ (config : Configuration) (facts : List Fact) where
-  -- The table, line by line.
+  -- What is brought to a place that the venue does not have does nothing.
+
+  no_dealer : (number : ℕ) (action : Dealer → Effect) (found : Option DealerRow)
+      → is_some found ≡ false → done_by (option_map (dealer_of number) found) action ≡ nothing
+  no_dealer number action None none = refl
+  no_dealer number action (Some row) none = cc
+
+  no_investor : (number : ℕ) (action : InvestorMarket → Effect) (found : Option InvestorRow)
+      → is_some found ≡ false
+      → done_for (option_map (market_of config number) found) action ≡ nothing
+  no_investor number action None none = refl
+  no_investor number action (Some row) none = cc
+
+  no_hit : (room : RoomRef) (response : ResponseRef) (word moment : ℕ)
+      → has_room config room.investor room.n ≡ false
+      → arrival_effect config facts (arrival.Hit room response word moment) ≡ nothing
+  unfolding arrival_effect
+  no_hit room response word moment none = rw none refl
+
+  not_there : (coming : Placement) → has_place config coming ≡ false
+      → arrival_effect config facts coming ≡ nothing
+  unfolding arrival_effect
+  not_there (arrival.Dealer firm what) none =
+      no_dealer firm (dealer_gets config facts what) (dealer_numbered config firm) none
+  not_there (arrival.Drop firm last moment) none = cc
+  not_there (arrival.Investor firm what) none =
+      no_investor firm (investor_gets facts what) (investor_numbered config firm) none
+  not_there (arrival.Room room what) none = none_gets config facts room none what
+  not_there (arrival.Hit room response word moment) none = no_hit room response word moment none
+
+  place_comes : (coming : Placement)
+      → arrival_effect config facts coming ≡ effect_where config facts (where_there config coming)
+  place_comes coming = by_test (has_place config coming) refl
+    where
+      by_test : (b : Bool) → has_place config coming ≡ b
+          → arrival_effect config facts coming
+          ≡ effect_where config facts (if b then Some coming else None)
+      by_test true there = refl
+      by_test false none = not_there coming none
+
+  -- A quote without a word does nothing.
+
+  neither : (b : Bool) (effect : Effect) → (if b && false then effect else nothing) ≡ nothing
+  neither true effect = refl
+  neither false effect = refl
+
+  no_word : (room : RoomRef) (what : ForRoom)
+      → room_gets_where config facts false room what ≡ nothing
+  unfolding room_gets_where
+  no_word room (to_room.Ready moment) = neither (has_room config room.investor room.n) _
+  no_word room other = neither (has_room config room.investor room.n) _
+
+  -- The table, by the kinds of its lines.
+
+  acting_comes : (bring : Dealer → Placement) (found : Option Dealer)
+      → done_by found (λ dealer. arrival_effect config facts (bring dealer))
+      ≡ effect_where config facts
+      (option_and_then (λ dealer. where_there config (bring dealer)) found)
+  acting_comes bring None = refl
+  acting_comes bring (Some dealer) = place_comes (bring dealer)
+
+  in_its_room : (room : RoomRef) (what : ForRoom)
+      → room_gets_where config facts true room what
+      ≡ arrival_effect config facts (arrival.Room room what)
+  unfolding arrival_effect room_gets
+  in_its_room room what = refl
+
+  quoting_comes : (quote : ℕ) (room : RoomRef) (bring : Dealer → ForRoom) (found : Option Dealer)
+      → done_by found (λ dealer.
+      room_gets_where config facts (has_word_for config dealer quote) room (bring dealer))
+      ≡ effect_where config facts (option_and_then (λ dealer.
+      if has_word_for config dealer quote
+      then where_there config (arrival.Room room (bring dealer))
+      else None) found)
+  quoting_comes quote room bring None = refl
+  quoting_comes quote room bring (Some dealer) = by_word (has_word_for config dealer quote)
+    where
+      by_word : (b : Bool) → room_gets_where config facts b room (bring dealer)
+          ≡ effect_where config facts
+          (if b then where_there config (arrival.Room room (bring dealer)) else None)
+      by_word true =
+          in_its_room room (bring dealer) ∙ place_comes (arrival.Room room (bring dealer))
+      by_word false = no_word room (bring dealer)
+
+  own_drop : (last moment number : ℕ) (found : Option DealerRow)
+      → dealer_numbered config number ≡ found
+      → done_by (option_map (dealer_of number) found) (dropped_by config facts last moment)
+      ≡ effect_where config facts
+      (option_and_then (λ (dealer : Dealer). Some (arrival.Drop dealer.number last moment))
+      (option_map (dealer_of number) found))
+  unfolding arrival_effect
+  own_drop last moment number None is = refl
+  own_drop last moment number (Some row) is = rw is refl
+
+  drop_comes : (last moment : ℕ) (by : Actor)
+      → done_by (acting_dealer config by) (dropped_by config facts last moment)
+      ≡ effect_where config facts
+      (option_and_then (λ (dealer : Dealer). Some (arrival.Drop dealer.number last moment))
+      (acting_dealer config by))
+  drop_comes last moment actor.Clock = refl
+  drop_comes last moment (actor.Firm number) =
+      own_drop last moment number (dealer_numbered config number) refl
+
+  line_comes : (by : Actor) (line : Line)
+      → line_effect config facts by line ≡ effect_where config facts (placed_by config by line)
+  line_comes by (brings coming) = place_comes coming
+  line_comes by (acting bring) = acting_comes bring (acting_dealer config by)
+  line_comes by (quoting quote room bring) =
+      quoting_comes quote room bring (acting_dealer config by)
+  line_comes by (drops last moment) = drop_comes last moment by
 
   pub duty_comes : (by : Actor) (d : Duty)
       → duty_effect config facts by d ≡ effect_where config facts (placed config by d)
-  unfolding duty_effect placed arrival_effect dealer_gets investor_gets room_gets
-  duty_comes by (duty.Open room ask dealers moment) = grind arith
-  duty_comes by (duty.Show dealer room ask moment) = grind arith
-  duty_comes by (duty.Ready room moment) = grind arith
-  duty_comes by (duty.Post room quote price until moment) = grind arith
-  duty_comes by (duty.Relay room offer moment) = grind arith
-  duty_comes by (duty.Unpost room quote moment) = grind arith
-  duty_comes by (duty.Gone room word moment) = grind arith
-  duty_comes by (duty.Decline room moment) = grind arith
-  duty_comes by (duty.Declined room moment) = grind arith
-  duty_comes by (duty.Hit room response word moment) = grind arith
-  duty_comes by (duty.Pass room response moment) = grind arith
-  duty_comes by (duty.Answer room response reply moment) = grind arith
-  duty_comes by (duty.Close room moment) = grind arith
-  duty_comes by (duty.Tell dealer room close moment) = grind arith
-  duty_comes by (duty.Drop last moment) = grind arith
+  unfolding duty_effect placed
+  duty_comes by d = line_comes by (line_of config d)
 
   pub sweep_comes : (room : RoomRef) (moment : ℕ)
       → sweep_effect config facts room moment ≡ effect_where config facts (swept config room moment)
-  unfolding sweep_effect arrival_effect room_gets
-  sweep_comes room moment = grind arith
+  unfolding sweep_effect
+  sweep_comes room moment = place_comes (arrival.Room room (to_room.Expire moment))
 
 -- An action by what the table gives for it, or gives not.
 module _ {effect : Configuration → List Fact → Effect} (gives : Configuration → Option Placement)

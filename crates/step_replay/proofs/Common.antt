@@ -115,7 +115,7 @@ pub use Rattle.step_replay.specs.Openings.{InvestorOpens, InvestorsOpen, Dealers
 pub use Rattle.step_replay.specs.Openings.{owners_from}
 pub use Rattle.step_replay.specs.InvestorTrail.{InvestorEntry}
 pub use Rattle.dealer_desk.specs.SettledWords.{asked_word, asked_by}
-pub use Rattle.step_replay.specs.DealerView.{DealerView, answer_to, dealer_view, is_withdrawn_at}
+pub use Rattle.step_replay.specs.DealerView.{ViewState, answer_to, dealer_view, is_withdrawn_at}
 pub use Rattle.step_replay.specs.DealerView.{no_room, view_after, with_event_at_desk}
 unfoldable pub use Rattle.step_replay.specs.DealerView.{after_due}
 pub use Rattle.step_replay.specs.declared.floor.Lifting.{Lifting}

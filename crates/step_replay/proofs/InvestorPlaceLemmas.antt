@@ -22,7 +22,7 @@ use Rattle.investor_desk.specs.InvestorRules.{investor_verdict}
 use Rattle.investor_desk.specs.InvestorDesk.{DeskEvents, with_event, book_at}
 use Rattle.investor_desk.specs.InvestorOutput.{DeskState, after_event, desk_after, verdict_duty}
 use Rattle.investor_desk.specs.declared.events.InvestorEvent.TheVariants as event
-use Rattle.venue_steps.specs.InvestorSteps.{desk_after_own, duties_of_own, where_so, replies_to}
+use Rattle.venue_steps.specs.InvestorSteps.{desk_after_own, duties_of_own, with_event_if, replies_to}
 use Rattle.venue_places.specs.Brought.{investor_with}
 use Rattle.venue_places.specs.declared.arrivals.ForInvestor.{ForInvestor}
 use Rattle.venue_places.specs.declared.arrivals.ForInvestor.TheVariants as to_investor
@@ -164,7 +164,7 @@ module _ {config : Configuration} {facts : List Fact} {floor : Floor} {number : 
         (noted_push market place.desk.events trail more own.stands.state_is own.stands.notes_are))
 
     -- one event at its desk, where it may come
-    event_if : (may : Bool) (more : InvestorEvent) → desk ≡ where_so may place.desk more
+    event_if : (may : Bool) (more : InvestorEvent) → desk ≡ with_event_if may place.desk more
         → Does config facts (if may then at_market facts market more [] else nothing) after []
     event_if true more same = record { stands = event_stands more same; leaves = refl }
     event_if false more same = record {
@@ -207,18 +207,18 @@ module _ {config : Configuration} {facts : List Fact} {floor : Floor} {number : 
 
     known_does : (request : ℕ) (more : InvestorEvent) (action : InvestorMarket → Effect)
         → action market ≡ where_known facts request None more market
-        → desk ≡ where_so (knows (book_at place.desk) request None) place.desk more
+        → desk ≡ with_event_if (knows (book_at place.desk) request None) place.desk more
         → Does config facts (done_for (market_for config number) action) after []
     known_does request more action is same =
         by_market action []
         (subst (λ (e : Effect). Does config facts e after []) (sym is)
         (event_if (knows (book_by trail) request None) more
         (same ∙ ap (λ (b : InvestorBook).
-        where_so (knows b request None) place.desk more) book_is)))
+        with_event_if (knows b request None) place.desk more) book_is)))
 
     -- where an answer is known, and answers such a response
     answer_if : (known fits : Bool) (more : InvestorEvent)
-        → desk ≡ where_so (known && fits) place.desk more
+        → desk ≡ with_event_if (known && fits) place.desk more
         → Does config facts
         (if fits then (if known then at_market facts market more [] else nothing) else nothing)
         after []
@@ -242,7 +242,7 @@ module _ {config : Configuration} {facts : List Fact} {floor : Floor} {number : 
         (answer_if (knows (book_by trail) request response.k)
         (replies_to response.k reply) (event.Answered request response reply moment)
         (same ∙ ap (λ (b : InvestorBook).
-        where_so (knows b request response.k && replies_to response.k reply) place.desk
+        with_event_if (knows b request response.k && replies_to response.k reply) place.desk
         (event.Answered request response reply moment)) book_is))
     investor_does (to_investor.Close request moment) same =
         known_does request (event.Closed request moment) _ refl same

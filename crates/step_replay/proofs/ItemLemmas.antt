@@ -5,7 +5,7 @@ use Rattle.step_replay.proofs.Common.{replicate, take, Option, None, IfSome, opt
 use Rattle.step_replay.proofs.Common.{ap, ◌∙◌, subst, arith, take_all, take_more, common_steps}
 use Rattle.step_replay.proofs.Common.{fold-append, entry_in, Settled, DealerRow, Ask, Close}
 use Rattle.step_replay.proofs.Common.{DeskEvents, with_event, desk_after, asked_word, DealerEvent}
-use Rattle.step_replay.proofs.Common.{Due, DealerView, after_due, answer_to, dealer_view}
+use Rattle.step_replay.proofs.Common.{Due, ViewState, after_due, answer_to, dealer_view}
 use Rattle.step_replay.proofs.Common.{is_withdrawn_at, no_room, view_after, with_event_at_desk}
 use Rattle.step_replay.proofs.Common.{AreWordsOf, GrowsByEvents, IsOfRow, Row, StandsFor}
 use Rattle.step_replay.proofs.Common.{with_asked, with_wish}
@@ -31,7 +31,7 @@ module _ (grows : GrowsByEvents) (asked : DeskEvents → Option ℕ)
     (within : IfSome (asked desk) (IsOfRow desk.row.quotes))
     (after_is : after ≡ with_event desk (more (option_map (settlement_in words) (asked desk))))
     (words_are : words_after ≡ with_asked words (asked desk)) where
-  pub asking_stands : (view : DealerView) → StandsFor view desk words
+  pub asking_stands : (view : ViewState) → StandsFor view desk words
       → StandsFor (with_event_at_desk view (more (option_map (answer_to view) (asked view.desk))))
       after words_after
   asking_stands view stands =
@@ -64,7 +64,7 @@ shown_happens grows desk after words ask moment after_is view stands = record {
 }
 
 -- a notice, where one is due or not
-notice_words : GrowsByEvents → (view : DealerView) (words : Row) (more : DealerEvent) (may : Bool)
+notice_words : GrowsByEvents → (view : ViewState) (words : Row) (more : DealerEvent) (may : Bool)
     → asks_at view.desk more ≡ [] → AreWordsOf view words
     → AreWordsOf (record view { desk = if may then with_event view.desk more else view.desk }) words
 notice_words grows view words more true asks are = unasked grows view words more asks are

@@ -4,7 +4,7 @@ use Rattle.step_replay.proofs.Common.{dealer_numbered, DeskState, desk_after, De
 use Rattle.step_replay.proofs.Common.{DealerPlace, DealerStands, audit_trail, Step}
 use Rattle.dealer_desk.specs.DealerNotes.{dealer_notes}
 use Rattle.step_replay.specs.AuditTrail.{due_to}
-use Rattle.step_replay.specs.DealerView.{DealerView}
+use Rattle.step_replay.specs.DealerView.{ViewState}
 use Rattle.step_replay.specs.IsolationLemmas.{seen_is_kept}
 use Rattle.step_replay.specs.NoteViews.{dealer_note_view, notes_at}
 use Rattle.step_replay.specs.SeenLemmas.{Seen, start_seen}
@@ -29,4 +29,4 @@ noted_as_viewed same config steps dealer row place is stands =
     ∙ same config.date row place.desk.events seen.events
     (ap (λ (state : DeskState). state.facts) stands.state_is
     ∙ sym (ap (λ (state : DeskState). state.facts) seen.state_is))
-    ∙ sym (ap (λ (view : DealerView). notes_at view.desk) seen.view_is)
+    ∙ sym (ap (λ (view : ViewState). notes_at view.desk) seen.view_is)

@@ -7,7 +7,7 @@ use Rattle.step_replay.proofs.Common.{eq-eqb, not, ◌++◌, subst, nat_tests, l
 use Rattle.step_replay.proofs.Common.{list_any-append, settlement_of, entry_in, Exchanges}
 use Rattle.step_replay.proofs.Common.{exchange_answers_entry, exchange_keeps_others, Settled}
 use Rattle.step_replay.proofs.Common.{DeskEvents, book_at, with_event, asked_by, asked_word}
-use Rattle.step_replay.proofs.Common.{says_withdrawn, DealerEvent, DealerView, answer_to}
+use Rattle.step_replay.proofs.Common.{says_withdrawn, DealerEvent, ViewState, answer_to}
 use Rattle.step_replay.proofs.Common.{is_withdrawn_at, with_event_at_desk, AreWordsOf}
 use Rattle.step_replay.proofs.Common.{GrowsByEvents, IsOfRow, Row, StandsFor, with_asked, with_wish}
 use Rattle.step_replay.proofs.Common.{withdraws_by, word_if}
@@ -30,7 +30,7 @@ in_row quote count is = (grind (arith, nat_tests), grind (arith, nat_tests))
 
 -- One exchange, on the word of a quote: the words are then these, where the word that is asked is its
 -- settlement and each other stays.
-pub exchanged : (view : DealerView) (words : Row) (quote : ℕ) (wish : Settled)
+pub exchanged : (view : ViewState) (words : Row) (quote : ℕ) (wish : Settled)
     (word_then : ℕ → Option Settled) → length words ≡ view.desk.row.quotes
     → IsOfRow view.desk.row.quotes quote → AreWordsOf view words
     → word_then quote ≡ Some (settlement_of (word_of view quote) wish)
@@ -80,7 +80,7 @@ answer_of_word false true = refl
 answer_of_word false false = refl
 
 -- what the row answers is what the view answers
-answers_agree : (view : DealerView) (words : Row) (quote : ℕ)
+answers_agree : (view : ViewState) (words : Row) (quote : ℕ)
     → AreWordsOf view words → IsOfRow view.desk.row.quotes quote
     → settlement_in words quote ≡ answer_to view quote
 answers_agree view words quote are within =
@@ -91,7 +91,7 @@ abbrev pub asks_at : DeskEvents → DealerEvent → List (ℕ × Settled)
 asks_at desk more = asked_by desk.date desk.row (book_at desk) more
 
 -- an event that asks no word
-pub unasked : GrowsByEvents → (view : DealerView) (words : Row) (more : DealerEvent)
+pub unasked : GrowsByEvents → (view : ViewState) (words : Row) (more : DealerEvent)
     → asks_at view.desk more ≡ [] → AreWordsOf view words
     → AreWordsOf (with_event_at_desk view more) words
 unasked grows view words more asks are quote within =
@@ -118,7 +118,7 @@ word_left lifted before Lifted quote asked other =
     ap (word_if lifted) (or_none before false (asked == quote) other)
 
 -- an event that asks the word of a quote
-asked_words : GrowsByEvents → (view : DealerView) (words : Row) (asked : ℕ) (more : DealerEvent)
+asked_words : GrowsByEvents → (view : ViewState) (words : Row) (asked : ℕ) (more : DealerEvent)
     → asks_at view.desk more ≡ (asked, answer_to view asked) ∷ []
     → length words ≡ view.desk.row.quotes → IsOfRow view.desk.row.quotes asked
     → AreWordsOf view words
@@ -131,7 +131,7 @@ asked_words grows view words asked more asks count within are =
     (is_withdrawn_at view.desk quote) (answer_to view asked) quote asked differs))
 
 -- an event that asks this word, or none, with the settlement of the row
-pub asked_stands : GrowsByEvents → (view : DealerView) (words : Row) (asked : Option ℕ)
+pub asked_stands : GrowsByEvents → (view : ViewState) (words : Row) (asked : Option ℕ)
     → (more : Option Settled → DealerEvent)
     → ((settlement : Option Settled) → asks_at view.desk (more settlement) ≡ asked_word asked settlement)
     → length words ≡ view.desk.row.quotes → IfSome asked (IsOfRow view.desk.row.quotes)
@@ -168,10 +168,10 @@ word_lifted true false true is counts = refl
 word_lifted false false true is counts = refl
 
 -- the view with one lifting more that counts
-abbrev pub with_lifted : DealerView → ℕ → DealerView
+abbrev pub with_lifted : ViewState → ℕ → ViewState
 with_lifted view quote = record view { lifted = view.lifted ++ quote ∷ [] }
 
-module _ (view : DealerView) (words : Row) (quote : ℕ)
+module _ (view : ViewState) (words : Row) (quote : ℕ)
     (count : length words ≡ view.desk.row.quotes) (within : IsOfRow view.desk.row.quotes quote)
     (are : AreWordsOf view words) where
   -- whether a quote is lifted then
@@ -199,7 +199,7 @@ module _ (view : DealerView) (words : Row) (quote : ℕ)
       (lifted_now other ∙ or_none (is_lifted view other) true (quote == other) differs))
 
 -- by whether the quote has a word, and whether it was withdrawn
-pub lifting_words : (view : DealerView) (words : Row) (quote : ℕ) (has_word withdrawn : Bool)
+pub lifting_words : (view : ViewState) (words : Row) (quote : ℕ) (has_word withdrawn : Bool)
     → (nat_le 1 quote && nat_le quote view.desk.row.quotes) ≡ has_word
     → is_withdrawn_at view.desk quote ≡ withdrawn
     → length words ≡ view.desk.row.quotes → AreWordsOf view words
@@ -212,7 +212,7 @@ lifting_words view words quote true false has is count are =
     lifted_words view words quote count (in_row quote view.desk.row.quotes has) are is
 
 -- no lifting changes the desk
-pub lifting_desk : (view : DealerView) (quote : ℕ) (counts : Bool)
+pub lifting_desk : (view : ViewState) (quote : ℕ) (counts : Bool)
     → view.desk ≡ (if counts then with_lifted view quote else view).desk
 lifting_desk view quote true = refl
 lifting_desk view quote false = refl

@@ -21,14 +21,15 @@ use Rattle.investor_desk.specs.InvestorRules.{InvestorMarket}
 use Rattle.investor_desk.specs.declared.events.InvestorEvent.{InvestorEvent}
 use Rattle.request_room.specs.Book.{event_facts}
 use Rattle.request_room.specs.declared.events.RoomEvent.{RoomEvent}
-use Rattle.venue_steps.specs.InvestorSteps.{replies_to}
-use Rattle.venue_steps.specs.RoomSteps.{hit_word}
+use Rattle.venue_steps.specs.Replies.{replies_to}
+use Rattle.venue_steps.specs.RoomDuties.{hit_word}
 use Rattle.venue_places.specs.Dealers.{Dealer, acting_dealer, dealer_at, dealer_of}
 use Rattle.venue_places.specs.declared.actors.Actor.{Actor}
 use Rattle.venue_places.specs.declared.actors.Actor.TheVariants as actor
 use Rattle.step_replay.specs.Actions
+use Rattle.step_replay.specs.LineActions
 use Rattle.step_replay.specs.Actions.{Effect, nothing, done_by, done_for, at_dealer, at_market}
-use Rattle.step_replay.specs.Actions.{settlement_of, answer_to_hit, drop_at, hit_in, hit_with}
+use Rattle.step_replay.specs.Actions.{settlement_of, answer_to_hit, drop_at, hit_with}
 use Rattle.step_replay.specs.Actions.{in_room, quote_asked, told_of, where_known}
 use Rattle.step_replay.specs.DutyEffects.{duty_effect, message_effect, sweep_effect}
 use Rattle.step_replay.specs.DealerTrail.{DealerEntry, book_by}
@@ -183,7 +184,7 @@ module _ (config : Configuration) (facts : List Fact) where
       (λ yes. by_hit room response word moment refl refl)
   duty_action by (duty.Pass room response moment) = in_a_room None room true _ _
   duty_action by (duty.Answer room response reply moment) =
-      invested None room.investor (Actions.answered_by facts room response reply moment)
+      invested None room.investor (LineActions.answered_by facts room response reply moment)
       (λ row is. if_so (Some room.investor) None (replies_to response.k reply) _
       (λ yes. known None room.investor room.n response.k _ row is))
   duty_action by (duty.Close room moment) = known_to None room.investor room.n _

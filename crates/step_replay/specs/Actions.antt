@@ -8,7 +8,6 @@ use Rattle.std.specs.Option.{option_map, option_to_list}
 use Rattle.market_terms.specs.declared.asks.Ask.{Ask}
 use Rattle.market_terms.specs.declared.closes.Close.{Close}
 use Rattle.market_terms.specs.declared.closes.HitRefusal.{HitRefusal}
-use Rattle.market_terms.specs.declared.closes.Reply.{Reply}
 use Rattle.market_terms.specs.declared.duties.Duty.{Duty}
 use Rattle.market_terms.specs.declared.rooms.ResponseRef.{ResponseRef}
 use Rattle.market_terms.specs.declared.rooms.RoomRef.{RoomRef}
@@ -23,19 +22,15 @@ use Rattle.dealer_desk.specs.declared.events.DealerEvent.{DealerEvent}
 use Rattle.dealer_desk.specs.declared.events.DealerEvent.TheVariants as at_desk
 use Rattle.investor_desk.specs.InvestorFacts.{knows}
 use Rattle.investor_desk.specs.InvestorRules.{InvestorMarket, investor_verdict}
-use Rattle.investor_desk.specs.InvestorDesk as investor_desk
 use Rattle.investor_desk.specs.InvestorOutput as investor_output
 use Rattle.investor_desk.specs.declared.events.InvestorEvent.{InvestorEvent}
 use Rattle.investor_desk.specs.declared.events.InvestorEvent.TheVariants as at_investor
-use Rattle.request_room.specs.RoomFacts.{hears}
 use Rattle.request_room.specs.Book.{event_facts, hit_outcome}
 use Rattle.request_room.specs.declared.ends.End.{End}
 use Rattle.request_room.specs.declared.events.RoomEvent.{RoomEvent}
 use Rattle.request_room.specs.declared.events.RoomEvent.TheVariants as at_room
-use Rattle.venue_steps.specs.InvestorSteps.{replies_to}
-use Rattle.venue_steps.specs.RoomSteps.{duties_of_open, duties_of_post, duties_of_unpost}
-use Rattle.venue_steps.specs.RoomSteps.{duties_of_decline, duties_of_hit, hit_word}
-use Rattle.venue_steps.specs.Words.{has_word}
+use Rattle.venue_steps.specs.RoomDuties.{duties_of_hit, hit_word}
+use Rattle.venue_steps.specs.WordNumbers.{has_word}
 use Rattle.step_replay.specs.DealerTrail.{DealerEntry, Lifted, book_by, rooms_by, answer_to_dealer}
 use Rattle.step_replay.specs.DealerTrail.{answer_to_investor, entries_of}
 use Rattle.step_replay.specs.InvestorTrail as investor_trail
@@ -165,35 +160,6 @@ in_room config facts room may event duties =
     }
     else nothing
 
--- the room of a request is opened
-abbrev pub opened : Configuration → List Fact → RoomRef → Ask → List ℕ → ℕ → Effect
-opened config facts room ask dealers moment =
-    in_room config facts room true (at_room.Open (record { ask = ask; dealers = dealers }))
-    (duties_of_open (of_room room facts) room ask dealers moment)
-
--- a quote is posted, where the venue has its word
-abbrev pub posted_by : Configuration → List Fact → RoomRef → ℕ → ℕ → Option ℕ → ℕ → Dealer → Effect
-posted_by config facts room quote price valid_until moment dealer =
-    let known = of_room room facts in
-    in_room config facts room (has_word_for config dealer quote && hears known dealer.number)
-    (at_room.Post dealer.number (word_for config dealer quote) price valid_until)
-    (duties_of_post known room dealer.number (offer_of config dealer quote price valid_until) moment)
-
--- a quote is taken out, where the venue has its word
-abbrev pub unposted_by : Configuration → List Fact → RoomRef → ℕ → ℕ → Dealer → Effect
-unposted_by config facts room quote moment dealer =
-    let known = of_room room facts in
-    in_room config facts room (has_word_for config dealer quote && hears known dealer.number)
-    (at_room.Unpost dealer.number (word_for config dealer quote))
-    (duties_of_unpost known room dealer.number (word_for config dealer quote) moment)
-
--- a dealer declines
-abbrev pub declined_by : Configuration → List Fact → RoomRef → ℕ → Dealer → Effect
-declined_by config facts room moment dealer =
-    let known = of_room room facts in
-    in_room config facts room (hears known dealer.number) (at_room.Decline dealer.number)
-    (duties_of_decline known room dealer.number moment)
-
 -- A hit: where no check of the room refuses it, the word of the quote is lifted where it is open.
 
 -- the settlement of a quote's word to an investor that would lift it
@@ -265,16 +231,3 @@ where_known facts request quote event market =
 abbrev pub done_for : Option InvestorMarket → (InvestorMarket → Effect) → Effect
 done_for None action = nothing
 done_for (Some market) action = action market
-
--- what comes to the investor of a request
-abbrev pub at_investor_of : Configuration → RoomRef → (InvestorMarket → Effect) → Effect
-at_investor_of config room action =
-    done_for (investor_desk.market_for config room.investor) action
-
--- the room's reply to a response
-abbrev pub answered_by : List Fact → RoomRef → ResponseRef → Reply → ℕ → InvestorMarket → Effect
-answered_by facts room response reply moment market =
-    if replies_to response.k reply
-    then where_known facts room.n response.k (at_investor.Answered room.n response reply moment)
-    market
-    else nothing

@@ -17,7 +17,7 @@ use Rattle.request_room.specs.RoomFacts.{RoomFact}
 use Rattle.request_room.specs.declared.events.RoomEvent.TheVariants as at_room
 use Rattle.request_room.specs.Book.{event_facts, hit_refusal, hit_settled, award_of, word_or}
 use Rattle.request_room.specs.declared.ends.End.{End}
-use Rattle.venue_steps.specs.RoomSteps.{word_asked_by, hit_word}
+use Rattle.venue_steps.specs.RoomDuties.{word_asked_by, hit_word}
 use Rattle.step_replay.specs.DealerTrail.{DealerEntry, was_withdrawn}
 use Rattle.step_replay.specs.OwnerLemmas.{quote_of_day}
 use Rattle.step_replay.specs.VenueFacts.{Fact, InRoom, of_dealer, of_room, entry_at_dealer}

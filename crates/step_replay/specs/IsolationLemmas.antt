@@ -4,7 +4,7 @@ use Rattle.venue_rows.specs.Rows.{Configuration, dealer_numbered}
 use Rattle.venue_rows.specs.declared.dealer_rows.DealerRow.{DealerRow}
 use Rattle.dealer_desk.specs.DealerOutput.{DeskState}
 use Rattle.step_replay.specs.AuditTrail.{audit_trail, sent_to, due_to}
-use Rattle.step_replay.specs.DealerView.{DealerView, dealer_view, sent_at}
+use Rattle.step_replay.specs.DealerView.{ViewState, dealer_view, sent_at}
 use Rattle.step_replay.specs.declared.steps.Step.{Step}
 use Rattle.step_replay.specs.SeenLemmas.{Seen, own_seen, drop_seen, shown_seen, told_seen}
 use Rattle.step_replay.specs.SeenLemmas.{lifted_seen, start_seen}
@@ -32,4 +32,4 @@ is_sent_its_view config steps dealer row is =
     (seen_is_kept config.date row) (start_seen config.date row) steps in
     rw (ap is_some is)
     (sym (ap (λ (state : DeskState). state.sent) seen.state_is)
-    ∙ sym (ap (λ (view : DealerView). sent_at view.desk) seen.view_is))
+    ∙ sym (ap (λ (view : ViewState). sent_at view.desk) seen.view_is))

@@ -19,6 +19,7 @@ pub mod InvestorGrowth
 pub mod InvestorTrail
 pub mod IsolationLemmas
 pub mod Liftings
+pub mod LineActions
 pub mod Lists
 pub mod LiveDays
 pub mod LiveStanding
@@ -43,4 +44,5 @@ pub mod TrailKept
 pub mod TrailLemmas
 pub mod VenueFacts
 pub mod VenueRooms
+pub mod WhereComing
 pub mod WordLemmas

@@ -11,7 +11,7 @@ use Rattle.dealer_desk.specs.SettledWords.{asked_by}
 use Rattle.dealer_desk.specs.DeskLaws.{says_withdrawn}
 use Rattle.dealer_desk.specs.declared.events.DealerEvent.{DealerEvent}
 use Rattle.step_replay.specs.declared.dues.Due.{Due}
-use Rattle.step_replay.specs.DealerView.{DealerView, after_due, is_lifted, is_withdrawn_at}
+use Rattle.step_replay.specs.DealerView.{ViewState, after_due, is_lifted, is_withdrawn_at}
 
 -- A row of words: what each of them is, or none while it is open. Words are numbered from 0,
 -- quotes from 1.
@@ -48,17 +48,17 @@ word_if false true = Some Withdrawn
 word_if false false = None
 
 -- what the word of a quote is by a view
-abbrev pub word_of : DealerView → ℕ → Option Settled
+abbrev pub word_of : ViewState → ℕ → Option Settled
 word_of view quote = word_if (is_lifted view quote) (is_withdrawn_at view.desk quote)
 
 -- the words of a row are those of a view
-abbrev pub AreWordsOf : DealerView → Row → Type 0
+abbrev pub AreWordsOf : ViewState → Row → Type 0
 AreWordsOf view words =
     (quote : ℕ) → IsOfRow view.desk.row.quotes quote
     → entry_in words (quote - 1) ≡ word_of view quote
 
 -- a desk and a row of words stand for a view
-pub record StandsFor (view : DealerView) (desk : DeskEvents) (words : Row) : Type 0 where
+pub record StandsFor (view : ViewState) (desk : DeskEvents) (words : Row) : Type 0 where
   pub desk_is : desk ≡ view.desk
   pub words_are : AreWordsOf view words
 
@@ -70,7 +70,7 @@ pub record DeskAndWords : Type 0 where
 -- an item happens: whatever view a desk and its words stood for, they now stand for the view after
 -- it
 abbrev pub Happens : Due → DeskAndWords → DeskAndWords → Type 0
-Happens due before after = (view : DealerView)
+Happens due before after = (view : ViewState)
     → StandsFor view before.desk before.words
     → StandsFor (after_due view due) after.desk after.words
 

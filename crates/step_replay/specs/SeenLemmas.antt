@@ -27,7 +27,7 @@ use Rattle.step_replay.specs.DealerTrail.{DealerEntry, Lifted, facts_of, book_by
 use Rattle.step_replay.specs.DealerTrail.{was_lifted, was_withdrawn, answer_to_dealer, lifts}
 use Rattle.step_replay.specs.DealerTrail.{entries_of, fact_in, message_in}
 use Rattle.step_replay.specs.DueList.{due_by, due_by_fact, due_list}
-use Rattle.step_replay.specs.DealerView.{DealerView, after_due, view_after, view_at_start}
+use Rattle.step_replay.specs.DealerView.{ViewState, after_due, view_after, view_at_start}
 use Rattle.step_replay.specs.DealerView.{answer_to, no_room}
 use Rattle.step_replay.specs.declared.dues.Due.{Due}
 use Rattle.step_replay.specs.declared.dues.Due.TheVariants as due
@@ -36,7 +36,7 @@ use Rattle.step_replay.specs.DealerGrowth.{verdict_undue, facts_grown, sent_grow
 use Rattle.step_replay.specs.DealerGrowth.{lifted_grown}
 
 -- the view at a desk with these events, where these quotes are lifted
-abbrev pub view_of : List ℕ → DealerRow → List DealerEvent → List ℕ → DealerView
+abbrev pub view_of : List ℕ → DealerRow → List DealerEvent → List ℕ → ViewState
 view_of date row events lifted = record {
   desk = record { date = date; row = row; events = events };
   lifted = lifted;
@@ -99,7 +99,7 @@ module _ (date : List ℕ) (row : DealerRow) (trail : List DealerEntry) (more : 
 module _ (date : List ℕ) (row : DealerRow) (trail : List DealerEntry) (before : Seen date row trail)
   where
     -- the view as it stands
-    abbrev view : DealerView
+    abbrev view : ViewState
     view = view_of date row before.events before.lifted
 
     -- the book is that of the trail
@@ -174,7 +174,7 @@ module _ (date : List ℕ) (row : DealerRow) (trail : List DealerEntry) (before 
         (ap (λ (b : Bool). view_if b (event.Told request close moment))
         (ap (λ (book : DealerBook). is_some (closable book request)) book_is ∙ is))
       where
-        view_if : Bool → DealerEvent → DealerView
+        view_if : Bool → DealerEvent → ViewState
         view_if b more = record view {
           desk = if b then record view.desk { events = before.events ++ more ∷ [] } else view.desk;
         }
@@ -208,7 +208,7 @@ module _ (date : List ℕ) (row : DealerRow) (trail : List DealerEntry) (before 
             && not (list_any (withdraws quote) state.facts)) before.state_is
             ∙ rw (within, still) refl
 
-        view_if : Bool → DealerView
+        view_if : Bool → ViewState
         view_if b = if b then record view { lifted = before.lifted ++ quote ∷ [] } else view
 
 -- at the start of the day nothing stands

@@ -9,7 +9,7 @@ ghost use Rattle.venue_places.specs.Placed.{placed, swept};
 ghost use Rattle.venue_places.specs.declared.actors.Actor.{Actor};
 ghost use Rattle.step_replay.specs.DutyEffects.{duty_effect, sweep_effect};
 ghost use Rattle.step_replay.specs.AuditTrail as venue;
-ghost use Rattle.step_replay.specs.Coming.{effect_where};
+ghost use Rattle.step_replay.specs.WhereComing.{effect_where};
 ghost use Rattle.step_replay.specs.DealerView.{dealer_view};
 ghost use Rattle.step_replay.specs.DealerTrail.{was_lifted, was_withdrawn};
 ghost use Rattle.step_replay.specs.FirmDays.{FirmDay, firm_days};

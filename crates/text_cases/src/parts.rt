@@ -1,34 +1,14 @@
 //! Parts of calls that are terms of the market.
 
 use crate::prices::grid_of;
-use case_lines::{CaseFault, Words, ask_of, price_of};
-use fix_fields::Moment;
-use market_terms::{Ask, Id, IdBuf};
-use quote_messages::{QuoteRejectReason, QuotedPrice, RequestRejectReason, SessionRejectReason};
+use case_lines::{CaseFault, Words, ask_of};
+use market_terms::{Ask, Id};
+use quote_messages::{QuoteRejectReason, RequestRejectReason, SessionRejectReason};
 
 /// An identifier.
 pub(crate) fn id_of<'a>(words: &mut Words<'a>) -> Result<Id<'a>, CaseFault> {
     let word = words.word()?;
     Id::new(word.as_bytes()).ok_or(CaseFault::Condition)
-}
-
-/// An identifier, or none for a dash.
-pub(crate) fn id_or_none<'a>(words: &mut Words<'a>) -> Result<Option<Id<'a>>, CaseFault> {
-    let word = words.word()?;
-    if word == "-" {
-        return Ok(None);
-    }
-    let id = Id::new(word.as_bytes()).ok_or(CaseFault::Condition)?;
-    Ok(Some(id))
-}
-
-/// A word, or none for a dash.
-pub(crate) fn word_or_none<'a>(words: &mut Words<'a>) -> Result<Option<&'a str>, CaseFault> {
-    let word = words.word()?;
-    if word == "-" {
-        return Ok(None);
-    }
-    Ok(Some(word))
 }
 
 /// What a request asks for: INVESTOR BOND SIDE QUANTITY DEADLINE GRID.
@@ -66,17 +46,6 @@ pub(crate) fn quote_reason_of(word: &str) -> Result<QuoteRejectReason, CaseFault
     }
 }
 
-/// Why a quote is refused, by its name, or none for a dash.
-pub(crate) fn quote_reason_or_none(
-    words: &mut Words,
-) -> Result<Option<QuoteRejectReason>, CaseFault> {
-    let Some(word) = word_or_none(words)? else {
-        return Ok(None);
-    };
-    let reason = quote_reason_of(word)?;
-    Ok(Some(reason))
-}
-
 /// Why a request is refused, by its name.
 pub(crate) fn request_reason_of(word: &str) -> Result<RequestRejectReason, CaseFault> {
     match word {
@@ -86,26 +55,4 @@ pub(crate) fn request_reason_of(word: &str) -> Result<RequestRejectReason, CaseF
         "Other" => Ok(RequestRejectReason::Other),
         _ => Err(CaseFault::Form),
     }
-}
-
-/// A dealer's quote, ID PRICE, or none for a dash.
-pub(crate) fn quoted_or_none(words: &mut Words) -> Result<Option<QuotedPrice>, CaseFault> {
-    let Some(id) = id_or_none(words)? else {
-        return Ok(None);
-    };
-    let price = price_of(words)?;
-    Ok(Some(QuotedPrice {
-        id: IdBuf::of(&id),
-        price,
-    }))
-}
-
-/// A moment, or none for a dash.
-pub(crate) fn moment_or_none(words: &mut Words) -> Result<Option<Moment>, CaseFault> {
-    let word = words.word()?;
-    if word == "-" {
-        return Ok(None);
-    }
-    let moment = Words::of(word).moment()?;
-    Ok(Some(moment))
 }

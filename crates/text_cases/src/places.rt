@@ -1,13 +1,9 @@
 //! The places of this crate by their names.
 
-use crate::blotters::BlotterCases;
-use crate::configuration::ConfigCases;
 use crate::frames::FrameCases;
-use crate::received::ReceivedCases;
 use crate::single_values::SingleValues;
 use crate::streams::StreamCases;
 use crate::writer::WriterCases;
-use crate::written::WrittenCases;
 use case_lines::{CaseFault, CaseFile, Report};
 use std::alloc::Global;
 
@@ -17,10 +13,6 @@ pub fn run_place(file: &CaseFile<'_>, report: &mut Report) -> Result<bool, CaseF
         "frames" => file.run(FrameCases::new, report),
         "frame_writer" => file.run(WriterCases::new, report),
         "streams" => file.run(StreamCases::new, report),
-        "configuration" => file.run(ConfigCases::new, report),
-        "received" => file.run(ReceivedCases::new, report),
-        "written" => file.run(WrittenCases::new, report),
-        "blotters" => file.run(BlotterCases::new, report),
         _ => run_single_values(file, report),
     }
 }

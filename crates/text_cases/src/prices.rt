@@ -1,13 +1,15 @@
-//! Prices and grids.
+//! Prices, grids and bands.
 
 use crate::printing::push_number;
-use bond_prices::{Grid, PriceFault, Ticks, on_grid, price_text, read_price, thirty_seconds};
+use bond_prices::{
+    Band, Grid, PriceFault, Ticks, in_band, on_grid, price_text, read_price, thirty_seconds,
+};
 use case_lines::{Call, CaseFault, Words, bytes_of, price_of, push_line, push_truth};
 use std::alloc::Global;
 use std::fmt::Write;
 
-/// Makes a call of the place `prices`: prices, their texts, and grids. A price is its number of
-/// 256ths.
+/// Makes a call of the place `prices`: prices, their texts, grids and bands. A price is its number
+/// of 256ths.
 ///
 /// - `read TEXT`: the price, or the fault. `fault TEXT`: what the fault says.
 /// - `price NUMBER`: the number, where it is a price. `text NUMBER`, `said NUMBER`: its texts, in
@@ -18,6 +20,8 @@ use std::fmt::Write;
 /// - `grid STEPS`: the steps, where they are a grid; `finest`: those of the finest.
 ///   `same_grid STEPS STEPS`: whether they are the same. `on STEPS NUMBER`: whether a price is on
 ///   a grid.
+/// - `in LOW HIGH NUMBER`: whether a price is in a band. `whole LOW HIGH`: whether it is the band of
+///   every price. `same_band LOW HIGH LOW HIGH`: whether two bands are the same.
 pub(crate) fn call_prices(call: &mut Call<'_>) -> Result<(), CaseFault> {
     match call.name {
         "read" => push_reading(call.alloc, &mut call.answer, call.words.rest()),
@@ -39,12 +43,49 @@ fn push_of_grids(call: &mut Call<'_>) -> Result<(), CaseFault> {
         "finest" => push_number(&mut call.answer, u64::from(Grid::FINEST.get())),
         "same_grid" => push_same_grid(&mut call.answer, &mut call.words),
         "on" => push_on(&mut call.answer, &mut call.words),
+        _ => push_of_bands(call),
+    }
+}
+
+/// What is asked of bands.
+fn push_of_bands(call: &mut Call<'_>) -> Result<(), CaseFault> {
+    match call.name {
+        "in" => push_in(&mut call.answer, &mut call.words),
+        "whole" => push_whole(&mut call.answer, &mut call.words),
+        "same_band" => push_same_band(&mut call.answer, &mut call.words),
         _ => Err(CaseFault::Form),
     }
 }
 
+/// The band between two prices.
+fn ends_of(words: &mut Words) -> Result<Band, CaseFault> {
+    let low = price_of(words)?;
+    let high = price_of(words)?;
+    Ok(Band { low, high })
+}
+
+/// `in LOW HIGH NUMBER`: whether a price is in a band.
+fn push_in(answer: &mut String, words: &mut Words) -> Result<(), CaseFault> {
+    let band = ends_of(words)?;
+    let price = price_of(words)?;
+    push_truth(answer, in_band(price, band))
+}
+
+/// `whole LOW HIGH`: whether it is the band of every price.
+fn push_whole(answer: &mut String, words: &mut Words) -> Result<(), CaseFault> {
+    let band = ends_of(words)?;
+    push_truth(answer, band.is_whole())
+}
+
+/// `same_band LOW HIGH LOW HIGH`: whether two bands are the same.
+fn push_same_band(answer: &mut String, words: &mut Words) -> Result<(), CaseFault> {
+    let first = ends_of(words)?;
+    let second = ends_of(words)?;
+    push_truth(answer, first.is_same(second))
+}
+
 /// The name of a price's fault.
-pub(crate) fn price_fault_name(fault: PriceFault) -> &'static str {
+fn price_fault_name(fault: PriceFault) -> &'static str {
     match fault {
         PriceFault::Form => "Form",
         PriceFault::Range => "Range",

@@ -1,5 +1,6 @@
 //! The places of single values.
 
+use crate::beyond_days::call_beyond_days;
 use crate::moments::call_moments;
 use crate::prices::call_prices;
 use crate::terms::call_terms;
@@ -13,6 +14,7 @@ pub(crate) enum SingleValues {
     Prices,
     Terms,
     MessageValues,
+    BeyondDays,
 }
 
 impl SingleValues {
@@ -23,6 +25,7 @@ impl SingleValues {
             "prices" => Some(SingleValues::Prices),
             "terms" => Some(SingleValues::Terms),
             "message_values" => Some(SingleValues::MessageValues),
+            "beyond_days" => Some(SingleValues::BeyondDays),
             _ => None,
         }
     }
@@ -35,6 +38,7 @@ impl Place for SingleValues {
             SingleValues::Prices => call_prices(call),
             SingleValues::Terms => call_terms(call),
             SingleValues::MessageValues => call_message_values(call),
+            SingleValues::BeyondDays => call_beyond_days(call),
         }
     }
 }

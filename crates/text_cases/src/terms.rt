@@ -2,7 +2,10 @@
 
 use crate::parts::{ask_with_grid, id_of};
 use crate::printing::{push_field, push_number, push_number_field, push_time_field};
-use case_lines::{Call, CaseFault, Words, bytes_of, push_bytes_line, push_line, push_truth};
+use bond_prices::Band;
+use case_lines::{
+    Call, CaseFault, Words, band_of, bytes_of, push_bytes_line, push_line, push_truth,
+};
 use market_terms::{Ask, AskedDealers, Close, HitRefusal, Id, IdBuf, Quantity, Side};
 use std::alloc::Global;
 use std::cmp::Ordering;
@@ -16,7 +19,7 @@ use std::fmt::Write;
 /// - `dealers NUMBER ..`: the dealers that a request may name, and their copy.
 ///   `names DEALER NUMBER ..`: whether a dealer is one of them.
 /// - `sides`, `closes`, `refusals`: the codes (54, 694) and names.
-/// - `ask INVESTOR BOND SIDE QUANTITY DEADLINE GRID`: the copy of an ask.
+/// - `ask INVESTOR BOND SIDE QUANTITY DEADLINE GRID [LOW HIGH]`: the copy of an ask.
 pub(crate) fn call_terms(call: &mut Call<'_>) -> Result<(), CaseFault> {
     match call.name {
         "quantity" => push_quantity(&mut call.answer, &mut call.words),
@@ -149,9 +152,13 @@ fn push_refusals(answer: &mut String) -> Result<(), CaseFault> {
 
 /// `ask ..`: the copy of an ask.
 fn push_ask(answer: &mut String, words: &mut Words) -> Result<(), CaseFault> {
-    let copy = ask_with_grid(words)?.copy();
+    let mut ask = ask_with_grid(words)?;
+    ask.band = band_of(words)?;
+    let copy = ask.copy();
     push_ask_fields(answer, &copy)?;
-    writeln!(answer, "grid={}", copy.grid.get())?;
+    write!(answer, "grid={}", copy.grid.get())?;
+    push_band(answer, copy.band)?;
+    writeln!(answer)?;
     Ok(())
 }
 
@@ -162,4 +169,14 @@ fn push_ask_fields(answer: &mut String, ask: &Ask) -> Result<(), CaseFault> {
     push_number_field(answer, 54, ask.side.code())?;
     push_number_field(answer, 38, ask.quantity.get())?;
     push_time_field(answer, 126, ask.deadline)
+}
+
+/// The ends of a band, each behind a space, where not every price is in it.
+fn push_band(answer: &mut String, band: Band) -> Result<(), CaseFault> {
+    let Band { low, high } = band;
+    if band.is_whole() {
+        return Ok(());
+    }
+    write!(answer, " {} {}", low.get(), high.get())?;
+    Ok(())
 }

@@ -86,6 +86,7 @@ limits_read version document config bonds_are dealers_are investors_are bonds de
       bonds_distinct = own_bonds.distinct;
       bonds_named = own_bonds.named;
       bonds_on_grids = own_bonds.on_grids;
+      bonds_banded = own_bonds.banded;
       firms_distinct = firms.distinct;
       firms_named = firms.named;
       dealer_traders = unmapped_traders config.dealers own_dealers.traders;

@@ -6,17 +6,24 @@ use Rattle.std.proofs.Common.{ap, ◌∙◌}
 use Rattle.std.specs.Option.{option_and_then}
 use Rattle.toml.specs.Data.{Data, Items, no_items, item, get, as_str, as_integer, as_array}
 use Rattle.venue_rows.specs.Texts.{is_among, is_name}
-use Rattle.venue_config.specs.Keys.{NumberKey, ChoiceKey, TextKey, ArrayKey, version_key, has_grids}
+use Rattle.venue_config.specs.Keys.{NumberKey, ChoiceKey, TextKey, ArrayKey, version_key}
+use Rattle.venue_config.specs.Keys.{has_bands, has_grids, high_key, low_key}
 use Rattle.venue_config.specs.Keys.{date_key, bonds_key, id_key, grid_key, dealers_key}
 use Rattle.venue_config.specs.Keys.{investors_key, name_key, traders_key, quotes_key, exposure_key}
 use Rattle.venue_config.specs.Keys.{requests_key, open_key, quantity_key}
-use Rattle.venue_config.specs.Values.{◌>>=◌, number_in, number_at, choice_in, choice_at, text_in}
+use Rattle.venue_config.specs.Values.{◌>>=◌, number_in, number_at, choice_in, text_in}
 use Rattle.venue_config.specs.Values.{text_at, unnamed, item_count, elements_in, elements_at}
+use Rattle.venue_config.specs.Values.{price_at, price_if, price_in, price_on}
 use Rattle.venue_config.specs.Values.{rows_in, rows_at, read_all, trader_of, traders_at}
 use Rattle.venue_rows.specs.Rows.{DealerValues, InvestorValues, bond_ids}
-use Rattle.bond_prices.specs.Grid.{finest_grid}
+use Rattle.bond_prices.specs.Band.{whole_band}
+use Rattle.bond_prices.specs.Grid.{is_grid, finest_grid, on_grid}
+use Rattle.bond_prices.specs.Price.{price_of}
+use Rattle.bond_prices.specs.declared.fault.PriceFault.{PriceFault}
+use Rattle.bond_prices.specs.declared.fault.PriceFault.TheVariants as price_faults
 use Rattle.venue_rows.specs.declared.bond_rows.BondRow.{BondRow}
-use Rattle.venue_config.specs.Config.{bond_of, bond_id_of, grid_of, firm_name_of, dealer_names}
+use Rattle.venue_config.specs.Config.{band_between, band_in, band_of, bond_of, bond_id_of}
+use Rattle.venue_config.specs.Config.{grid_in, grid_of, firm_name_of, dealer_names}
 use Rattle.venue_config.specs.Config.{investor_names, dealer_of, investor_of, bonds_in, dealers_in}
 use Rattle.venue_config.specs.Config.{investors_in, sums_fit, config_in}
 use Rattle.venue_config.specs.declared.faults.ConfigFault.{ConfigFault}
@@ -109,17 +116,59 @@ choice_in-own is_choice None = missing
 choice_in-own is_choice (Some (pos number)) = if_own (is_choice number) number Limit limit
 choice_in-own is_choice (Some (negsuc number)) = limit
 
-choice_at-own : (key : ChoiceKey) (holder : Data) → HasOwnFault (choice_at key holder)
-unfolding choice_at
-choice_at-own key holder = choice_in-own key.is_choice (option_and_then as_integer (get key.key holder))
+without_grid_own_if : (test : Bool) → HasOwnFault {A = ℕ} (Err (cond test Limit Missing))
+without_grid_own_if true = limit
+without_grid_own_if false = missing
 
-grid_own_if : (test : Bool) (row : Data) → HasOwnFault (cond test (choice_at grid_key row) (Ok finest_grid))
-grid_own_if true row = choice_at-own grid_key row
-grid_own_if false row = tt
+grid_in-own : (version : ℕ) (value : Option Data) → HasOwnFault (grid_in version value)
+grid_in-own version None = without_grid_own_if (has_bands version)
+grid_in-own version (Some value) = choice_in-own is_grid (as_integer value)
+
+grid_own_if : (test : Bool) (version : ℕ) (row : Data) → HasOwnFault (cond test (grid_in version (get grid_key.key row)) (Ok finest_grid))
+grid_own_if true version row = grid_in-own version (get grid_key.key row)
+grid_own_if false version row = tt
 
 grid_of-own : (version : ℕ) (row : Data) → HasOwnFault (grid_of version row)
 unfolding grid_of
-grid_of-own version row = grid_own_if (has_grids version) row
+grid_of-own version row = grid_own_if (has_grids version) version row
+
+price_on-own : (grid : ℕ) (read : Result ℕ PriceFault) → HasOwnFault (price_on grid read)
+price_on-own grid (Ok price) = if_own (on_grid price grid) price Limit limit
+price_on-own grid (Err price_faults.Form) = name
+price_on-own grid (Err price_faults.Range) = limit
+price_on-own grid (Err price_faults.Grid) = limit
+
+price_in-own : (grid : ℕ) (text : Option (List ℕ)) → HasOwnFault (price_in grid text)
+price_in-own grid None = missing
+price_in-own grid (Some text) = price_on-own grid (price_of text)
+
+price_if-own : (grid : ℕ) (value : Option Data) → HasOwnFault (price_if grid value)
+price_if-own grid None = tt
+price_if-own grid (Some value) = then_own (price_in grid (as_str value)) _ (price_in-own grid (as_str value)) (λ price. tt)
+
+price_at-own : (key : List ℕ) (grid : ℕ) (holder : Data) → HasOwnFault (price_at key grid holder)
+unfolding price_at
+price_at-own key grid holder = price_if-own grid (get key holder)
+
+between-own : (low high : Option ℕ) → HasOwnFault (band_between low high)
+between-own None None = tt
+between-own (Some low) (Some high) = if_own (nat_le low high) (record { low = low; high = high }) Limit limit
+between-own (Some low) None = limit
+between-own None (Some high) = limit
+
+band_in-own : (grid : ℕ) (row : Data) → HasOwnFault (band_in grid row)
+unfolding band_in
+band_in-own grid row =
+    then_own (price_at low_key grid row) _ (price_at-own low_key grid row) (λ low.
+    then_own (price_at high_key grid row) _ (price_at-own high_key grid row) (λ high. between-own low high))
+
+band_own_if : (test : Bool) (grid : ℕ) (row : Data) → HasOwnFault (cond test (band_in grid row) (Ok whole_band))
+band_own_if true grid row = band_in-own grid row
+band_own_if false grid row = tt
+
+band_of-own : (version grid : ℕ) (row : Data) → HasOwnFault (band_of version grid row)
+unfolding band_of
+band_of-own version grid row = band_own_if (has_bands version) grid row
 
 bond_id_of-own : (bonds : List (List ℕ)) (row : Data) → HasOwnFault (bond_id_of bonds row)
 unfolding bond_id_of
@@ -129,7 +178,8 @@ bond_of-own : (version : ℕ) (bonds : List BondRow) (row : Data) → HasOwnFaul
 unfolding bond_of
 bond_of-own version bonds row =
     then_own (bond_id_of (bond_ids bonds) row) _ (bond_id_of-own (bond_ids bonds) row) (λ id.
-    then_own (grid_of version row) _ (grid_of-own version row) (λ grid. tt))
+    then_own (grid_of version row) _ (grid_of-own version row) (λ grid.
+    then_own (band_of version grid row) _ (band_of-own version grid row) (λ band. tt)))
 
 firm_name_of-own : (firms : List (List ℕ)) (row : Data) → HasOwnFault (firm_name_of firms row)
 unfolding firm_name_of

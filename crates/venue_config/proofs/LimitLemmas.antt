@@ -1,5 +1,7 @@
 -- What a configuration that was read keeps: no name twice, each of its form.
+use Rattle.bond_prices.specs.Band.{whole_band}
 use Rattle.bond_prices.specs.Grid.{is_grid, finest_grid}
+use Rattle.bond_prices.specs.declared.band.Band.{Band}
 use Rattle.std.proofs.Common.{◌≡◌, ◌≢◌, ◌≤◌, ◌+◌, ℕ, ℤ, pos, negsuc, Bool, true, false, ◌&&◌}
 use Rattle.std.proofs.Common.{nat_le, List, [], ◌∷◌, ◌++◌, length, All, AllPairs, IsTrue, Option}
 use Rattle.std.proofs.Common.{Some, None, Result, Ok, Err, cond, refl, sym, ap, subst, ◌∙◌, arith}
@@ -14,15 +16,17 @@ use Rattle.std.proofs.lemmas.List.Quantifiers.{all_pairs_push}
 use Rattle.std.specs.Option.{option_and_then}
 use Rattle.toml.specs.Data.{Data, Items, no_items, item, as_array, as_str, as_integer, get}
 use Rattle.venue_rows.specs.Texts.{is_among, is_bond_id, is_firm_name, same_text}
-use Rattle.venue_config.specs.Keys.{has_grids, id_key, grid_key, name_key, traders_key, bonds_key}
+use Rattle.venue_config.specs.Keys.{has_bands, has_grids, id_key, grid_key, name_key}
+use Rattle.venue_config.specs.Keys.{high_key, low_key, traders_key, bonds_key}
 use Rattle.venue_config.specs.Keys.{dealers_key, investors_key, quotes_key, exposure_key}
 use Rattle.venue_config.specs.Keys.{requests_key, open_key, quantity_key}
-use Rattle.venue_config.specs.Values.{◌>>=◌, choice_in, choice_at, text_in, text_at, unnamed}
+use Rattle.venue_config.specs.Values.{◌>>=◌, choice_in, text_in, text_at, unnamed}
 use Rattle.venue_config.specs.Values.{item_count, elements_in, elements_at, rows_at, read_all}
-use Rattle.venue_config.specs.Values.{trader_of, traders_at, number_at}
+use Rattle.venue_config.specs.Values.{price_at, trader_of, traders_at, number_at}
 use Rattle.venue_rows.specs.Rows.{DealerValues, InvestorValues, AreTraders, bond_ids}
 use Rattle.venue_rows.specs.declared.bond_rows.BondRow.{BondRow}
-use Rattle.venue_config.specs.Config.{bond_of, bond_id_of, grid_of, bonds_in, dealer_names}
+use Rattle.venue_config.specs.Config.{band_between, band_in, band_of, bond_of, bond_id_of}
+use Rattle.venue_config.specs.Config.{grid_in, grid_of, bonds_in, dealer_names}
 use Rattle.venue_config.specs.Config.{investor_names, firm_name_of, dealer_of, investor_of}
 use Rattle.venue_config.specs.Config.{dealers_in, investors_in}
 use Rattle.venue_config.specs.declared.faults.ConfigFault.{ConfigFault}
@@ -96,35 +100,66 @@ choice_in_ok is_choice (Some (pos number)) own e =
     rw same at passes
 choice_in_ok is_choice (Some (negsuc number)) own e = cc
 
-grid_kept_if : (test : Bool) (row : Data) (grid : ℕ) → cond test (choice_at grid_key row) (Ok finest_grid) ≡ Ok grid → is_grid grid ≡ true
-unfolding choice_at
-grid_kept_if true row grid e = choice_in_ok is_grid (option_and_then as_integer (get grid_key.key row)) grid e
-grid_kept_if false row grid e = let same : finest_grid ≡ grid = cc in rw (← same) refl
+grid_in_kept : (version : ℕ) (value : Option Data) (grid : ℕ) → grid_in version value ≡ Ok grid → is_grid grid ≡ true
+grid_in_kept version None grid e = cc
+grid_in_kept version (Some value) grid e = choice_in_ok is_grid (as_integer value) grid e
+
+grid_kept_if : (test : Bool) (version : ℕ) (row : Data) (grid : ℕ) → cond test (grid_in version (get grid_key.key row)) (Ok finest_grid) ≡ Ok grid → is_grid grid ≡ true
+grid_kept_if true version row grid e = grid_in_kept version (get grid_key.key row) grid e
+grid_kept_if false version row grid e = let same : finest_grid ≡ grid = cc in rw (← same) refl
 
 pub grid_kept : (version : ℕ) (row : Data) (grid : ℕ) → grid_of version row ≡ Ok grid → is_grid grid ≡ true
 unfolding grid_of
-grid_kept version row grid e = grid_kept_if (has_grids version) row grid e
+grid_kept version row grid e = grid_kept_if (has_grids version) version row grid e
+
+-- a band that was read
+between_kept : (low high : Option ℕ) (band : Band) → band_between low high ≡ Ok band → nat_le band.low band.high ≡ true
+between_kept None None band e = let same : whole_band ≡ band = cc in rw (← same) refl
+between_kept (Some low) (Some high) band e =
+    let (fits, same) = kept (nat_le low high) Limit (record { low = low; high = high }) band e in
+    rw (← same) fits
+between_kept (Some low) None band e = cc
+between_kept None (Some high) band e = cc
+
+band_in_kept : (grid : ℕ) (row : Data) (band : Band) → band_in grid row ≡ Ok band → nat_le band.low band.high ≡ true
+unfolding band_in
+band_in_kept grid row band e =
+    let (low, lowest, e1) = ok_of (price_at low_key grid row) _ band e in
+    let (high, highest, e2) = ok_of (price_at high_key grid row) _ band e1 in
+    between_kept low high band e2
+
+band_kept_if : (test : Bool) (grid : ℕ) (row : Data) (band : Band) → cond test (band_in grid row) (Ok whole_band) ≡ Ok band → nat_le band.low band.high ≡ true
+band_kept_if true grid row band e = band_in_kept grid row band e
+band_kept_if false grid row band e = let same : whole_band ≡ band = cc in rw (← same) refl
+
+pub band_kept : (version grid : ℕ) (row : Data) (band : Band) → band_of version grid row ≡ Ok band → nat_le band.low band.high ≡ true
+unfolding band_of
+band_kept version grid row band e = band_kept_if (has_bands version) grid row band e
 
 -- bonds
 pub record AreBonds (bonds : List BondRow) : Type 0 where
   pub distinct : AreDistinct (bond_ids bonds)
   pub named : All (λ id. IsTrue (is_bond_id id)) (bond_ids bonds)
   pub on_grids : All (λ (row : BondRow). IsTrue (is_grid row.grid)) bonds
+  pub banded : All (λ (row : BondRow). IsTrue (nat_le row.band.low row.band.high)) bonds
 
 bonds_more : (version : ℕ) (bonds : List BondRow) (element : Data) (bond : BondRow) → AreBonds bonds → bond_of version bonds element ≡ Ok bond → AreBonds (bonds ++ bond ∷ [])
 unfolding bond_of bond_id_of text_at
 bonds_more version bonds element bond before e =
     let (id, identified, e1) = ok_of (bond_id_of (bond_ids bonds) element) _ bond e in
     let (grid, gridded, e2) = ok_of (grid_of version element) _ bond e1 in
+    let (band, banded, e3) = ok_of (band_of version grid element) _ bond e2 in
     let (text, was, new) = ok_of (text_at id_key element) (unnamed (bond_ids bonds)) id identified in
     let (apart, same) = unnamed_ok (bond_ids bonds) text id new in
     let form : is_bond_id text ≡ true = text_in_ok is_bond_id (option_and_then as_str (get id_key.key element)) text was in
     let same_id : id ≡ bond.id = cc in
     let same_grid : grid ≡ bond.grid = cc in
+    let same_band : band ≡ bond.band = cc in
     record {
       distinct = rw map-append (distinct_push (bond_ids bonds) bond.id before.distinct (rw (same, same_id) at apart));
       named = rw map-append (All-push (λ n. IsTrue (is_bond_id n)) (bond_ids bonds) bond.id before.named (rw (same, same_id) at form));
       on_grids = All-push (λ (row : BondRow). IsTrue (is_grid row.grid)) bonds bond before.on_grids (rw same_grid at (grid_kept version element grid gridded));
+      banded = All-push (λ (row : BondRow). IsTrue (nat_le row.band.low row.band.high)) bonds bond before.banded (rw same_band at (band_kept version grid element band banded));
     }
 
 pub bonds_kept : (version : ℕ) (document : Data) (bonds : List BondRow) → bonds_in version document ≡ Ok bonds → AreBonds bonds
@@ -136,6 +171,7 @@ bonds_kept version document bonds e =
       distinct = λ i j d below within. absurd (omega arith);
       named = λ k d within. absurd (omega arith);
       on_grids = λ k d within. absurd (omega arith);
+      banded = λ k d within. absurd (omega arith);
     })
     all
 

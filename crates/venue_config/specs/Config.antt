@@ -2,36 +2,70 @@
 -- the sums last.
 use Rattle.std.specs.Prelude.{ℕ, Bool, ◌&&◌, List, [], ◌++◌, map, nat_le, sum_by, Option, Some}
 use Rattle.std.specs.Prelude.{None, Result, Ok, Err, if◌then◌else◌}
-use Rattle.toml.specs.Data.{Data, Members, table}
+use Rattle.toml.specs.Data.{Data, Members, table, as_integer, get}
 use Rattle.toml.specs.Parse.{parse_document}
-use Rattle.venue_config.specs.Keys.{version_key, has_grids, date_key, bonds_key, id_key, grid_key}
+use Rattle.venue_config.specs.Keys.{version_key, has_bands, has_grids, date_key, bonds_key, id_key}
+use Rattle.venue_config.specs.Keys.{grid_key, high_key, low_key}
 use Rattle.venue_config.specs.Keys.{dealers_key, investors_key}
 use Rattle.venue_config.specs.Keys.{name_key, quotes_key, exposure_key, requests_key, open_key}
 use Rattle.venue_config.specs.Keys.{quantity_key}
+use Rattle.bond_prices.specs.Band.{whole_band}
 use Rattle.bond_prices.specs.Grid.{finest_grid}
+use Rattle.bond_prices.specs.declared.band.Band.{Band}
 use Rattle.venue_rows.specs.declared.config.TheConstants.VenueConfig.{MOST_QUOTES_IN_ALL}
 use Rattle.venue_rows.specs.declared.config.TheConstants.VenueConfig.{MOST_REQUESTS_IN_ALL}
 use Rattle.venue_rows.specs.declared.bond_rows.BondRow.{BondRow}
-use Rattle.venue_config.specs.Values.{◌>>=◌, number_at, choice_at, text_at, unnamed, rows_at}
-use Rattle.venue_config.specs.Values.{read_all, traders_at}
+use Rattle.venue_config.specs.Values.{◌>>=◌, number_at, choice_in, text_at, unnamed, rows_at}
+use Rattle.venue_config.specs.Values.{price_at, read_all, traders_at}
 use Rattle.venue_rows.specs.Rows.{DealerValues, InvestorValues, ConfigValues, bond_ids}
 use Rattle.venue_config.specs.declared.faults.ConfigFault.{ConfigFault}
-use Rattle.venue_config.specs.declared.faults.ConfigFault.TheVariants.{Toml, Limit}
+use Rattle.venue_config.specs.declared.faults.ConfigFault.TheVariants.{Toml, Missing, Limit}
 
 -- the identifier of a bond, of which no two have one
 unfoldable pub bond_id_of : List (List ℕ) → Data → Result (List ℕ) ConfigFault
 bond_id_of bonds row = text_at id_key row >>= unnamed bonds
 
+-- the fault of a bond that has no grid: where bonds may have bands, the document is of no version
+abbrev pub fault_without_grid : ℕ → ConfigFault
+fault_without_grid version = if has_bands version then Limit else Missing
+
+-- the grid that stands in a bond's row
+abbrev pub grid_in : ℕ → Option Data → Result ℕ ConfigFault
+grid_in version None = Err (fault_without_grid version)
+grid_in version (Some value) = choice_in grid_key.is_choice (as_integer value)
+
 -- the grid of a bond: in a version without grids the finest, whatever stands in its row
 unfoldable pub grid_of : ℕ → Data → Result ℕ ConfigFault
-grid_of version row = if has_grids version then choice_at grid_key row else Ok finest_grid
+grid_of version row =
+    if has_grids version then grid_in version (get grid_key.key row) else Ok finest_grid
+
+-- the band between two ends, both of which stand or neither: where neither does, every price is in
+-- it
+abbrev pub band_between : Option ℕ → Option ℕ → Result Band ConfigFault
+band_between None None = Ok whole_band
+band_between (Some low) (Some high) =
+    if nat_le low high then Ok (record { low = low; high = high }) else Err Limit
+band_between (Some low) None = Err Limit
+band_between None (Some high) = Err Limit
+
+-- the band of a bond on a grid
+unfoldable pub band_in : ℕ → Data → Result Band ConfigFault
+band_in grid row = do
+  low ← price_at low_key grid row
+  high ← price_at high_key grid row
+  band_between low high
+
+-- the same in a version: in one without bands every price is in it, whatever stands in the row
+unfoldable pub band_of : ℕ → ℕ → Data → Result Band ConfigFault
+band_of version grid row = if has_bands version then band_in grid row else Ok whole_band
 
 -- a bond, behind the bonds before it
 unfoldable pub bond_of : ℕ → List BondRow → Data → Result BondRow ConfigFault
 bond_of version bonds row = do
   id ← bond_id_of (bond_ids bonds) row
   grid ← grid_of version row
-  Ok (record { id = id; grid = grid })
+  band ← band_of version grid row
+  Ok (record { id = id; grid = grid; band = band })
 
 -- the names of dealers
 abbrev pub dealer_names : List DealerValues → List (List ℕ)

@@ -5,6 +5,7 @@ use Rattle.fix_fields.specs.UtcTimestamp.{is_date}
 use Rattle.bond_prices.specs.Grid.{is_grid}
 use Rattle.venue_rows.specs.Texts.{is_firm_name, is_bond_id}
 use Rattle.venue_rows.specs.declared.config.TheConstants.VenueConfig.{LAST_VERSION, GRIDS_SINCE}
+use Rattle.venue_rows.specs.declared.config.TheConstants.VenueConfig.{BANDS_SINCE}
 use Rattle.venue_rows.specs.declared.config.TheConstants.VenueConfig.{MOST_BONDS, MOST_DEALERS}
 use Rattle.venue_rows.specs.declared.config.TheConstants.VenueConfig.{MOST_INVESTORS}
 use Rattle.venue_rows.specs.declared.traders.TheConstants.Traders.{MOST}
@@ -37,13 +38,17 @@ pub record ArrayKey : Type 0 where
 
 -- Keys of the document.
 
--- the version of the format: 1 or 2
+-- the version of the format: 1, 2 or 3
 abbrev pub version_key : NumberKey
 version_key = record { key = codes "version"; most = LAST_VERSION }
 
 -- whether the bonds of a version have their grids
 abbrev pub has_grids : ℕ → Bool
 has_grids version = nat_le GRIDS_SINCE version
+
+-- whether the bonds of a version may have bands
+abbrev pub has_bands : ℕ → Bool
+has_bands version = nat_le BANDS_SINCE version
 
 -- the trading day
 abbrev pub date_key : TextKey
@@ -70,6 +75,13 @@ id_key = record { key = codes "id"; form = is_bond_id }
 -- its grid, from version 2 on: in version 1 the key is ignored
 abbrev pub grid_key : ChoiceKey
 grid_key = record { key = codes "grid"; is_choice = is_grid }
+
+-- the lowest and the highest of its prices, from version 3 on: before, the keys are ignored
+abbrev pub low_key : List ℕ
+low_key = codes "low"
+
+abbrev pub high_key : List ℕ
+high_key = codes "high"
 
 -- Keys of a dealer and of an investor.
 

@@ -2,9 +2,13 @@
 use Rattle.std.specs.Prelude.{ℕ, ℤ, Bool, pos, negsuc, ◌+◌, ◌&&◌, List, [], ◌∷◌, ◌++◌, nat_le}
 use Rattle.std.specs.Prelude.{Option, Some, None, Result, Ok, Err, if◌then◌else◌}
 use Rattle.std.specs.Option.{option_and_then}
+use Rattle.bond_prices.specs.Grid.{on_grid}
+use Rattle.bond_prices.specs.Price.{price_of}
+use Rattle.bond_prices.specs.declared.fault.PriceFault.{PriceFault}
+use Rattle.bond_prices.specs.declared.fault.PriceFault.TheVariants as price_faults
 use Rattle.toml.specs.Data.{Data, Items, no_items, item, get, as_str, as_integer, as_array}
 use Rattle.venue_rows.specs.Texts.{is_among, is_name}
-use Rattle.venue_config.specs.Keys.{NumberKey, ChoiceKey, TextKey, ArrayKey, traders_key}
+use Rattle.venue_config.specs.Keys.{NumberKey, TextKey, ArrayKey, traders_key}
 use Rattle.venue_config.specs.declared.faults.ConfigFault.{ConfigFault}
 use Rattle.venue_config.specs.declared.faults.ConfigFault.TheVariants.{Missing, Name, Twice, Limit}
 
@@ -40,9 +44,27 @@ abbrev pub choice_in : (ℕ → Bool) → Option ℤ → Result ℕ ConfigFault
 choice_in is_choice None = Err Missing
 choice_in is_choice (Some number) = choice_within is_choice number
 
--- the choice at a key
-unfoldable pub choice_at : ChoiceKey → Data → Result ℕ ConfigFault
-choice_at key holder = choice_in key.is_choice (option_and_then as_integer (get key.key holder))
+-- a price on a grid, or its fault: the form of its text, or that it is out of range, no whole 256ths
+-- or off the grid
+abbrev pub price_on : ℕ → Result ℕ PriceFault → Result ℕ ConfigFault
+price_on grid (Ok price) = if on_grid price grid then Ok price else Err Limit
+price_on grid (Err price_faults.Form) = Err Name
+price_on grid (Err price_faults.Range) = Err Limit
+price_on grid (Err price_faults.Grid) = Err Limit
+
+-- the price that a text spells; another kind is none
+abbrev pub price_in : ℕ → Option (List ℕ) → Result ℕ ConfigFault
+price_in grid None = Err Missing
+price_in grid (Some text) = price_on grid (price_of text)
+
+-- a price that may be absent
+abbrev pub price_if : ℕ → Option Data → Result (Option ℕ) ConfigFault
+price_if grid None = Ok None
+price_if grid (Some value) = price_in grid (as_str value) >>= (λ price. Ok (Some price))
+
+-- the price at a key, on a grid, where one stands
+unfoldable pub price_at : List ℕ → ℕ → Data → Result (Option ℕ) ConfigFault
+price_at key grid holder = price_if grid (get key holder)
 
 -- a text of its form
 abbrev pub text_in : (List ℕ → Bool) → Option (List ℕ) → Result (List ℕ) ConfigFault

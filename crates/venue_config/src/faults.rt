@@ -18,14 +18,15 @@ pub enum ConfigFault {
     /// A required value is absent, or of another kind.
     #[error("Missing")]
     Missing,
-    /// A date, an identifier of a bond or a name is not of its form, or a firm is named `VENUE` or
-    /// `CLOCK`.
+    /// A date, an identifier of a bond, a name or a price is not of its form, or a firm is named
+    /// `VENUE` or `CLOCK`.
     #[error("Name")]
     Name,
     /// A bond, a firm or a trader of one firm was named before.
     #[error("Twice")]
     Twice,
-    /// A number or a sum is out of its limits, or an array has too many elements, or no trader.
+    /// A number, a price or a sum is out of its limits, a bond of version 3 has no grid, a band has one
+    /// end alone or its low above its high, or an array has too many elements, or no trader.
     #[error("Limit")]
     Limit,
     /// Memory was refused.

@@ -8,7 +8,8 @@
 //! [`read_config`] returns the values of the keys in the table that `toml` reads, the rows in their
 //! order, none left out or put twice; or the first fault, in the order of [`ConfigFault`] and of the
 //! keys. `Memory` may come at any point. In version 1 every bond has the grid 256; from version 2 on
-//! each has its own. The rows themselves are those of `venue_rows`, which are given out here too.
+//! each has its own. From version 3 on a bond may have a band of prices. The rows themselves are
+//! those of `venue_rows`, which are given out here too.
 //!
 //! Not promised: that memory is there.
 //!

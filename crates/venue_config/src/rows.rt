@@ -12,7 +12,7 @@ ghost use Rattle.venue_config.specs.Config.{investor_of, bonds_in, dealers_in, i
 ghost use Rattle.venue_config.specs.Config.{dealer_names, investor_names};
 
 use crate::faults::ConfigFault;
-use crate::values::{number_at, read_grid, read_id, read_traders, rows_at, text_at};
+use crate::values::{number_at, read_band, read_grid, read_id, read_traders, rows_at, text_at};
 use std::alloc::Global;
 use toml::Value;
 use venue_rows::{BondId, BondRow, DealerRow, InvestorRow, Name, VenueConfig};
@@ -45,7 +45,8 @@ fn read_bond(version: u64, bonds: &[BondRow], row: &Value) -> Result<BondRow, Co
 {
     let id = read_bond_id(bonds, row)?;
     let grid = read_grid(version, row)?;
-    Ok(BondRow { id, grid })
+    let band = read_band(version, grid, row)?;
+    Ok(BondRow { id, grid, band })
 }
 
 /// The identifier of a bond, which none of the bonds before it has.

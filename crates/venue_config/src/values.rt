@@ -1,16 +1,16 @@
 //! What stands at the keys of a table.
-ghost use Rattle.std.specs.Prelude.{◌≡◌, ◌≤◌, IfOk, length};
+ghost use Rattle.std.specs.Prelude.{◌≡◌, ◌≤◌, IfOk, Ok, Some, length};
 ghost use Rattle.std.specs.Option.{option_map, option_and_then};
 ghost use Rattle.std.specs.Result.{result_map_both};
 ghost use Rattle.toml.specs.Data.{get, as_str, as_array};
 ghost use Rattle.toml.specs.View.{view, items_view};
 ghost use Rattle.venue_config.specs.Keys.{date_key, id_key};
 ghost use Rattle.bond_prices.specs.Grid.{is_grid};
-ghost use Rattle.venue_config.specs.Config.{grid_of};
+ghost use Rattle.venue_config.specs.Config.{band_between, band_in, band_of, fault_without_grid, grid_of};
 ghost use Rattle.venue_config.specs.Values as spec;
 
 use crate::faults::ConfigFault;
-use bond_prices::Grid;
+use bond_prices::{Band, Grid, PriceFault, Ticks, on_grid, read_price};
 use fix_fields::Date;
 use toml::Value;
 use venue_rows::{BondId, Name, Traders, VenueConfig};
@@ -85,7 +85,7 @@ pub(crate) fn read_id(row: &Value) -> Result<BondId, ConfigFault>
 }
 
 /// The grid of a bond, in a document of this version.
-#[tactic(auto, unfolding(crate::specs::Config::grid_of, crate::specs::Values::choice_at))]
+#[tactic(auto, unfolding(crate::specs::Config::grid_of))]
 pub(crate) fn read_grid(version: u64, row: &Value) -> Result<Grid, ConfigFault>
     ensures { result ≡ grid_of version (view row.now) }
 {
@@ -93,12 +93,22 @@ pub(crate) fn read_grid(version: u64, row: &Value) -> Result<Grid, ConfigFault>
         return Ok(Grid::FINEST);
     }
     let Some(value) = row.get("grid") else {
-        return Err(ConfigFault::Missing);
+        return Err(fault_without_grid(version));
     };
     let Some(steps) = value.as_integer() else {
         return Err(ConfigFault::Missing);
     };
     grid_within(steps)
+}
+
+/// The fault of a bond that has no grid: where bonds may have bands, the document is of no version.
+fn fault_without_grid(version: u64) -> ConfigFault
+    ensures { result ≡ fault_without_grid version }
+{
+    if version >= VenueConfig::BANDS_SINCE {
+        return ConfigFault::Limit;
+    }
+    ConfigFault::Missing
 }
 
 /// An integer that is a grid.
@@ -112,6 +122,84 @@ fn grid_within(steps: i64) -> Result<Grid, ConfigFault>
         return Err(ConfigFault::Limit);
     };
     Ok(grid)
+}
+
+/// The band of a bond on this grid, in a document of this version.
+#[tactic(auto, unfolding(crate::specs::Config::band_of))]
+pub(crate) fn read_band(version: u64, grid: Grid, row: &Value) -> Result<Band, ConfigFault>
+    ensures { result ≡ band_of version grid (view row.now) }
+{
+    if version < VenueConfig::BANDS_SINCE {
+        return Ok(Band::WHOLE);
+    }
+    band_at(grid, row)
+}
+
+/// The band at the keys of a bond.
+#[tactic(auto, unfolding(crate::specs::Config::band_in))]
+fn band_at(grid: Grid, row: &Value) -> Result<Band, ConfigFault>
+    ensures { result ≡ band_in grid (view row.now) }
+{
+    let low = price_at(row, "low", grid)?;
+    let high = price_at(row, "high", grid)?;
+    band_between(low, high)
+}
+
+/// The band between two ends, both of which stand or neither.
+fn band_between(low: Option<Ticks>, high: Option<Ticks>) -> Result<Band, ConfigFault>
+    ensures { result ≡ band_between low high }
+{
+    match (low, high) {
+        (None, None) => Ok(Band::WHOLE),
+        (Some(low), Some(high)) => ordered(low, high),
+        _ => Err(ConfigFault::Limit),
+    }
+}
+
+/// The band between two ends, of which the lowest is not above the highest.
+fn ordered(low: Ticks, high: Ticks) -> Result<Band, ConfigFault>
+    ensures { result ≡ band_between (Some low) (Some high) }
+{
+    if low.get() > high.get() {
+        return Err(ConfigFault::Limit);
+    }
+    Ok(Band { low, high })
+}
+
+/// The price at a key, on a grid, where one stands.
+#[tactic(auto, unfolding(crate::specs::Values::price_at))]
+fn price_at(row: &Value, key: &str, grid: Grid) -> Result<Option<Ticks>, ConfigFault>
+    ensures { result ≡ spec.price_at key.now grid (view row.now) }
+{
+    let Some(value) = row.get(key) else {
+        return Ok(None);
+    };
+    let Some(text) = value.as_str() else {
+        return Err(ConfigFault::Missing);
+    };
+    let price = price_on(read_price(text.as_bytes()), grid)?;
+    Ok(Some(price))
+}
+
+/// A price that was read, where it is on the grid.
+fn price_on(read: Result<Ticks, PriceFault>, grid: Grid) -> Result<Ticks, ConfigFault>
+    ensures { result ≡ spec.price_on grid read }
+{
+    match read {
+        Ok(price) => price_if_on(price, grid),
+        Err(PriceFault::Form) => Err(ConfigFault::Name),
+        Err(_) => Err(ConfigFault::Limit),
+    }
+}
+
+/// A price on the grid.
+fn price_if_on(price: Ticks, grid: Grid) -> Result<Ticks, ConfigFault>
+    ensures { result ≡ spec.price_on grid (Ok price) }
+{
+    if !on_grid(price, grid) {
+        return Err(ConfigFault::Limit);
+    }
+    Ok(price)
 }
 
 /// The elements of an array that has at least `least` and at most `most`.

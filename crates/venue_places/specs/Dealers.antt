@@ -5,7 +5,7 @@ use Rattle.std.specs.Option.{option_map}
 use Rattle.market_terms.specs.declared.rooms.Offer.{Offer}
 use Rattle.venue_rows.specs.Rows.{Configuration, dealer_numbered}
 use Rattle.venue_rows.specs.declared.dealer_rows.DealerRow.{DealerRow}
-use Rattle.venue_steps.specs.Words.{word_of}
+use Rattle.venue_steps.specs.WordNumbers.{word_of}
 use Rattle.venue_places.specs.declared.actors.Actor.{Actor}
 use Rattle.venue_places.specs.declared.actors.Actor.TheVariants as actor
 

@@ -1,3 +1,4 @@
 pub mod Brought
 pub mod Dealers
 pub mod Placed
+pub mod Table

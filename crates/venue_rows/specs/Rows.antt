@@ -128,6 +128,7 @@ pub record KeepsLimits (config : Configuration) : Type 0 where
   pub bonds_distinct : AllPairs (λ a b. a ≢ b) (bond_ids config.bonds)
   pub bonds_named : All (λ id. IsTrue (is_bond_id id)) (bond_ids config.bonds)
   pub bonds_on_grids : All (λ (row : BondRow). IsTrue (is_grid row.grid)) config.bonds
+  pub bonds_banded : All (λ (row : BondRow). IsTrue (nat_le row.band.low row.band.high)) config.bonds
   pub firms_distinct : AllPairs (λ a b. a ≢ b) (firm_names config)
   pub firms_named : All (λ name. IsTrue (is_firm_name name)) (firm_names config)
   pub dealer_traders : All (λ (row : DealerRow). AreTraders row.traders) config.dealers

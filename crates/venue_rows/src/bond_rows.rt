@@ -1,7 +1,7 @@
 //! What the configuration says of a bond.
 
 use crate::BondId;
-use bond_prices::Grid;
+use bond_prices::{Band, Grid};
 
 /// A bond that may be asked for.
 #[derive(Clone, Copy)]
@@ -10,4 +10,6 @@ pub struct BondRow {
     pub id: BondId,
     /// The grid that it is quoted on.
     pub grid: Grid,
+    /// The band that its prices stay in.
+    pub band: Band,
 }

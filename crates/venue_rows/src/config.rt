@@ -47,10 +47,13 @@ impl Model for VenueConfig {
 
 impl VenueConfig {
     /// The last version of the form of a configuration.
-    pub const LAST_VERSION: u64 = 2;
+    pub const LAST_VERSION: u64 = 3;
 
     /// The first version in which each bond has its grid.
     pub const GRIDS_SINCE: u64 = 2;
+
+    /// The first version in which a bond may have its band.
+    pub const BANDS_SINCE: u64 = 3;
 
     /// The greatest number of bonds.
     pub const MOST_BONDS: usize = 1_024;

@@ -1,5 +1,5 @@
-//! What a venue is configured with for a day: bonds with their grids, and dealers and investors
-//! with their traders and limits, row by row.
+//! What a venue is configured with for a day: bonds with their grids and bands, and dealers
+//! and investors with their traders and limits, row by row.
 //!
 //! ```text
 //! let number = config.firm("DLR1");

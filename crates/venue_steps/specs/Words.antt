@@ -1,17 +1,8 @@
 -- The word that a step asks, if it asks one, and its settlement.
-use Rattle.std.specs.Prelude.{◌≡◌, ℕ, ◌+◌, ◌-◌, Bool, true, nat_lt, Option, Some, None}
+use Rattle.std.specs.Prelude.{◌≡◌, ℕ, nat_lt, Option, Some, None}
 use Rattle.std.specs.Prelude.{if◌then◌else◌}
 use Rattle.quote_word.specs.declared.settled.Settled.{Settled}
-
--- the word of a dealer's quote with this own number, from 1: a dealer's words stand one behind the
--- other in the row, from its first word on
-abbrev pub word_of : ℕ → ℕ → ℕ
-word_of first quote = first + (quote - 1)
-
--- whether a row of so many words has the word that is asked, where one is
-abbrev pub has_word : ℕ → Option ℕ → Bool
-has_word count None = true
-has_word count (Some word) = nat_lt word count
+pub use Rattle.venue_steps.specs.WordNumbers.{has_word, word_of}
 
 -- what the word that is asked is in a row, where one is
 abbrev pub settlement_in : (ℕ → Option Settled) → Option ℕ → Option Settled

@@ -104,7 +104,7 @@ pub fn do_post(
         offer,
         moment,
     };
-    Ok(where_so(duties, posted, relay))
+    Ok(left_if(duties, posted, relay))
 }
 
 /// A withdrawn quote of a dealer is taken out of the room of its request, and the investor is told
@@ -135,7 +135,7 @@ pub fn do_unpost(
         word,
         moment,
     };
-    Ok(where_so(duties, taken, gone))
+    Ok(left_if(duties, taken, gone))
 }
 
 /// A decline of a dealer is noted in the room of its request, and the investor is told so where
@@ -161,7 +161,7 @@ pub fn do_decline(
     let duties = Duties::with_capacity(room.alloc(), 1)?;
     let noted = room.decline(dealer)?;
     let declined = Duty::Declined { room: at, moment };
-    Ok(where_so(duties, noted, declined))
+    Ok(left_if(duties, noted, declined))
 }
 
 /// Whether a room hears a dealer.
@@ -172,7 +172,7 @@ fn hears_dealer(room: &Room, dealer: u16) -> bool
 }
 
 /// One duty, where it follows, in a list with room for it.
-fn where_so(mut duties: Duties, follows: bool, duty: Duty) -> Duties
+fn left_if(mut duties: Duties, follows: bool, duty: Duty) -> Duties
     requires none { duties.items ≡ [] }
     requires room { vec_len duties < vec_capacity duties }
     ensures items { result.items ≡ spec.where_follows follows duty }

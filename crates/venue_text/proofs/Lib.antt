@@ -11,8 +11,10 @@ pub mod LiveGrowth
 pub mod LiveInputLemmas
 pub mod LiveLemmas
 pub mod NotedLemmas
+pub mod ReadBackEnds
 pub mod ReadBackItems
 pub mod ReadBackLists
 pub mod ReadBackParts
+pub mod ReadBackPrices
 pub mod ReadBackShown
 pub mod UnmarkedLemmas

@@ -92,6 +92,12 @@ none_behind (c ∷ part) all =
     let parts = and_parts (is_in_part c) (list_all is_in_part part) all in
     ap₂ (λ (a b : Bool). a || b) (no_space c parts.0) (none_behind part parts.1)
 
+pub nothing_behind : (part : List ℕ) → list_all is_in_part part ≡ true → behind_part part ≡ []
+nothing_behind [] all = refl
+nothing_behind (c ∷ part) all =
+    let parts = and_parts (is_in_part c) (list_all is_in_part part) all in
+    after_skip 32 c part (no_space c parts.0) ∙ nothing_behind part parts.1
+
 -- A line, and the lines behind it.
 
 lines_more : (c : ℕ) (text line : List ℕ) (lines : List (List ℕ)) → (c == 10) ≡ false

@@ -1,13 +1,14 @@
 -- A request that was shown, written as a line and read again.
-use Rattle.std.proofs.Common.{◌≡◌, ℕ, ◌<◌, ◌≤◌, ◌==◌, ◌&&◌, not, Bool, true, nat_le}
+use Rattle.std.proofs.Common.{◌≡◌, ℕ, ◌≤◌, ◌&&◌, not, Bool, true, nat_le}
 use Rattle.std.proofs.Common.{cond, List, [], ◌∷◌, ◌++◌, length, codes, decimal, Option, Some, None}
-use Rattle.std.proofs.Common.{refl, sym, ap, ap₂, ◌∙◌, arith, inl, inr}
+use Rattle.std.proofs.Common.{refl, ap, ap₂, ◌∙◌, arith}
 use Rattle.std.specs.List.{list_all}
-use Rattle.std.proofs.lemmas.Bool.{and_parts, cases_Bool}
+use Rattle.std.proofs.lemmas.Bool.{and_parts}
 use Rattle.std.proofs.lemmas.Bool.Decides.{nat_tests}
 use Rattle.std.proofs.lemmas.Fmt.{decimal_digit, length-decimal-le}
-use Rattle.std.proofs.lemmas.List.{append-nil, append_assoc}
-use Rattle.bond_prices.specs.Grid.{finest_grid, grid_of, is_grid}
+use Rattle.std.proofs.lemmas.List.{append_assoc}
+use Rattle.bond_prices.specs.Grid.{is_grid}
+use Rattle.bond_prices.specs.declared.band.Band.{Band}
 use Rattle.fix_fields.specs.TimeOfDay.{time_text}
 use Rattle.market_terms.specs.Codes.{side_code}
 use Rattle.market_terms.specs.Texts.{is_quantity}
@@ -15,18 +16,16 @@ use Rattle.market_terms.specs.declared.asks.Ask.{Ask}
 use Rattle.market_terms.specs.declared.asks.Side.{Side}
 use Rattle.market_terms.specs.declared.asks.Side.TheVariants.{Buy, Sell}
 use Rattle.market_terms.specs.declared.quantities.TheConstants.Quantity.{MOST}
-use Rattle.quote_messages.specs.Texts.{number_of}
 use Rattle.step_replay.specs.declared.dues.Due.{Due}
 use Rattle.step_replay.specs.declared.dues.Due.TheVariants as due
 use Rattle.venue_rows.specs.Texts.{is_among, is_bond_id, is_firm_name, is_name, reserved_names, text_if}
-use Rattle.input_lines.specs.DueLines.{asked_quantity, grid_behind, shown_of}
+use Rattle.input_lines.specs.DueLines.{asked_quantity, band_behind, grid_behind, shown_of}
 use Rattle.input_lines.specs.Lines.{behind_part, first_part, side_of, time_of}
 use Rattle.input_lines.specs.OptionSteps.{◌>>=◌}
 use Rattle.venue_text.specs.ReadBack.{ReadsAs, is_in_line, is_in_part}
-use Rattle.venue_text.specs.WrittenDues.{end_text, grid_text}
 use Rattle.venue_text.proofs.ReadBackParts.{all_append, all_more, behind_is, bond_in_part, decimal_in_part}
-use Rattle.venue_text.proofs.ReadBackParts.{first_is, in_line, last_is, more_behind, name_in_part}
-use Rattle.venue_text.proofs.ReadBackParts.{none_behind, number_back, time_in_part}
+use Rattle.venue_text.proofs.ReadBackParts.{first_is, in_line, name_in_part, number_back, time_in_part}
+use Rattle.venue_text.proofs.ReadBackEnds.{EndsRead, end_word}
 
 -- SIDE
 
@@ -54,80 +53,11 @@ quantity_word n least most =
           ∙ ap (λ (b : Bool). cond b (Some n) None) (ap₂ (λ (a b : Bool). a && b) one few);
     }
 
--- TIME, and GRID where it is not the finest
-
-record EndWord (date : List ℕ) (moment grid : ℕ) (text : List ℕ) : Type 0 where
-  one_line : list_all is_in_line text ≡ true
-  time_is : time_of date (first_part text) ≡ Some moment
-  grid_is : grid_behind text ≡ Some grid
-
-finest_end : (date : List ℕ) (moment grid : ℕ) → time_of date (time_text moment) ≡ Some moment
-    → grid ≡ finest_grid → EndWord date moment grid (time_text moment)
-finest_end date moment grid time is =
-    let word = time_in_part moment in
-    record {
-      one_line = in_line (time_text moment) word;
-      time_is = ap (time_of date) (last_is (time_text moment) word) ∙ time;
-      grid_is = ap (λ (b : Bool). cond b (number_of (behind_part (time_text moment)) >>= grid_of)
-          (Some finest_grid)) (none_behind (time_text moment) word) ∙ ap Some (sym is);
-    }
-
-grid_short : (grid : ℕ) → is_grid grid ≡ true → grid < 1000
-grid_short grid is = grind (arith, nat_tests)
-
-other_end : (date : List ℕ) (moment grid : ℕ) → time_of date (time_text moment) ≡ Some moment
-    → is_grid grid ≡ true → EndWord date moment grid (time_text moment ++ 32 ∷ decimal grid)
-other_end date moment grid time is =
-    let word = time_in_part moment in
-    let below = grid_short grid is in
-    let few : length (decimal grid) ≤ 9 =
-    length-decimal-le 9 grid (omega arith) (omega arith) (omega arith) in
-    let text = time_text moment ++ 32 ∷ decimal grid in
-    record {
-      one_line = all_append is_in_line (time_text moment) (32 ∷ decimal grid)
-          (in_line (time_text moment) word)
-          (all_more is_in_line 32 (decimal grid) refl
-          (in_line (decimal grid) (decimal_in_part grid (omega arith))));
-      time_is = ap (time_of date) (first_is (time_text moment) (decimal grid) word) ∙ time;
-      grid_is = ap (λ (b : Bool). cond b (number_of (behind_part text) >>= grid_of) (Some finest_grid))
-          (more_behind (time_text moment) (decimal grid))
-          ∙ ap (λ (l : List ℕ). number_of l >>= grid_of)
-          (behind_is (time_text moment) (decimal grid) word)
-          ∙ ap (λ (found : Option ℕ). found >>= grid_of) (number_back 9 grid (omega arith) few)
-          ∙ ap (λ (b : Bool). cond b (Some grid) None) is;
-    }
-
--- both as they are written
-record WrittenEnd (date : List ℕ) (moment grid : ℕ) : Type 0 where
-  text : List ℕ
-  written : end_text moment grid ≡ text ++ 10 ∷ []
-  word : EndWord date moment grid text
-
-end_word : (date : List ℕ) (moment grid : ℕ) → time_of date (time_text moment) ≡ Some moment
-    → is_grid grid ≡ true → WrittenEnd date moment grid
-unfolding end_text grid_text
-end_word date moment grid time is =
-    elim (cases_Bool (grid == finest_grid)) [
-      | inl finest ↦
-          (let same : grid ≡ finest_grid = grind (arith, nat_tests) in
-          record {
-            text = time_text moment;
-            written = rw finest (ap (λ (l : List ℕ). l ++ 10 ∷ []) (append-nil (time_text moment)));
-            word = finest_end date moment grid time same;
-          })
-      | inr other ↦
-          record {
-            text = time_text moment ++ 32 ∷ decimal grid;
-            written = rw other refl;
-            word = other_end date moment grid time is;
-          }
-    ]
-
 -- The request.
 
 shown_with : Option (List ℕ) → Option (List ℕ) → Option Side → Option ℕ → Option ℕ → Option ℕ
-    → Option ℕ → Option Due
-shown_with investor bond side quantity deadline moment grid = do
+    → Option ℕ → Option Band → Option Due
+shown_with investor bond side quantity deadline moment grid band = do
   investor ← investor
   bond ← bond
   side ← side
@@ -135,6 +65,7 @@ shown_with investor bond side quantity deadline moment grid = do
   deadline ← deadline
   moment ← moment
   grid ← grid
+  band ← band
   let ask : Ask = record {
     investor = investor;
     bond = bond;
@@ -142,6 +73,7 @@ shown_with investor bond side quantity deadline moment grid = do
     quantity = quantity;
     deadline = deadline;
     grid = grid;
+    band = band;
   }
   Some (due.Shown ask moment)
 
@@ -153,12 +85,13 @@ shown_is : (date text : List ℕ) → shown_of date text
     (time_of date (first_part (behind_part (behind_part (behind_part (behind_part text))))))
     (time_of date (first_part (behind_part (behind_part (behind_part (behind_part (behind_part text)))))))
     (grid_behind (behind_part (behind_part (behind_part (behind_part (behind_part text))))))
+    (band_behind (behind_part (behind_part (behind_part (behind_part (behind_part (behind_part text)))))))
 unfolding shown_of shown_with
 shown_is date text = refl
 
 shown_all : (ask : Ask) (moment : ℕ) → shown_with (Some ask.investor) (Some ask.bond) (Some ask.side)
     (Some ask.quantity) (Some ask.deadline) (Some moment) (Some ask.grid)
-    ≡ Some (due.Shown ask moment)
+    (Some ask.band) ≡ Some (due.Shown ask moment)
 unfolding shown_with
 shown_all ask moment = refl
 
@@ -179,8 +112,9 @@ shown_by : (date : List ℕ) (ask : Ask) (moment : ℕ) (t₁ t₂ t₃ t₄ t�
     → text_if is_firm_name i ≡ Some ask.investor → text_if is_bond_id b ≡ Some ask.bond
     → side_of s ≡ Some ask.side → asked_quantity q ≡ Some ask.quantity
     → time_of date d ≡ Some ask.deadline → time_of date (first_part t₆) ≡ Some moment
-    → grid_behind t₆ ≡ Some ask.grid → shown_of date t₁ ≡ Some (due.Shown ask moment)
-shown_by date ask moment t₁ t₂ t₃ t₄ t₅ t₆ i b s q d c₁ c₂ c₃ c₄ c₅ investor bond side quantity deadline time grid =
+    → grid_behind t₆ ≡ Some ask.grid → band_behind (behind_part t₆) ≡ Some ask.band
+    → shown_of date t₁ ≡ Some (due.Shown ask moment)
+shown_by date ask moment t₁ t₂ t₃ t₄ t₅ t₆ i b s q d c₁ c₂ c₃ c₄ c₅ investor bond side quantity deadline time grid band =
     let b₂ = ap behind_part c₁.rest_is ∙ c₂.rest_is in
     let b₃ = ap behind_part b₂ ∙ c₃.rest_is in
     let b₄ = ap behind_part b₃ ∙ c₄.rest_is in
@@ -195,6 +129,7 @@ shown_by date ask moment t₁ t₂ t₃ t₄ t₅ t₆ i b s q d c₁ c₂ c₃ 
     ∙ ap (time_of date) c₅.part_is ∙ deadline in
     let e₆ = ap (λ (t : List ℕ). time_of date (first_part t)) b₅ ∙ time in
     let e₇ = ap grid_behind b₅ ∙ grid in
+    let e₈ = ap (λ (t : List ℕ). band_behind (behind_part t)) b₅ ∙ band in
     let bond_read = text_if is_bond_id (first_part (behind_part t₁)) in
     let side_read = side_of (first_part (behind_part (behind_part t₁))) in
     let at_quantity = behind_part (behind_part (behind_part t₁)) in
@@ -203,21 +138,24 @@ shown_by date ask moment t₁ t₂ t₃ t₄ t₅ t₆ i b s q d c₁ c₂ c₃ 
     let at_time = behind_part (behind_part at_quantity) in
     let time_read = time_of date (first_part at_time) in
     let grid_read = grid_behind at_time in
+    let band_read = band_behind (behind_part at_time) in
     shown_is date t₁
     ∙ ap (λ (x : Option (List ℕ)). shown_with x bond_read side_read quantity_read deadline_read
-    time_read grid_read) e₁
+    time_read grid_read band_read) e₁
     ∙ ap (λ (x : Option (List ℕ)). shown_with (Some ask.investor) x side_read quantity_read
-    deadline_read time_read grid_read) e₂
+    deadline_read time_read grid_read band_read) e₂
     ∙ ap (λ (x : Option Side). shown_with (Some ask.investor) (Some ask.bond) x quantity_read
-    deadline_read time_read grid_read) e₃
+    deadline_read time_read grid_read band_read) e₃
     ∙ ap (λ (x : Option ℕ). shown_with (Some ask.investor) (Some ask.bond) (Some ask.side) x
-    deadline_read time_read grid_read) e₄
+    deadline_read time_read grid_read band_read) e₄
     ∙ ap (λ (x : Option ℕ). shown_with (Some ask.investor) (Some ask.bond) (Some ask.side)
-    (Some ask.quantity) x time_read grid_read) e₅
+    (Some ask.quantity) x time_read grid_read band_read) e₅
     ∙ ap (λ (x : Option ℕ). shown_with (Some ask.investor) (Some ask.bond) (Some ask.side)
-    (Some ask.quantity) (Some ask.deadline) x grid_read) e₆
+    (Some ask.quantity) (Some ask.deadline) x grid_read band_read) e₆
     ∙ ap (λ (x : Option ℕ). shown_with (Some ask.investor) (Some ask.bond) (Some ask.side)
-    (Some ask.quantity) (Some ask.deadline) (Some moment) x) e₇
+    (Some ask.quantity) (Some ask.deadline) (Some moment) x band_read) e₇
+    ∙ ap (λ (x : Option Band). shown_with (Some ask.investor) (Some ask.bond) (Some ask.side)
+    (Some ask.quantity) (Some ask.deadline) (Some moment) (Some ask.grid) x) e₈
     ∙ shown_all ask moment
 
 regrouped : (space i b s q d e end : List ℕ)
@@ -227,16 +165,17 @@ regrouped space i b s q d e end = simp append_assoc
 
 pub shown_back : (date : List ℕ) (ask : Ask) (moment : ℕ) → is_firm_name ask.investor ≡ true
     → is_bond_id ask.bond ≡ true → 1 ≤ ask.quantity → ask.quantity ≤ MOST
-    → is_grid ask.grid ≡ true → time_of date (time_text ask.deadline) ≡ Some ask.deadline
+    → is_grid ask.grid ≡ true → EndsRead ask.band
+    → time_of date (time_text ask.deadline) ≡ Some ask.deadline
     → time_of date (time_text moment) ≡ Some moment → ReadsAs date (due.Shown ask moment)
-shown_back date ask moment named bond least most grid deadline time =
+shown_back date ask moment named bond least most grid ends_read deadline time =
     let name_is = (and_parts (not (is_among reserved_names ask.investor)) (is_name ask.investor) named).1 in
     let i_word = name_in_part ask.investor name_is in
     let b_word = bond_in_part ask.bond bond in
     let s_word = side_word ask.side in
     let q_word = quantity_word ask.quantity least most in
     let d_word = time_in_part ask.deadline in
-    let ends = end_word date moment ask.grid time grid in
+    let ends = end_word date moment ask.grid ask.band time grid ends_read in
     let d = time_text ask.deadline in
     let q = decimal ask.quantity in
     let s = decimal (side_code ask.side) in
@@ -271,5 +210,5 @@ shown_back date ask moment named bond least most grid deadline time =
           (cut q t₅ q_word.word) (cut d t₆ d_word)
           (ap (λ (b : Bool). cond b (Some ask.investor) None) named)
           (ap (λ (b : Bool). cond b (Some ask.bond) None) bond)
-          s_word.1 q_word.back deadline ends.word.time_is ends.word.grid_is);
+          s_word.1 q_word.back deadline ends.word.time_is ends.word.grid_is ends.word.band_is);
     }

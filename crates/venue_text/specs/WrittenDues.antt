@@ -1,9 +1,12 @@
 -- What is due to a dealer, written as lines of due text.
-use Rattle.std.specs.Prelude.{ℕ, ◌==◌, Bool, ◌||◌, List, [], ◌∷◌, ◌++◌, map, codes, decimal}
+use Rattle.std.specs.Prelude.{ℕ, ◌==◌, Bool, ◌&&◌, ◌||◌, List, [], ◌∷◌, ◌++◌, map, codes, decimal}
 use Rattle.std.specs.Prelude.{if◌then◌else◌}
 use Rattle.std.specs.List.{flat_map, list_any}
 use Rattle.hex.specs.Hex.{encode_lower}
+use Rattle.bond_prices.specs.Band.{is_whole}
 use Rattle.bond_prices.specs.Grid.{finest_grid}
+use Rattle.bond_prices.specs.Price.{price_digits}
+use Rattle.bond_prices.specs.declared.band.Band.{Band}
 use Rattle.fix_fields.specs.TimeOfDay.{time_text}
 use Rattle.market_terms.specs.Codes.{close_code, side_code}
 use Rattle.market_terms.specs.declared.asks.Ask.{Ask}
@@ -20,13 +23,20 @@ terms_text ask =
 abbrev pub ask_text : Ask → List ℕ
 ask_text ask = terms_text ask ++ 32 ∷ time_text ask.deadline
 
--- GRID behind its space, where it is not the finest
-unfoldable pub grid_text : ℕ → List ℕ
-grid_text grid = if grid == finest_grid then [] else 32 ∷ decimal grid
+-- LOW HIGH behind their spaces, where the band is not that of every price
+unfoldable pub band_text : Band → List ℕ
+band_text band =
+    if is_whole band then [] else 32 ∷ price_digits band.low ++ 32 ∷ price_digits band.high
 
--- TIME and GRID, with which a request's line ends
-unfoldable pub end_text : ℕ → ℕ → List ℕ
-end_text moment grid = time_text moment ++ grid_text grid ++ 10 ∷ []
+-- GRID LOW HIGH behind their spaces: nothing where the grid is the finest and every price is in the
+-- band
+unfoldable pub limits_text : ℕ → Band → List ℕ
+limits_text grid band =
+    if (grid == finest_grid) && is_whole band then [] else 32 ∷ decimal grid ++ band_text band
+
+-- TIME GRID LOW HIGH, with which a request's line ends
+unfoldable pub end_text : ℕ → ℕ → Band → List ℕ
+end_text moment grid band = time_text moment ++ limits_text grid band ++ 10 ∷ []
 
 -- a byte that an `own` line can't say of itself: a vertical bar stands there for SOH, and a line
 -- feed ends the line
@@ -52,7 +62,7 @@ own_line moment message =
 abbrev pub due_line : Due → List ℕ
 due_line (due.Own moment message) = own_line moment message
 due_line (due.Shown ask moment) =
-    codes "shown " ++ ask_text ask ++ 32 ∷ end_text moment ask.grid
+    codes "shown " ++ ask_text ask ++ 32 ∷ end_text moment ask.grid ask.band
 due_line (due.Lifted quote) = codes "lifted " ++ decimal quote ++ 10 ∷ []
 due_line (due.Closed request close moment) =
     codes "closed " ++ decimal request ++ 32 ∷ decimal (close_code close)

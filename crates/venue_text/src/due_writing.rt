@@ -4,7 +4,7 @@ ghost use Rattle.std.specs.List.{list_any};
 ghost use Rattle.fix_fields.specs.TimeOfDay as times;
 ghost use Rattle.venue_text.specs.WrittenDues as spec;
 
-use bond_prices::Grid;
+use bond_prices::{Band, Grid, price_text};
 use fix_fields::{Memory, Moment, time_text};
 use hex::encode;
 use input_lines::push_barred;
@@ -101,7 +101,8 @@ fn push_bytes(text: &mut Vec<u8>, moment: Moment, message: &[u8]) -> Result<(), 
     Ok(())
 }
 
-/// `shown INVESTOR BOND SIDE QUANTITY DEADLINE TIME`, and GRID where it is not the finest.
+/// `shown INVESTOR BOND SIDE QUANTITY DEADLINE TIME`, and GRID and LOW HIGH where they
+/// say more than nothing.
 fn push_shown(text: &mut Vec<u8>, ask: &Ask, moment: Moment) -> Result<(), Memory>
     ensures { OnOk result (text.new.items
         ≡ text.old.items ++ spec.due_line (Due.Shown ask.now moment)) }
@@ -109,31 +110,51 @@ fn push_shown(text: &mut Vec<u8>, ask: &Ask, moment: Moment) -> Result<(), Memor
     text.extend_from_slice(b"shown ")?;
     push_ask(text, ask)?;
     text.push(b' ')?;
-    push_end(text, moment, ask.grid)?;
+    push_end(text, moment, ask)?;
     Ok(())
 }
 
-/// TIME and GRID, with which a request's line ends.
+/// TIME GRID LOW HIGH, with which a request's line ends.
 #[tactic(auto, unfolding(crate::specs::WrittenDues::end_text))]
-fn push_end(text: &mut Vec<u8>, moment: Moment, grid: Grid) -> Result<(), Memory>
-    ensures { OnOk result (text.new.items ≡ text.old.items ++ spec.end_text moment grid) }
+fn push_end(text: &mut Vec<u8>, moment: Moment, ask: &Ask) -> Result<(), Memory>
+    ensures { OnOk result (text.new.items
+        ≡ text.old.items ++ spec.end_text moment ask.now.grid ask.now.band) }
 {
     push_time(text, moment)?;
-    push_grid(text, grid)?;
+    push_limits(text, ask)?;
     text.push(b'\n')?;
     Ok(())
 }
 
-/// GRID behind a space, where it is not the finest.
-#[tactic(auto, unfolding(crate::specs::WrittenDues::grid_text))]
-fn push_grid(text: &mut Vec<u8>, grid: Grid) -> Result<(), Memory>
-    ensures { OnOk result (text.new.items ≡ text.old.items ++ spec.grid_text grid) }
+/// GRID LOW HIGH behind their spaces, where the grid is not the finest or not every price is in the
+/// band.
+#[tactic(auto, unfolding(crate::specs::WrittenDues::limits_text))]
+fn push_limits(text: &mut Vec<u8>, ask: &Ask) -> Result<(), Memory>
+    ensures { OnOk result (text.new.items
+        ≡ text.old.items ++ spec.limits_text ask.now.grid ask.now.band) }
 {
-    if grid.get() == Grid::FINEST.get() {
+    if ask.grid.get() == Grid::FINEST.get() && ask.band.is_whole() {
         return Ok(());
     }
     text.push(b' ')?;
-    push_number(text, u64::from(grid.get()))?;
+    push_number(text, u64::from(ask.grid.get()))?;
+    push_band(text, ask.band)?;
+    Ok(())
+}
+
+/// LOW HIGH behind their spaces, where not every price is in the band.
+#[tactic(auto, unfolding(crate::specs::WrittenDues::band_text))]
+pub fn push_band(text: &mut Vec<u8>, band: Band) -> Result<(), Memory>
+    ensures { OnOk result (text.new.items ≡ text.old.items ++ spec.band_text band) }
+{
+    let Band { low, high } = band;
+    if band.is_whole() {
+        return Ok(());
+    }
+    text.push(b' ')?;
+    text.extend_from_slice(price_text(low).as_bytes())?;
+    text.push(b' ')?;
+    text.extend_from_slice(price_text(high).as_bytes())?;
     Ok(())
 }
 

@@ -53,7 +53,7 @@ pub use blotter_command::blotter_command_text;
 pub use compare_command::{compare_text, message_difference, sent_in, three_lines};
 pub use day_arguments::AskedDay;
 pub use due_command::{due_command_text, push_date_line, push_traders};
-pub use due_writing::{due_lines, push_last_time, push_number, push_own, push_time};
+pub use due_writing::{due_lines, push_band, push_last_time, push_number, push_own, push_time};
 pub use inboxes::{ArrivingDay, read_arriving_day};
 pub use kept_comparison::compared_text;
 pub use kept_days::{KeptDay, Wanted};

@@ -1,11 +1,13 @@
 //! A law: what is written of what was due is read back.
-ghost use Rattle.std.specs.Prelude.{◌≡◌, Some, IsTrue, true, not, ◌==◌, length};
+ghost use Rattle.std.specs.Prelude.{◌≡◌, ◌≤◌, Ok, Some, IsTrue, true, not, ◌==◌, length};
+ghost use Rattle.bond_prices.specs.Price.{price_digits, price_of};
 ghost use Rattle.std.specs.List.{list_all};
 ghost use Rattle.fix_fields.specs.TimeOfDay.{time_text};
 ghost use Rattle.venue_rows.specs.Texts.{is_firm_name};
 ghost use Rattle.input_lines.specs.Lines.{time_of};
 ghost use Rattle.venue_text.specs.ReadBack as spec;
 
+use bond_prices::{Ticks, price_text};
 use fix_fields::{Date, Moment, moment_text};
 use quote_messages::{Ask, Close};
 use step_replay::Due;
@@ -67,6 +69,17 @@ fn shown_is_read_back(date: &Date, ask: &Ask, moment: Moment)
     let _ = ask.bond.as_bytes();
     let _ = ask.quantity.get();
     let _ = ask.grid.get();
+    price_is_read_back(ask.band.low);
+    price_is_read_back(ask.band.high);
+}
+
+/// A price is read back.
+fn price_is_read_back(price: Ticks)
+    ensures most { price ≤ 255999 }
+    ensures back { price_of (price_digits price) ≡ Ok price }
+{
+    let _ = price.get();
+    let _ = price_text(price);
 }
 
 /// A lifting is read back.

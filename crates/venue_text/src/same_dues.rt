@@ -102,5 +102,8 @@ fn is_same_ask(one: &Ask, other: &Ask) -> bool
     if one.deadline.get() != other.deadline.get() {
         return false;
     }
-    one.grid.get() == other.grid.get()
+    if one.grid.get() != other.grid.get() {
+        return false;
+    }
+    one.band.is_same(other.band)
 }

@@ -2,6 +2,7 @@
 
 #include "base/nearest_word.h"
 #include "base/printable.h"
+#include "common/price.h"
 #include "common/toml_bounds.h"
 #include "config/venue_rules.h"
 
@@ -177,7 +178,6 @@ class FileCheck {
     std::vector<std::string> firms() const { return firms_; }
 
   private:
-    static constexpr std::int64_t newest_version = 2;
     static constexpr std::array<std::string_view, 3> table_names = {"bond", "dealer", "investor"};
 
     void check_rows(const RowRule &rule) {
@@ -214,6 +214,42 @@ class FileCheck {
         check.check_keys({});
         check_name(rule, *row, name, check);
         check_sum(rule, *row, sum, check);
+        if (version_ >= 3 && rule.table == "bond") {
+            check_band(*row, check);
+        }
+    }
+
+    // A band has both ends, on the bond's grid. What is no price is told already.
+    static void check_band(const toml::table &row, TableCheck &check) {
+        const toml::node *low = row.get("low");
+        const toml::node *high = row.get("high");
+        if ((low == nullptr) != (high == nullptr)) {
+            const bool has_low = low != nullptr;
+            check.tell(
+                line_of_node(has_low ? *low : *high),
+                fmt::format("{} is missing: a band has low and high", has_low ? "high" : "low"));
+        }
+        const auto grid = row["grid"].value_or(std::int64_t{256});
+        const std::optional<Price> least = check_end("low", low, grid, check);
+        const std::optional<Price> greatest = check_end("high", high, grid, check);
+        if (least && greatest && *least > *greatest) {
+            check.tell(line_of_node(*low), fmt::format("low = {}: it has to be at most high, {}",
+                                                       shown(*low), shown(*high)));
+        }
+    }
+
+    static std::optional<Price> check_end(std::string_view key, const toml::node *end,
+                                          std::int64_t grid, TableCheck &check) {
+        const std::optional<std::string> text =
+            end == nullptr ? std::nullopt : end->value_exact<std::string>();
+        const std::optional<Price> price = text ? price_of(*text) : std::nullopt;
+        const bool is_grid = grid == 32 || grid == 64 || grid == 128 || grid == 256;
+        if (price && is_grid && !price->is_on_grid(static_cast<int>(grid))) {
+            check.tell(line_of_node(*end),
+                       fmt::format("{} = {}: it has to be on the bond's grid of 1/{}", key,
+                                   shown(*end), grid));
+        }
+        return price;
     }
 
     // No bond is there twice, and no firm, whether it is a dealer or an investor.

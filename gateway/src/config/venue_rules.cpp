@@ -1,5 +1,7 @@
 #include "config/venue_rules.h"
 
+#include "common/price.h"
+
 #include <algorithm>
 #include <array>
 #include <string>
@@ -27,6 +29,9 @@ bool is_bond(std::string_view text) {
 }
 bool is_grid(std::string_view text) {
     return text == "32" || text == "64" || text == "128" || text == "256";
+}
+bool is_price(std::string_view text) {
+    return price_of(text).has_value();
 }
 bool is_currency(std::string_view text) {
     return text.size() == 3 && std::ranges::all_of(text, is_capital);
@@ -74,14 +79,18 @@ constexpr std::string_view firm_form =
 constexpr std::string_view traders_form =
     "1 to 16 names, each of 1 to 8 capital letters and digits, the first a letter";
 
+constexpr std::string_view price_form = "a price in quotation marks, such as \"99.5\"";
+
 constexpr std::array<KeyRule, 3> top = {{
-    {"version", ValueKind::number, true, 1, 2, nullptr, "1 or 2"},
+    {"version", ValueKind::number, true, 1, newest_version, nullptr, "1, 2 or 3"},
     {"date", ValueKind::text, false, 0, 0, is_date, "a day as eight digits, such as 20250314"},
     {"mic", ValueKind::text, false, 0, 0, is_mic, "four capital letters and digits"},
 }};
-constexpr std::array<KeyRule, 6> bond = {{
+constexpr std::array<KeyRule, 8> bond = {{
     {"id", ValueKind::text, true, 0, 0, is_bond, "12 capital letters and digits"},
     {"grid", ValueKind::number, true, 32, 256, is_grid, "32, 64, 128 or 256", 2},
+    {"low", ValueKind::text, false, 0, 0, is_price, price_form, 3},
+    {"high", ValueKind::text, false, 0, 0, is_price, price_form, 3},
     {"name", ValueKind::text, false, 0, 0, is_short_text, "1 to 60 bytes of text"},
     {"isin", ValueKind::text, false, 0, 0, is_isin, "an ISIN, whose last digit is right"},
     {"currency", ValueKind::text, false, 0, 0, is_currency, "three capital letters"},

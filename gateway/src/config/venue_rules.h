@@ -34,6 +34,8 @@ struct RowRule {
     std::span<const KeyRule> keys;
 };
 
+constexpr std::int64_t newest_version = 3; // of the configuration
+
 // Above the tables: version, date and mic.
 std::span<const KeyRule> top_rules();
 // Bonds, dealers and investors, in this order.

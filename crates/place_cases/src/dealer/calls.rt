@@ -64,7 +64,7 @@ fn read(desk: &DealerDesk, call: &mut Call<'_>) -> Result<(), CaseFault> {
     }
 }
 
-/// `INVESTOR BOND SIDE QUANTITY DEADLINE TIME [GRID]`.
+/// `INVESTOR BOND SIDE QUANTITY DEADLINE TIME [GRID [LOW HIGH]]`.
 fn shown(opened: &mut Opened, words: &mut Words<'_>) -> Result<(), CaseFault> {
     let (ask, moment) = ask(words)?;
     opened.rooms = opened.rooms.saturating_add(1);

@@ -13,7 +13,7 @@ pub(crate) struct Rows {
 impl Rows {
     /// The day, and no rows.
     pub(crate) fn none(alloc: Global) -> Result<Rows, CaseFault> {
-        let text = String::from_str(alloc, "version = 2\ndate = \"20250314\"\n")?;
+        let text = String::from_str(alloc, "version = 3\ndate = \"20250314\"\n")?;
         Ok(Rows { text })
     }
 
@@ -27,11 +27,17 @@ impl Rows {
         }
     }
 
-    /// `ID GRID`.
+    /// `ID GRID [LOW HIGH]`, where LOW and HIGH are texts.
     fn bond(&mut self, words: &mut Words<'_>) -> Result<(), CaseFault> {
         let id = words.word()?;
         let grid = words.short_number()?;
         write!(self.text, "[[bond]]\nid = \"{id}\"\ngrid = {grid}\n")?;
+        if words.is_at_end() {
+            return Ok(());
+        }
+        let low = words.word()?;
+        let high = words.word()?;
+        write!(self.text, "low = \"{low}\"\nhigh = \"{high}\"\n")?;
         Ok(())
     }
 

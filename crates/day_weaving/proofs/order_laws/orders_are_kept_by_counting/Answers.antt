@@ -6,7 +6,7 @@ use Rattle.recorded_days.specs.Records.{RecordedDay}
 use Rattle.std.proofs.Common.{List}
 use Rattle.day_weaving.proofs.ActorOrderLemmas.{stands_once}
 use Rattle.day_weaving.proofs.CountedOrders.{keeps_order}
-use Rattle.day_weaving.proofs.OrderLawLemmas.{comes_before, no_circle}
+use Rattle.day_weaving.proofs.OrderLawLemmas.{comes_before, no_cycle}
 use Rattle.day_weaving.proofs.order_laws.orders_are_kept_by_counting.Goals as goal
 
 is_order : (day : RecordedDay) (slots : List Slot) → AreNamedOnce day → KeepsOrder day slots
@@ -27,6 +27,6 @@ pub returns-clause-woven : goal.returns-clause-woven
 returns-clause-woven c config day steps woven =
     (woven.order, is_order day woven.order woven.well_formed.named woven.keeps, woven.are_steps)
 
-pub returns-clause-circle : goal.returns-clause-circle
-returns-clause-circle c day slots actions named circle order =
-    no_circle day slots named (keeps_order day slots named order) actions circle
+pub returns-clause-cycle : goal.returns-clause-cycle
+returns-clause-cycle c day slots actions named cycle order =
+    no_cycle day slots named (keeps_order day slots named order) actions cycle

@@ -1,4 +1,4 @@
-use Rattle.session_laws.specs.Given.{given_bodies}
+use Rattle.laws_sessions.specs.Given.{given_bodies}
 use Rattle.step_replay.specs.AuditTrail.{audit_trail, sent_to}
 use Rattle.laws_wire.proofs.CarriedBack.{all_made_carried}
 use Rattle.laws_wire.proofs.carrying.what_is_kept_of_the_venue_reads_back.Goals as goal

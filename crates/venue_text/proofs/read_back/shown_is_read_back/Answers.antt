@@ -11,4 +11,10 @@ returns c named =
     (subst (λ (n : ℕ). 1 ≤ n) units c.get.ensures.least)
     (subst (λ (n : ℕ). n ≤ MOST) units c.get.ensures.most)
     (subst (λ (n : ℕ). IsTrue (is_grid n)) c.get-2.ensures.value c.get-2.ensures.is_grid)
+    (record {
+      low_most = c.price_is_read_back.ensures.most;
+      low_back = c.price_is_read_back.ensures.back;
+      high_most = c.price_is_read_back-2.ensures.most;
+      high_back = c.price_is_read_back-2.ensures.back;
+    })
     c.time_is_read_back.ensures c.time_is_read_back-2.ensures

@@ -1,10 +1,10 @@
 use Rattle.std.proofs.Common.{◌≡◌, ◌<◌, ◌-◌, None, Some, arith, length, slice_get, subst, sym, ◌∙◌}
-use Rattle.day_weaving.specs.DayOrder.{IsCircle}
+use Rattle.day_weaving.specs.DayOrder.{IsCycle}
 use Rattle.day_weaving.specs.OrderSearch.{IsLeftBefore, index_in}
 use Rattle.recorded_days.specs.Records.{ActionRef}
 use Rattle.day_weaving.proofs.MarkLemmas.{inside}
 use Rattle.day_weaving.proofs.WaySteps.{first_pushed, last_is, later_pushed, top_is, top_placed}
-use Rattle.day_weaving.proofs.WaySteps.{top_slot, way_circle, way_within}
+use Rattle.day_weaving.proofs.WaySteps.{top_slot, way_cycle, way_within}
 use Rattle.day_weaving.proofs.weave_search.Search.step.Goals as goal
 
 pub returns-in_default-clause-stands : goal.returns-in_default-clause-stands
@@ -123,8 +123,8 @@ way_from-requires c =
     c.in-Some-place_of.start c.requires.stands c.in-Some-left_before.ensures.some.is_action
     (sym c.in-Some-place_of.is ∙ c.place_of.ensures)
 
-pub returns-in-Some-place_of-clause-circle : goal.returns-in-Some-place_of-clause-circle
-returns-in-Some-place_of-clause-circle c =
+pub returns-in-Some-place_of-clause-cycle : goal.returns-in-Some-place_of-clause-cycle
+returns-in-Some-place_of-clause-cycle c =
     let day = c.args.day.now in
     let state = c.args.self.now in
     let earlier = c.in-Some-left_before.earlier in
@@ -134,8 +134,8 @@ returns-in-Some-place_of-clause-circle c =
     top_slot day c.args.table.now c.in-Some.top c.index.result.now c.index_of.result
     c.requires.table (top_is day c.args.table.now state c.in-Some.top c.requires.stands at_top)
     c.index_of.ensures c.index.ensures in
-    subst (IsCircle day) (sym c.in_ok-circle.ensures)
-    (way_circle day c.args.table.now state earlier c.in-Some.top c.in-Some-place_of.start
+    subst (IsCycle day) (sym c.in_ok-cycle.ensures)
+    (way_cycle day c.args.table.now state earlier c.in-Some.top c.in-Some-place_of.start
     c.requires.stands at_top
     (subst (λ (top : ActionRef). IsLeftBefore day state.done earlier top) slot.1
     c.in-Some-left_before.ensures.some)

@@ -1,9 +1,9 @@
 use Rattle.std.proofs.Common.{◌≡◌, ℕ, List, [], ◌∷◌, ◌++◌, Option, subst}
 use Rattle.quote_word.specs.declared.settled.Settled.{Settled}
-use Rattle.recorded_days.specs.Kinds.{is_expire, is_in, kind_of}
+use Rattle.recorded_days.specs.Kinds.{is_expire, is_in, kind_of, moment_of}
 use Rattle.recorded_days.specs.declared.actions.Action.{Action}
 use Rattle.recorded_days.specs.declared.actions.Kind.{Kind}
-use Rattle.session_worker.specs.Shifts.{IsNoted, action_of, moment_of}
+use Rattle.session_worker.specs.Shifts.{IsNoted, action_of}
 use Rattle.session_worker.specs.Watched.{word_in}
 use Rattle.session_worker.proofs.ShiftLemmas.{duty_is_no_message, duty_is_no_sweep, nothing_noted}
 use Rattle.session_worker.proofs.actors.Shift.turn.Goals as goal

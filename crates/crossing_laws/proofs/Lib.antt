@@ -1,7 +1,0 @@
-pub mod Choices
-mod Pieces
-pub mod Bodies
-pub mod Fronts
-mod Lengths
-mod Taken
-mod Crossing

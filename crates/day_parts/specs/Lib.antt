@@ -1,6 +1,0 @@
-pub mod AcceptedQuotes
-pub mod ActionCases
-pub mod DayParts
-pub mod KeptItems
-pub mod LeftDuties
-pub mod MayLeave

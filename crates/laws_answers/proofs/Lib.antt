@@ -1,4 +1,0 @@
-mod AwardLemmas
-mod LaterLemmas
-mod SweepLemmas
-mod TurnLemmas

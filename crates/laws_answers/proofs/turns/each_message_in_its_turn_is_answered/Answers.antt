@@ -1,5 +1,0 @@
-use Rattle.laws_answers.proofs.TurnLemmas.{turn_outcome}
-use Rattle.laws_answers.proofs.turns.each_message_in_its_turn_is_answered.Goals as goal
-
-pub returns : goal.returns
-returns c config steps firm moment bytes differs = turn_outcome config steps firm moment bytes differs

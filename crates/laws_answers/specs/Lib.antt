@@ -1,4 +1,0 @@
-pub mod Answered
-pub mod Awards
-pub mod Later
-pub mod Overdue

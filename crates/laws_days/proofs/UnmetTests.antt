@@ -1,0 +1,192 @@
+-- An action whose test fails does nothing.
+use Rattle.std.proofs.Common.{◌≡◌, ℕ, Bool, true, false, ◌&&◌, not, List, [], Option, Some, None}
+use Rattle.std.proofs.Common.{is_some, refl, ◌∙◌}
+use Rattle.market_terms.specs.declared.asks.Ask.{Ask}
+use Rattle.market_terms.specs.declared.closes.Close.{Close}
+use Rattle.market_terms.specs.declared.closes.Reply.{Reply}
+use Rattle.market_terms.specs.declared.duties.Duty.{Duty}
+use Rattle.market_terms.specs.declared.duties.Duty.TheVariants as duty
+use Rattle.market_terms.specs.declared.rooms.ResponseRef.{ResponseRef}
+use Rattle.market_terms.specs.declared.rooms.RoomRef.{RoomRef}
+use Rattle.venue_rows.specs.Rows.{Configuration}
+use Rattle.investor_desk.specs.InvestorDesk.{market_for}
+use Rattle.investor_desk.specs.InvestorRules.{InvestorMarket}
+use Rattle.investor_desk.specs.declared.events.InvestorEvent.{InvestorEvent}
+use Rattle.investor_desk.specs.declared.events.InvestorEvent.TheVariants as at_investor
+use Rattle.request_room.specs.Book.{event_facts}
+use Rattle.request_room.specs.RoomFacts.{hears, is_opening, is_vacant}
+use Rattle.request_room.specs.declared.events.RoomEvent.{RoomEvent}
+use Rattle.request_room.specs.declared.events.RoomEvent.TheVariants as at_room
+use Rattle.venue_steps.specs.InvestorSteps.{replies_to}
+use Rattle.venue_places.specs.declared.actors.Actor.{Actor}
+use Rattle.step_replay.specs.Actions.{Dealer, Effect, acting_dealer}
+use Rattle.step_replay.specs.Actions.{dealer_at, done_by, done_for, dropped_by}
+use Rattle.step_replay.specs.Actions.{has_word_for, in_room, nothing}
+use Rattle.step_replay.specs.Actions.{received_by_dealer, shown_to, told_of, told_to}
+use Rattle.step_replay.specs.Actions.{where_known}
+use Rattle.step_replay.specs.LineActions.{answered_by, at_investor_of, declined_by, opened, posted_by, unposted_by}
+use Rattle.step_replay.specs.DutyEffects.{duty_effect}
+use Rattle.step_replay.specs.VenueFacts.{Fact, of_dealer, of_room}
+use Rattle.laws_days.specs.Conditions.{has_word_asked, holds_for, is_closable, is_heard}
+use Rattle.laws_days.specs.Conditions.{is_heard_on, is_known, is_known_to, is_met, is_room}
+use Rattle.laws_days.specs.Conditions.{is_unshown, is_untold, may_drop}
+
+-- What is done where there is something of which a test holds.
+
+by_unmet : (found : Option Dealer) (test : Dealer → Bool) (act : Dealer → Effect)
+    → ((dealer : Dealer) → test dealer ≡ false → act dealer ≡ nothing)
+    → holds_for found test ≡ false → done_by found act ≡ nothing
+by_unmet None test act each isnt = refl
+by_unmet (Some dealer) test act each isnt = each dealer isnt
+
+for_unmet : (found : Option InvestorMarket) (test : InvestorMarket → Bool)
+    (act : InvestorMarket → Effect)
+    → ((market : InvestorMarket) → test market ≡ false → act market ≡ nothing)
+    → holds_for found test ≡ false → done_for found act ≡ nothing
+for_unmet None test act each isnt = refl
+for_unmet (Some market) test act each isnt = each market isnt
+
+for_none : (found : Option InvestorMarket) (act : InvestorMarket → Effect)
+    → ((market : InvestorMarket) → act market ≡ nothing) → done_for found act ≡ nothing
+for_none None act each = refl
+for_none (Some market) act each = each market
+
+from_not : (b : Bool) → not b ≡ false → b ≡ true
+from_not true isnt = refl
+from_not false isnt = cc
+
+swapped : (a b c : Bool) → (a && (b && c)) ≡ (b && (a && c))
+swapped true true c = refl
+swapped true false c = refl
+swapped false true c = refl
+swapped false false c = refl
+
+module _ (config : Configuration) (facts : List Fact) where
+  -- In a room.
+
+  room_unmet : (room : RoomRef) (may : Bool) (event : RoomEvent) (duties : List Duty)
+      → (is_room config room && may) ≡ false
+      → in_room config facts room may event duties ≡ nothing
+  room_unmet room may event duties isnt = rw isnt refl
+
+  open_unmet : (room : RoomRef) (ask : Ask) (dealers : List ℕ) (moment : ℕ)
+      → (is_room config room && is_vacant (of_room room facts)) ≡ false
+      → opened config facts room ask dealers moment ≡ nothing
+  unfolding event_facts
+  open_unmet room ask dealers moment isnt = by_room (is_room config room) refl isnt
+    where
+      by_room : (b : Bool) → is_room config room ≡ b
+          → (b && is_vacant (of_room room facts)) ≡ false
+          → opened config facts room ask dealers moment ≡ nothing
+      by_room false is fails = rw is refl
+      by_room true is fails = rw (is, fails) refl
+
+  ready_unmet : (room : RoomRef)
+      → (is_room config room && is_opening (of_room room facts)) ≡ false
+      → in_room config facts room true at_room.Ready [] ≡ nothing
+  unfolding event_facts
+  ready_unmet room isnt = by_room (is_room config room) refl isnt
+    where
+      by_room : (b : Bool) → is_room config room ≡ b
+          → (b && is_opening (of_room room facts)) ≡ false
+          → in_room config facts room true at_room.Ready [] ≡ nothing
+      by_room false is fails = rw is refl
+      by_room true is fails = rw (is, fails) refl
+
+  pass_unmet : (room : RoomRef) (event : RoomEvent) (duties : List Duty)
+      → is_room config room ≡ false → in_room config facts room true event duties ≡ nothing
+  pass_unmet room event duties isnt = rw isnt refl
+
+  heard_unmet : (room : RoomRef) (quote : ℕ) (dealer : Dealer) (event : RoomEvent)
+      (duties : List Duty) → is_heard_on config facts room quote dealer ≡ false
+      → in_room config facts room
+      (has_word_for config dealer quote && hears (of_room room facts) dealer.number) event duties
+      ≡ nothing
+  heard_unmet room quote dealer event duties isnt =
+      room_unmet room (has_word_for config dealer quote && hears (of_room room facts) dealer.number)
+      event duties
+      (swapped (is_room config room) (has_word_for config dealer quote)
+      (hears (of_room room facts) dealer.number) ∙ isnt)
+
+  -- At a desk.
+
+  known_unmet : (room : RoomRef) (quote : Option ℕ) (event : InvestorEvent)
+      → is_known config facts room quote ≡ false
+      → at_investor_of config room (where_known facts room.n quote event) ≡ nothing
+  known_unmet room quote event isnt =
+      for_unmet (market_for config room.investor) (is_known_to facts room.n quote)
+      (where_known facts room.n quote event) (λ market fails. rw fails refl) isnt
+
+  declined_unmet : (found : Option Dealer) (room : RoomRef) (moment : ℕ)
+      → (is_some found && is_known config facts room None) ≡ false
+      → done_by found (λ (dealer : Dealer). at_investor_of config room
+      (where_known facts room.n None (at_investor.DealerDeclined room.n dealer.row.name moment)))
+      ≡ nothing
+  declined_unmet None room moment isnt = refl
+  declined_unmet (Some dealer) room moment isnt =
+      known_unmet room None (at_investor.DealerDeclined room.n dealer.row.name moment) isnt
+
+  answer_unmet : (room : RoomRef) (response : ResponseRef) (reply : Reply) (moment : ℕ)
+      → (replies_to response.k reply && is_known config facts room response.k) ≡ false
+      → at_investor_of config room (answered_by facts room response reply moment) ≡ nothing
+  answer_unmet room response reply moment isnt = by_reply (replies_to response.k reply) refl isnt
+    where
+      by_reply : (b : Bool) → replies_to response.k reply ≡ b
+          → (b && is_known config facts room response.k) ≡ false
+          → at_investor_of config room (answered_by facts room response reply moment) ≡ nothing
+      by_reply false is fails =
+          for_none (market_for config room.investor) (answered_by facts room response reply moment)
+          (λ market. rw is refl)
+      by_reply true is fails =
+          for_unmet (market_for config room.investor) (is_known_to facts room.n response.k)
+          (answered_by facts room response reply moment) (λ market never. rw (is, never) refl) fails
+
+  told_unmet : (dealer : Dealer) (close : Close) (moment : ℕ) (number : Option ℕ)
+      → holds_for number (is_closable (of_dealer dealer.number facts)) ≡ false
+      → told_of config facts dealer close moment number ≡ nothing
+  told_unmet dealer close moment None isnt = refl
+  told_unmet dealer close moment (Some request) isnt = rw isnt refl
+
+  -- All duties.
+
+  pub unmet : (actor : Actor) (left : Duty) → is_met config facts actor left ≡ false
+      → duty_effect config facts actor left ≡ nothing
+  unfolding is_met duty_effect
+  unmet actor (duty.Open room ask dealers moment) isnt = open_unmet room ask dealers moment isnt
+  unmet actor (duty.Show dealer room ask moment) isnt =
+      by_unmet (dealer_at config dealer) (is_unshown facts room)
+      (shown_to config facts room ask moment) (λ one fails. rw (from_not _ fails) refl) isnt
+  unmet actor (duty.Ready room moment) isnt = ready_unmet room isnt
+  unmet actor (duty.Post room quote price valid_until moment) isnt =
+      by_unmet (acting_dealer config actor) (is_heard_on config facts room quote)
+      (posted_by config facts room quote price valid_until moment)
+      (λ one fails. heard_unmet room quote one _ _ fails) isnt
+  unmet actor (duty.Relay room offer moment) isnt = known_unmet room None _ isnt
+  unmet actor (duty.Unpost room quote moment) isnt =
+      by_unmet (acting_dealer config actor) (is_heard_on config facts room quote)
+      (unposted_by config facts room quote moment)
+      (λ one fails. heard_unmet room quote one _ _ fails) isnt
+  unmet actor (duty.Gone room word moment) isnt = known_unmet room None _ isnt
+  unmet actor (duty.Decline room moment) isnt =
+      by_unmet (acting_dealer config actor) (is_heard config facts room)
+      (declined_by config facts room moment) (λ one fails. room_unmet room _ _ _ fails) isnt
+  unmet actor (duty.Declined room moment) isnt =
+      declined_unmet (acting_dealer config actor) room moment isnt
+  unmet actor (duty.Hit room response word moment) isnt = rw isnt refl
+  unmet actor (duty.Pass room response moment) isnt = pass_unmet room _ _ isnt
+  unmet actor (duty.Answer room response reply moment) isnt =
+      answer_unmet room response reply moment isnt
+  unmet actor (duty.Close room moment) isnt = known_unmet room None _ isnt
+  unmet actor (duty.Tell dealer room close moment) isnt =
+      by_unmet (dealer_at config dealer) (is_untold facts room)
+      (told_to config facts room close moment) (λ one fails. told_unmet one close moment _ fails) isnt
+  unmet actor (duty.Drop last moment) isnt =
+      by_unmet (acting_dealer config actor) (may_drop config facts last)
+      (dropped_by config facts last moment) (λ one fails. rw fails refl) isnt
+
+  -- a message of a dealer that asks a word which the venue does not have
+  pub unasked : (dealer : Dealer) (moment : ℕ) (bytes : List ℕ)
+      → has_word_asked config facts moment bytes dealer ≡ false
+      → received_by_dealer config facts moment bytes dealer ≡ nothing
+  unfolding has_word_asked
+  unasked dealer moment bytes isnt = rw isnt refl

@@ -1,0 +1,13 @@
+use Rattle.laws_days.proofs.VenueDesk.{WordsOfDay}
+use Rattle.laws_isolation.proofs.PairedDays.{presence}
+use Rattle.laws_isolation.proofs.presence.presence_is_not_told.Goals as goal
+
+pub returns : goal.returns
+returns c config days dealer alike =
+    let words : WordsOfDay = record {
+      asks = c.what_is_asked_is_of_the_day.ensures.message;
+      drops = c.what_is_asked_is_of_the_day.ensures.drop;
+    } in
+    presence c.limits_are_kept.ensures.lone words
+    (λ bytes fields is. (c.frame_of_is_the_reading.ensures.reads bytes fields).1 is) config dealer
+    days alike

@@ -1,0 +1,5 @@
+pub mod Apart
+pub mod DayViews
+pub mod DayWords
+pub mod Presence
+pub mod Silence

@@ -1,5 +1,0 @@
-use Rattle.laws_recovery.proofs.Folds.{all_more}
-use Rattle.laws_recovery.proofs.laws.a_start_is_a_fold.Goals as goal
-
-pub returns : goal.returns
-returns c = all_more

@@ -1,8 +1,0 @@
-use Rattle.laws_recovery.proofs.LeftAgain.{left_is_recovered, rejects_are_kept}
-use Rattle.laws_recovery.proofs.laws.what_left_is_recovered.Goals as goal
-
-pub returns-clause-messages : goal.returns-clause-messages
-returns-clause-messages c = left_is_recovered
-
-pub returns-clause-rejects : goal.returns-clause-rejects
-returns-clause-rejects c = rejects_are_kept

@@ -1,9 +1,0 @@
-mod HitMessages
-mod Quiet
-mod QuietActions
-mod QuietInvestor
-mod QuietRoom
-mod QuietSteps
-mod QuietVerdicts
-mod QuotingDuties
-mod SilenceLemmas

@@ -1,4 +1,0 @@
-mod SettledSteps
-mod UnmetTests
-mod UnreadDealer
-mod UnreadInvestor

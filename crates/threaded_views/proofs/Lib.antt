@@ -1,5 +1,0 @@
-mod DayLemmas
-mod DutyFits
-mod FitLemmas
-mod ReplayFits
-mod WordLemmas

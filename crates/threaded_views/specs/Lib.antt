@@ -1,2 +1,0 @@
-pub mod DayViews
-pub mod DayWords

@@ -1,4 +1,0 @@
-pub mod LiveDuties
-pub mod SentTrades
-pub mod TradeNames
-pub mod Trades
