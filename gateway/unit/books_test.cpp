@@ -101,6 +101,16 @@ TEST_CASE("a quote that was shown names its bond") {
     CHECK(shown.bond_of("INV2", "Q1") == "BONDB");
     CHECK(shown.bond_of("INV1", "Q3") == "");
     CHECK(shown.bond_of("INV3", "Q1") == "");
+    for (const char *const none : {"", "Q", "Q0", "Q01", "q1", "Q1 ", "Q-1", "Q4294967297"}) {
+        CHECK(shown.bond_of("INV1", none) == "");
+    }
+    given("INV1", frame("S", "117=Q9|48=BONDC|")); // the venue leaves none out
+    CHECK(shown.bond_of("INV1", "Q9") == "");
+    given("INV1", frame("S", "117=Q1|48=BONDC|")); // all is given again
+    given("INV1", frame("S", "117=Q3|48=BONDA|"));
+    CHECK(shown.bond_of("INV1", "Q1") == "BONDC");
+    CHECK(shown.bond_of("INV1", "Q2") == "BONDB");
+    CHECK(shown.bond_of("INV1", "Q3") == "BONDA");
 }
 
 HaltSet halt(const std::string &bond, bool is_halted) {

@@ -3,9 +3,15 @@
 #include <doctest/doctest.h>
 
 #include "check.h"
+#include "day/clock_log.h"
 #include "health/clock_watch.h"
+#include "log/log.h"
 
 #include <chrono>
+#include <memory>
+#include <optional>
+#include <string>
+#include <vector>
 
 namespace gateway::tests {
 
@@ -69,6 +75,56 @@ TEST_CASE("set little by little") {
         told += watch.look() ? 1 : 0;
     }
     check(told >= 15, fmt::format("50 ms a second, told {} times in a minute", told));
+}
+
+// Keeps the lines that are committed.
+class Lines final : public Database {
+  public:
+    std::unique_ptr<LogReader> reader() override { return nullptr; }
+    std::optional<std::uint32_t> take_over() override { return 0; }
+    std::unique_ptr<LogWriter> writer() override { return std::make_unique<Writer>(lines); }
+
+    std::vector<std::string> lines;
+
+  private:
+    class Writer final : public LogWriter {
+      public:
+        explicit Writer(std::vector<std::string> &lines) : lines_(lines) {}
+        void commit(const Batch &batch) override {
+            for (const Entry &entry : batch.entries) {
+                lines_.push_back(entry.line.substr(0, 8) + entry.line.substr(21));
+            }
+        }
+        void be_seen() override {}
+
+      private:
+        std::vector<std::string> &lines_;
+    };
+};
+
+// The first time, where it changes, and not again within five minutes; and each step.
+TEST_CASE("what the log has of the clock") {
+    Lines database;
+    {
+        EntryFeed feed(0);
+        DayClock clock(today());
+        Metrics metrics;
+        Log log(database, feed, clock, metrics, Log::Start{}, [](const std::string &) {});
+        ClockLog clock_log(log);
+        KernelClock kernel;
+        kernel.is_synchronised = true;
+        kernel.greatest_error = 7us;
+        clock_log.look(kernel, {});
+        clock_log.look(kernel, {});
+        kernel.greatest_error = 8us;
+        clock_log.look(kernel, {-3us});
+        kernel.is_synchronised = false;
+        clock_log.look(kernel, {4us, 5us});
+        clock_log.look(kernel, {});
+    }
+    CHECK(database.lines == std::vector<std::string>{"# clock synchronised 7", "# clock set -3",
+                                                     "# clock set 4", "# clock set 5",
+                                                     "# clock unsynchronised 8"});
 }
 
 TEST_CASE("what the kernel says") {

@@ -7,16 +7,22 @@
 #include "common/frame.h"
 #include "common/moment.h"
 #include "common/password.h"
+#include "common/price.h"
 #include "common/web/cookies.h"
 #include "common/web/secrets.h"
 #include "common/web/server_settings.h"
 #include "common/web/static_files.h"
+#include "still_clock.h"
 
 #include <chrono>
 #include <fstream>
+#include <memory>
 #include <set>
 #include <string>
 #include <vector>
+
+#include <openssl/crypto.h>
+#include <openssl/rand.h>
 
 namespace gateway::tests {
 
@@ -71,6 +77,30 @@ TEST_CASE("a number is digits alone") {
     }
 }
 
+// ---------------------------------------------------------------- prices
+
+TEST_CASE("a price is read in its 256ths") {
+    const auto read = [](const char *text) {
+        const auto price = price_of(text);
+        return price ? price->in_256ths : -1;
+    };
+    CHECK(read("99.5") == 99 * 256 + 128);
+    CHECK(read("99.50") == 99 * 256 + 128);
+    CHECK(read("99.00390625") == 99 * 256 + 1);
+    CHECK(read("99.015625") == 99 * 256 + 4);
+    CHECK(read("99") == 99 * 256);
+    CHECK(read("99.000000000000") == 99 * 256);
+    CHECK(read("0.00390625") == 1);
+    CHECK(read("999.99609375") == 255'999);
+    for (const char *none : {"", ".", "99.51", "99.0039", "-99", "+99", "9 9", "99,5", "99.5.",
+                             "1e2", "0", "1000", "9999999999999999"}) {
+        CHECK_MESSAGE(read(none) == -1, none);
+    }
+    CHECK(text_of(Price{99 * 256 + 128}) == "99.5");
+    CHECK(text_of(Price{99 * 256}) == "99");
+    CHECK(text_of(Price{99 * 256 + 1}) == "99.00390625");
+}
+
 // ---------------------------------------------------------------- moments
 
 TEST_CASE("a moment is read as it is written") {
@@ -110,6 +140,22 @@ TEST_CASE("a day is over, or the clock was set") {
     CHECK(day_by(date, "20261129", std::nullopt) == Day::set);
 }
 
+// By itself it goes half a minute beyond midnight, and is set by a whole day.
+TEST_CASE("a machine's clock comes to the next day, or is set") {
+    {
+        StillClock machine;
+        DayClock day("20250314");
+        machine.move(15h - 30s);
+        CHECK(day.day() == DayClock::Day::goes_on);
+        machine.move(50s);
+        CHECK(day.day() == DayClock::Day::over);
+    }
+    StillClock machine;
+    DayClock day("20250314");
+    machine.move(15h);
+    CHECK(day.day() == DayClock::Day::set);
+}
+
 TEST_CASE("a day's clock never goes back, and stands at the day's end") {
     DayClock over("20000101");
     CHECK(over.day() == DayClock::Day::over);
@@ -138,6 +184,7 @@ TEST_CASE("what of a hash says how long it takes") {
     CHECK(setting_of("$6$rounds=9000$salt$hash") == "$6$rounds=9000$");
     CHECK(setting_of("$2b$12$saltandhash") == "$2b$12$");
     CHECK(setting_of("$7$CU..../....salt$hash") == "$7$CU..../....");
+    CHECK(setting_of("$6$$hash") == "$6$");
     CHECK(setting_of("$x") == "$x");
     CHECK(setting_of("none") == "none");
 }
@@ -181,6 +228,28 @@ TEST_CASE("secrets") {
     CHECK(web::are_equal("abc", "abc"));
     CHECK_FALSE(web::are_equal("abc", "abd"));
     CHECK_FALSE(web::are_equal("abc", "abcd"));
+}
+
+// A library that has no source of random bytes, for this thread, as long as it lives.
+class NothingRandom {
+  public:
+    NothingRandom() {
+        REQUIRE(RAND_set_DRBG_type(own_.get(), "NONE", nullptr, nullptr, nullptr) == 1);
+        before_ = OSSL_LIB_CTX_set0_default(own_.get());
+    }
+    ~NothingRandom() { OSSL_LIB_CTX_set0_default(before_); }
+    NothingRandom(const NothingRandom &) = delete;
+    NothingRandom &operator=(const NothingRandom &) = delete;
+
+  private:
+    const std::unique_ptr<OSSL_LIB_CTX, void (*)(OSSL_LIB_CTX *)> own_{OSSL_LIB_CTX_new(),
+                                                                       OSSL_LIB_CTX_free};
+    OSSL_LIB_CTX *before_ = nullptr;
+};
+
+TEST_CASE("no secret is one that is known") {
+    const NothingRandom none;
+    CHECK_THROWS_WITH(web::new_secret(), "the system gives no random bytes");
 }
 
 TEST_CASE("a site's names, and the origins of its pages") {
@@ -242,18 +311,18 @@ TEST_CASE("a site's files") {
     web::Request post = get("/");
     post.method = web::Method::post;
     CHECK_FALSE(files.find(post));
-    CHECK_THROWS(files.add("a.txt", ""));
+    CHECK_THROWS_WITH(files.add("a.txt", ""), "a.txt: no page, style, script or picture");
 }
 
 TEST_CASE("a folder of a site's files") {
     const Scratch folder("site");
     for (const char *name : {"a.js", "b.svg", "c.txt"}) {
-        std::ofstream(folder.path() / name) << name;
+        std::ofstream(folder.path() / name) << "text of " << name;
     }
     std::filesystem::create_directory(folder.path() / "d.css");
     web::StaticFiles files;
     files.add_folder(folder.path().string());
-    CHECK(files.find(get("/a.js"))->body == "a.js");
+    CHECK(files.find(get("/a.js"))->body == "text of a.js");
     CHECK(files.find(get("/a.js"))->content_type == "text/javascript; charset=utf-8");
     CHECK(files.find(get("/b.svg"))->content_type == "image/svg+xml");
     CHECK_FALSE(files.find(get("/c.txt")));

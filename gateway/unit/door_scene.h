@@ -59,6 +59,7 @@ class Book final : public SessionHost {
   public:
     Refusal judge(const LogonFacts &facts) override {
         judged.push_back(facts.firm);
+        addresses.push_back(facts.address);
         reading += read_while_judged;
         return verdict;
     }
@@ -75,8 +76,9 @@ class Book final : public SessionHost {
         climbs.push_back(fmt::format("{} {} {} {}", firm, climb.from, climb.to, climb.refused));
     }
     void connection_ended(const std::string &, std::uint32_t connection,
-                          const std::string &) override {
+                          const std::string &why) override {
         calls.push_back(fmt::format("ended {}", connection));
+        ends.push_back(why);
     }
     void logged_on(const std::string &) override { ++logons; }
     void logged_off(const std::string &) override { --logons; }
@@ -99,7 +101,12 @@ class Book final : public SessionHost {
         return last_ticket;
     }
     bool replies_too_much(const std::string &) override { return replies > most_replies; }
-    void wait_stored(std::uint64_t ticket) override { stored = std::max(stored, ticket); }
+    void wait_stored(std::uint64_t ticket) override {
+        if (const auto happens = std::exchange(happens_while_it_commits, nullptr)) {
+            happens();
+        }
+        stored = std::max(stored, ticket);
+    }
     bool is_entry_stored(const std::string &, std::uint32_t place) override {
         return place <= stored_place;
     }
@@ -160,16 +167,19 @@ class Book final : public SessionHost {
     std::uint64_t reading = 0;           // how often the credentials were read again
     std::uint64_t read_while_judged = 0; // and how often within each judgement
     Taken denial;                        // of what the venue is to be given
-    std::vector<std::string> judged;     // the names
+    std::vector<std::string> judged;     // the names,
+    std::vector<std::string> addresses;  // and from where they came
     std::vector<std::string> refusals;   // their words
     std::vector<std::string> climbs;     // FIRM FROM TO REFUSED
+    std::vector<std::string> ends;       // why connections have ended
     std::vector<std::string> calls;
     std::vector<SessionNote> notes; // that are written, in their order
     std::map<std::uint32_t, KeptMessage> kept;
-    std::vector<std::size_t> reads;             // of what is kept, and how many each could have
-    std::function<void()> happens_at_next_read; // before what was read is back
-    std::size_t sent_again = 0;                 // by the firm's rate
-    std::size_t replies = 0;                    // of the session's own, that count,
+    std::vector<std::size_t> reads;                 // of what is kept, and how many each could have
+    std::function<void()> happens_at_next_read;     // before what was read is back
+    std::function<void()> happens_while_it_commits; // what a message of the session's own waits for
+    std::size_t sent_again = 0;                     // by the firm's rate
+    std::size_t replies = 0;                        // of the session's own, that count,
     std::size_t most_replies = SessionNumbers::last; // and how many may be
     SessionNumbers numbers;
     int logons = 0; // that have not ended
@@ -236,6 +246,7 @@ class Ear final : public Transport {
     bool is_ending() const override { return ends; }
     void wake() override { ++wakes; }
     ConnectionFacts facts() const override { return {"192.0.2.1:1", "", false}; }
+    std::size_t waiting() const override { return waits; }
 
     // What was said since this was called last: of each message its number, its type, and 43
     // and 97.
@@ -256,6 +267,7 @@ class Ear final : public Transport {
     std::vector<std::string> last;     // that heard() told of
     bool ends = false;
     int wakes = 0;
+    std::size_t waits = 0; // bytes that the peer has not taken
 
   private:
     void take(const std::string &message) {
@@ -276,6 +288,8 @@ class Ear final : public Transport {
 
     Book &book_;
 };
+
+struct Talk;
 
 // The session of firm F, and its host, at nine.
 struct Scene {
@@ -304,6 +318,7 @@ struct Scene {
     Book book;
     Gate gate;
     Sessions sessions;
+    std::vector<Talk *> talks; // that have not ended
 };
 
 inline void Scene::give(std::uint32_t number, const std::string &type, const std::string &body) {
@@ -335,7 +350,9 @@ inline std::string logon_of(int number = 1, const std::string &more = "",
 // One connection of the scene.
 struct Talk {
     explicit Talk(Scene &scene)
-        : scene(scene), ear(scene.book), conversation(scene.sessions, scene.gate, ear) {}
+        : scene(scene), ear(scene.book), conversation(scene.sessions, scene.gate, ear) {
+        scene.talks.push_back(this);
+    }
     ~Talk() { end(); }
     Talk(const Talk &) = delete;
     Talk &operator=(const Talk &) = delete;
@@ -354,14 +371,19 @@ struct Talk {
         conversation.tick();
         serve();
     }
-    // Time goes on, and the thread looks each second.
+    void look() {
+        if (conversation.waits()) {
+            conversation.look_again();
+        }
+        tick();
+    }
+    // Time goes on, and the thread of each connection looks each second.
     void wait(int seconds) {
         for (int second = 0; second < seconds; ++second) {
             scene.clock.move(std::chrono::seconds(1));
-            if (conversation.waits()) {
-                conversation.look_again();
+            for (Talk *const talk : scene.talks) {
+                talk->look();
             }
-            tick();
         }
     }
     // Logs on, and answers the TestRequest: its next number is 3, and that of the venue too.
@@ -373,6 +395,7 @@ struct Talk {
     }
     void end() {
         if (!std::exchange(ended_, true)) {
+            std::erase(scene.talks, this);
             conversation.end("the peer closed");
         }
     }

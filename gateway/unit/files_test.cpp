@@ -128,6 +128,26 @@ TEST_CASE("records by their numbers") {
     CHECK_THROWS(RecordFile<Record>(folder.path() / "none"));
 }
 
+// What was put last is in memory alone, and what is read may begin in front of that.
+TEST_CASE("texts behind one another") {
+    const Scratch folder("texts");
+    TextFile file(folder.path());
+    CHECK(file.at(0, 0) == "");
+    std::string all;
+    for (int number = 0; number < 300; ++number) {
+        const std::string text(1000, static_cast<char>('a' + number % 26));
+        CHECK(file.append({text, "", std::to_string(number)}) == all.size());
+        all += text + std::to_string(number);
+        CHECK(file.at(0, all.size()) == all);
+        CHECK(file.at(all.size() - 500, 500) == all.substr(all.size() - 500));
+    }
+    CHECK(file.at(1000, 1) == "0");
+    CHECK(file.at(all.size(), 0) == "");
+    CHECK_THROWS_WITH(file.at(all.size(), 1), "the spool was cut off");
+    CHECK_THROWS_WITH(file.at(all.size() - 1, 2), "the spool was cut off");
+    CHECK_THROWS_WITH(file.at(all.size() + 9, 1), "the spool was cut off");
+}
+
 TEST_CASE("bytes at a place") {
     const Scratch folder("bytes");
     const Descriptor file = open_unnamed(folder.path());

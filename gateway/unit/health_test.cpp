@@ -5,6 +5,7 @@
 
 #include "check.h"
 #include "health/disk_reserve.h"
+#include "health/metrics.h"
 #include "health/silence.h"
 #include "health/status.h"
 #include "service/day_copying.h"
@@ -183,6 +184,108 @@ TEST_CASE("days are copied one after the other") {
     copying.ask("b");
     CHECK(second.get_future().wait_for(60s) == std::future_status::ready);
     CHECK(copying.ends_within(60s));
+}
+
+// What a number says, by its name and its labels; empty where there is none.
+std::string said_by(const Metrics &metrics, const std::string &name) {
+    const std::string text = "\n" + metrics.text();
+    const std::size_t at = text.find("\n" + name + " ");
+    if (at == std::string::npos) {
+        return "";
+    }
+    const std::size_t begin = at + name.size() + 2;
+    return text.substr(begin, text.find('\n', begin) - begin);
+}
+
+TEST_CASE("each number says what happened") {
+    Metrics metrics;
+    metrics.committed(2, 3, 250ms);
+    metrics.copied(4);
+    metrics.sealed(500ms);
+    metrics.logged(750ms);
+    metrics.answered(1s);
+    metrics.handed_over(1250ms);
+    metrics.delivered();
+    metrics.connected();
+    metrics.connected();
+    metrics.disconnected();
+    metrics.logged_on();
+    metrics.logged_on();
+    metrics.logged_off();
+    metrics.refused("no Logon");
+    metrics.dropped("garbled");
+    metrics.firm("north", "F");
+    metrics.wrong_password("F");
+    metrics.venue_started();
+    metrics.clock_set();
+    metrics.clock_is(true, 500ms);
+    metrics.speaks();
+    metrics.next_configuration_is_right(false);
+    metrics.backlog("north", 5, 6);
+    metrics.log_disk("north", 7, 8, true);
+    metrics.halted("north", true, 9);
+    metrics.clock_is_doubtful("north", true);
+    metrics.venue_is("north", "1.2");
+    metrics.is_now(true, false);
+    metrics.day_is(std::chrono::sys_seconds(10s), std::chrono::sys_seconds(11s));
+    metrics.days_without_copy(12);
+    metrics.certificate_ends("own.pem", std::chrono::sys_seconds(13s));
+    const std::vector<std::pair<std::string, std::string>> all = {
+        {"commits_total", "1"},
+        {"entries_total", "2"},
+        {"sent_total", "7"},
+        {"commit_seconds_sum", "0.25"},
+        {"commit_seconds_count", "1"},
+        {"seal_seconds_sum", "0.5"},
+        {"logged_seconds_sum", "0.75"},
+        {"answered_seconds_sum", "1"},
+        {"handed_over_seconds_sum", "1.25"},
+        {"delivered_total", "1"},
+        {"connections_total", "2"},
+        {"connections", "1"},
+        {"logons_total", "2"},
+        {"sessions", "1"},
+        {"refused_total{reason=\"no Logon\"}", "1"},
+        {"dropped_total{reason=\"garbled\"}", "1"},
+        {"wrong_passwords_total{firm=\"F\"}", "1"},
+        {"venue_starts_total", "1"},
+        {"clock_steps_total", "1"},
+        {"clock_synchronised", "1"},
+        {"clock_greatest_error_seconds", "0.5"},
+        {"speaks", "1"},
+        {"next_configuration_faulty", "1"},
+        {"venue_backlog_entries{venue=\"north\"}", "5"},
+        {"log_backlog_messages{venue=\"north\"}", "6"},
+        {"log_disk_free_bytes{venue=\"north\"}", "7"},
+        {"log_disk_reserve_bytes{venue=\"north\"}", "8"},
+        {"log_disk_reserve_reached{venue=\"north\"}", "1"},
+        {"halted{venue=\"north\"}", "1"},
+        {"halted_bonds{venue=\"north\"}", "9"},
+        {"clock_doubtful{venue=\"north\"}", "1"},
+        {"venue_info{venue=\"north\",version=\"1.2\"}", "1"},
+        {"ready", "1"},
+        {"healthy", "0"},
+        {"day_opens_timestamp_seconds", "10"},
+        {"day_ends_timestamp_seconds", "11"},
+        {"days_without_copy", "12"},
+        {"certificate_expiry_timestamp_seconds{file=\"own.pem\"}", "13"},
+    };
+    for (const auto &[name, value] : all) {
+        CHECK_MESSAGE(said_by(metrics, "mireseason_" + name) == value, name);
+    }
+    metrics.is_now(false, true);
+    metrics.speaks_no_more();
+    metrics.next_configuration_is_right(true);
+    metrics.log_disk("north", 7, 8, false);
+    metrics.halted("north", false, 0);
+    metrics.clock_is_doubtful("north", false);
+    metrics.clock_is(false, 0ms);
+    for (const char *name : {"ready", "speaks", "next_configuration_faulty", "clock_synchronised",
+                             "log_disk_reserve_reached{venue=\"north\"}", "halted{venue=\"north\"}",
+                             "halted_bonds{venue=\"north\"}", "clock_doubtful{venue=\"north\"}"}) {
+        CHECK_MESSAGE(said_by(metrics, std::string("mireseason_") + name) == "0", name);
+    }
+    CHECK(said_by(metrics, "mireseason_healthy") == "1");
 }
 
 } // namespace gateway::tests

@@ -10,6 +10,7 @@
 #include "log_days.h"
 #include "log_schema.h"
 
+#include <atomic>
 #include <cstdlib>
 #include <filesystem>
 #include <iostream>
@@ -227,6 +228,105 @@ TEST_CASE("what is said in a firm's name stays in front of what comes to the log
         frames += entry.firm ? frame_of_line(entry.line) : "";
     }
     same<std::string>("123456", frames, "the frames in their order");
+}
+
+// Of entries, and by whoever commits them; what is no entry tells nobody.
+TEST_CASE("who waits for entries is told that they are on disk") {
+    FailingDatabase database(100);
+    DayClock clock(today());
+    Metrics metrics;
+    std::atomic<int> told{0};
+    Log::Start start;
+    start.stored = [&told] { ++told; };
+    {
+        EntryFeed feed(0);
+        Log log(database, feed, clock, metrics, std::move(start),
+                [](const std::string &cause) { std::cerr << cause << '\n'; });
+        log.put(given("F", 1));
+        log.flush();
+        same(0, told.load(), "what is told of a row");
+        log.append_message("F", came(1), "x");
+        log.flush();
+        log.append_message("F", came(2), "x", Log::Committer::caller);
+        log.commit();
+        log.flush();
+    }
+    same(2, told.load(), "what is told of two entries");
+}
+
+// Keeps what is committed, and counts what else its writer is asked for.
+class KeptBatches final : public Database {
+  public:
+    std::unique_ptr<LogReader> reader() override { return nullptr; }
+    std::optional<std::uint32_t> take_over() override { return 0; }
+    std::unique_ptr<LogWriter> writer() override { return std::make_unique<Writer>(*this); }
+
+    std::vector<Entry> entries;
+    std::atomic<int> seen{0};
+    std::atomic<int> rested{0};
+
+  private:
+    class Writer final : public LogWriter {
+      public:
+        explicit Writer(KeptBatches &kept) : kept_(kept) {}
+        void commit(const Batch &batch) override {
+            kept_.entries.insert(kept_.entries.end(), batch.entries.begin(), batch.entries.end());
+        }
+        void be_seen() override { ++kept_.seen; }
+        void rest() override { ++kept_.rested; }
+
+      private:
+        KeptBatches &kept_;
+    };
+};
+
+// Each second, as another gateway would take over otherwise; and once it uses the lull for what
+// need not be done at a commit.
+TEST_CASE("a log that has nothing to commit says that it is there") {
+    using namespace std::chrono_literals;
+    KeptBatches database;
+    DayClock clock(today());
+    Metrics metrics;
+    EntryFeed feed(0);
+    Log log(database, feed, clock, metrics, Log::Start{}, [](const std::string &) {});
+    const auto begin = std::chrono::steady_clock::now();
+    while (database.seen < 2 && std::chrono::steady_clock::now() - begin < 60s) {
+        std::this_thread::sleep_for(1ms);
+    }
+    const auto took = std::chrono::steady_clock::now() - begin;
+    check(took > 1900ms, "it says so too often");
+    check(took < 10s, "it says so too rarely");
+    same(1, database.rested.load(), "how often it rests");
+    log.wait(log.append_note("act", "x"));
+    while (database.rested < 2 && std::chrono::steady_clock::now() - begin < 60s) {
+        std::this_thread::sleep_for(1ms);
+    }
+    same(2, database.rested.load(), "and behind a commit");
+}
+
+// A line that no message made bears the moment of the line before it where that is later; a message
+// keeps that of its receipt.
+TEST_CASE("no moment of a line falls") {
+    KeptBatches database;
+    DayClock clock(today());
+    Metrics metrics;
+    Log::Start start;
+    start.last.place = 4;
+    start.last.moment = "23:59:59.998";
+    {
+        EntryFeed feed(4);
+        Log log(database, feed, clock, metrics, std::move(start), [](const std::string &) {});
+        log.append_note("act", "x");
+        log.append_message("F", came(1), "x");
+        log.append_message("F", std::nullopt, "y");
+    }
+    REQUIRE(database.entries.size() == 3);
+    for (const Entry &entry : database.entries) {
+        same<std::string>("23:59:59.998", entry.moment, "the moment of " + entry.line);
+    }
+    same<std::string>("23:59:59.998999", database.entries[0].received, "of a note");
+    check(database.entries[1].received < "23:59:59.998", "of a message");
+    same<std::string>("23:59:59.998999", database.entries[2].received, "in a firm's name");
 }
 
 TEST_CASE("a commit that fails") {

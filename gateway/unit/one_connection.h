@@ -13,6 +13,7 @@
 #include <atomic>
 #include <chrono>
 #include <cstdio>
+#include <functional>
 #include <memory>
 #include <mutex>
 #include <string>
@@ -108,7 +109,7 @@ class CountingHost final : public SessionHost {
     void logged_on(const std::string &) override {}
     void logged_off(const std::string &) override {}
     std::uint64_t put(const std::string &, const SessionEvent &) override { return 1; }
-    void wait_stored(std::uint64_t) override {}
+    void wait_stored(std::uint64_t) override { commits(); }
     Taken take(const std::string &, const SessionInput &, const SessionEvent &) override {
         return {};
     }
@@ -128,6 +129,8 @@ class CountingHost final : public SessionHost {
     }
 
     std::atomic<std::size_t> messages{0};
+    // What a commit takes that is waited for: set before anything is said.
+    std::function<void()> commits = [] {};
     // By which the firm is above its rate, after each read.
     std::atomic<std::chrono::milliseconds> pause{std::chrono::milliseconds(0)};
 

@@ -134,11 +134,13 @@ TEST_CASE("pages show text as text") {
 }
 
 constexpr const char *venue_text = R"(
-version = 2
+version = 3
 date = "20250314"
 [[bond]]
 id = "BONDA0000001"
 grid = 128
+low = "95.5"
+high = "105"
 name = "Treasury 4 % 2034"
 [[dealer]]
 name = "DLR1"
@@ -167,7 +169,8 @@ quantity = 888000000
 TEST_CASE("hand outs tell a firm its own") {
     const toml::table dealer = toml::parse(configuration_for_firm(venue_text, "DLR1"));
     check(dealer["bond"][0]["id"] == "BONDA0000001" && dealer["bond"][0]["grid"] == 128 &&
-              dealer["bond"][0]["name"] == "Treasury 4 % 2034" && dealer["version"] == 2,
+              dealer["bond"][0]["name"] == "Treasury 4 % 2034" && dealer["version"] == 3 &&
+              dealer["bond"][0]["low"] == "95.5" && dealer["bond"][0]["high"] == "105",
           "the bonds");
     check(dealer["dealer"][0]["exposure"] == 250000000 && dealer["dealer"][0]["traders"][1] == "T7",
           "its own row");

@@ -156,6 +156,8 @@ TEST_CASE("after the last number") {
     talk.say(message_of("4", 3, "123=Y|36=999999990|"));
     talk.say(message_of("S", 999999990, "") + message_of("S", 999999991, ""));
     check(talk.ear.ends, "the session goes on");
+    check_calls({"expects 999999990", "received 999999990", "expects 999999991", "ended 1"},
+                scene.book.calls, "the last number");
     talk.end();
     Talk again(scene);
     again.say(logon_of(999999991));
@@ -165,6 +167,17 @@ TEST_CASE("after the last number") {
         scene.give(number);
     }
     check(scene.book.calls.size() <= 8, "more is kept than was given");
+}
+
+// The same of the venue's numbers: the last one is used, and none behind it.
+TEST_CASE("given under the last number") {
+    SessionNumbers numbers;
+    numbers.expected = numbers.next = 999999990;
+    numbers.is_one_free = false;
+    Scene scene(&numbers);
+    scene.give(1);
+    scene.give(2);
+    check_calls({"kept 999999990 AI"}, scene.book.calls, "what is kept");
 }
 
 // ---------------------------------------------------------------- what a session promises
@@ -242,6 +255,7 @@ TEST_CASE("a reset") {
         talk.serve();
         check(talk.ear.ends, "the connection stays");
         check_calls({}, talk.ear.heard(), "what it is told");
+        same(0, scene.book.logons, "sessions that stand");
     }
     scene.clock.move(std::chrono::minutes(1));
     scene.book.calls.clear();
@@ -259,6 +273,39 @@ TEST_CASE("a reset") {
     check(std::ranges::count(heard, "2 AI again copy") == 1 &&
               std::ranges::count(heard, "3 AI again copy") == 1,
           fmt::format("{} and {}", answered, heard));
+    // 1 was that of the Logout, 4 the answer, and 5 the first TestRequest.
+    same<std::string>("6 1", heard.back(), "what it is asked behind them");
+    talk.say(message_of("0", 3, "112=6|", "20250314-09:01:00"));
+    talk.end();
+    // It has answered behind the copies, so that nothing is owed, and it is told why.
+    Talk wrong(scene);
+    wrong.say(message_of("A", 4, "98=1|108=30|553=F|554=x|1137=9|", "20250314-09:01:00"));
+    check_calls({"7 5"}, wrong.ear.heard(), "what a Logon is told that is refused");
+    wrong.end();
+    Talk right(scene);
+    right.say(logon_of(4, "", "20250314-09:01:00"));
+    check_calls({"8 A", "9 1"}, right.ear.heard(), "its numbers go on");
+}
+
+// Nothing is kept: so a Logon is told why it is refused, before anything else is answered.
+TEST_CASE("a reset that leaves nothing") {
+    Scene scene;
+    {
+        Talk talk(scene);
+        talk.settle();
+        scene.session().reset(1);
+        talk.end();
+    }
+    scene.clock.move(std::chrono::minutes(1));
+    {
+        Talk talk(scene);
+        talk.say(logon_of(1, "", "20250314-09:01:00"));
+        check_calls({"1 A", "2 1"}, talk.ear.heard(), "the Logon after a reset");
+        talk.end();
+    }
+    Talk wrong(scene);
+    wrong.say(message_of("A", 2, "98=1|108=30|553=F|554=x|1137=9|", "20250314-09:01:00"));
+    check_calls({"3 5"}, wrong.ear.heard(), "what a Logon is told that is refused");
 }
 
 TEST_CASE("suspended") {
@@ -268,6 +315,7 @@ TEST_CASE("suspended") {
     scene.session().suspend();
     talk.serve();
     check_calls({"3 5"}, talk.ear.heard(), "what it is told");
+    same(0, scene.book.logons, "sessions that stand");
     talk.end();
     Talk again(scene);
     again.say(logon_of(3));
@@ -277,6 +325,7 @@ TEST_CASE("suspended") {
     Talk resumed(scene);
     resumed.say(logon_of(3));
     check(std::ranges::count(scene.book.calls, "accepted 2") == 1, "it is not resumed");
+    same(1, scene.book.logons, "sessions that stand again");
 }
 
 // ---------------------------------------------------------------- connections of one firm

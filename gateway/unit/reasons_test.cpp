@@ -79,8 +79,9 @@ TEST_CASE("which tables are none") {
           "Name " + longest + "x", std::string("Closed a|b"), std::string("Closed a\tb"),
           std::string("Closed a\x01"
                       "b"),
-          std::string("Closed \xc3\xa9"), std::string("Na-me words"), std::string("A one\nA two"),
-          std::string("A one\nB one"), std::string(41, 'N') + " words"}) {
+          std::string("Closed \xc3\xa9"), std::string("Na-me words"), std::string("Na{me words"),
+          std::string("Na[me words"), std::string("A one\nA two"), std::string("A one\nB one"),
+          std::string(41, 'N') + " words"}) {
         try {
             read_reasons(text);
         } catch (const std::runtime_error &) {
@@ -100,6 +101,11 @@ TEST_CASE("entry 0 has the table") {
               std::string::npos,
           line);
     check(day_of(line).reasons == two_reasons(), "entry 0 is read otherwise");
+    check(line.find("\ngateway ") == std::string::npos, "a gateway without a name has one");
+    day.gateway = "0.9 (of north)";
+    check(line_of(day).find("\ngateway 0.9 (of north)\n") != std::string::npos, line_of(day));
+    check(day_of(line_of(day)).gateway == "0.9 (of north)", "the gateway is read otherwise");
+    day.gateway.clear();
     day.reasons.clear();
     check(day_of(line_of(day)).reasons.empty(), "a day without notes has reasons");
     for (const char *wrong : {"reason Closed", "reason ", "reason Closed a|b"}) {

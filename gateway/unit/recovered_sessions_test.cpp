@@ -226,6 +226,25 @@ TEST_CASE("what does not fit is refused, with the firm and the note") {
     }
 }
 
+TEST_CASE("many messages between two notes") {
+    Scene scene;
+    scene.put(logon(scene));
+    scene.feed(2);
+    for (int count = 0; count < 1500; ++count) {
+        scene.give();
+    }
+    scene.put(scene.note('0', 702, 700));
+    const FirmState state = scene.finished();
+    check(state.noted == 700 && state.given == 1500, "how many were given");
+    same<std::uint32_t>(1503, state.numbers.next, "the next number");
+    same<std::size_t>(1500, scene.spool.kept("DLR1", 1, 2000).size(), "all are kept");
+    for (const auto &[number, wire] : {std::pair(2, 1), {701, 700}, {703, 701}, {1502, 1500}}) {
+        const auto kept = scene.spool.kept("DLR1", static_cast<std::uint32_t>(number), 1);
+        check(static_cast<int>(kept.at(0).number) == number, "under its number");
+        same(fmt::format("wire {}", wire), kept.at(0).frame, "the message");
+    }
+}
+
 TEST_CASE("who is suspended, and how much came") {
     Scene scene;
     scene.feed(0, "# act 09:00:00.000 root(0) suspend DLR1");

@@ -517,6 +517,14 @@ void in_time(const fs::path &folder) {
             std::this_thread::sleep_for(5ms);
         }
     }
+    // And each five seconds where nothing comes: so it shows that the log is written.
+    const std::uint32_t last = file.read()->number;
+    const auto begun = std::chrono::steady_clock::now();
+    while (file.read()->number == last) {
+        check(std::chrono::steady_clock::now() - begun < 60s, "an idle log is not signed");
+        std::this_thread::sleep_for(5ms);
+    }
+    check(std::chrono::steady_clock::now() - begun > 4s, "an idle log is signed too often");
 }
 
 // What a seal adds to a batch.

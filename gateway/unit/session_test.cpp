@@ -5,9 +5,11 @@
 
 #include "check.h"
 #include "door_scene.h"
+#include "session/machine.h"
 #include "session/refusal_words.h"
 
 #include <algorithm>
+#include <functional>
 #include <tuple>
 
 namespace gateway::tests {
@@ -52,7 +54,34 @@ std::vector<Rejected> rejected_frames() {
          "|371=122|372=S|373=6|"},
         {"a 122 of another day", message_of("S", 3, "43=Y|122=20250313-09:00:00|"),
          "|371=122|372=S|373=5|"},
+        {"no 35", raw("49=F|56=VENUE|34=3|52=" + nine + "|"), "|371=35|373=1|"},
+        {"another first field", raw("49=F|35=S|56=VENUE|34=3|52=" + nine + "|"),
+         "|371=49|372=S|373=14|"},
+        {"no first field", raw("abc|35=S|49=F|56=VENUE|34=3|52=" + nine + "|"), "|372=S|373=17|"},
+        {"a type with a sign", message_of("S-", 3, ""), "|371=35|373=11|"},
+        {"a second length", message_of("S", 3, "9=5|"), "|371=9|372=S|373=13|"},
+        {"a second sum", message_of("S", 3, "10=000|"), "|371=10|372=S|373=13|"},
+        {"a tag that begins with 0", message_of("S", 3, "058=a|"), "|372=S|373=0|"},
+        {"a tag of ten digits", message_of("S", 3, "1234567890=a|"), "|372=S|373=0|"},
+        {"a tag that is no number", message_of("S", 3, "5a=a|"), "|372=S|373=0|"},
+        {"no SOH at the end", raw("35=S|49=F|56=VENUE|34=3|52=" + nine + "|58=a"),
+         "|371=58|372=S|373=6|"},
     };
+}
+
+// Each field that the session reads and that stands there twice, by docs/FORMATS.md.
+std::vector<Rejected> repeated_fields() {
+    std::vector<Rejected> all;
+    for (const auto &[tag, value] : std::vector<std::pair<int, std::string>>{
+             {49, "F"},   {56, "VENUE"}, {52, nine}, {43, "N"}, {97, "N"},  {122, nine}, {50, "a"},
+             {57, "a"},   {553, "a"},    {554, "a"}, {98, "0"}, {108, "1"}, {141, "N"},  {789, "1"},
+             {1137, "9"}, {7, "1"},      {16, "1"},  {36, "1"}, {112, "a"}, {123, "N"}}) {
+        const std::string field = fmt::format("{}={}|", tag, value);
+        const bool is_there = tag == 49 || tag == 56 || tag == 52;
+        all.push_back({field + " twice", message_of("S", 3, is_there ? field : field + field),
+                       fmt::format("|371={}|372=S|373=13|", tag)});
+    }
+    return all;
 }
 
 std::vector<Rejected> rejected_values() {
@@ -128,7 +157,7 @@ TEST_CASE("odd message") {
 
 // It uses up its number, and is kept.
 TEST_CASE("rejected message") {
-    for (const auto &table : {rejected_frames(), rejected_values()}) {
+    for (const auto &table : {rejected_frames(), repeated_fields(), rejected_values()}) {
         for (const Rejected &each : table) {
             check_odd({each.what, each.bytes, {"3 3"}, {"expects 4", "kept 3 3"}});
             Scene scene;
@@ -430,6 +459,20 @@ TEST_CASE("heartbeats and silence") {
     check(talk.ear.ends, "the connection stays");
 }
 
+// The bytes were read at nine, and the log took seven seconds for the first of the messages.
+TEST_CASE("what the log takes its time for is no silence") {
+    Scene scene;
+    Talk talk(scene);
+    talk.say(message_of("A", 1, "98=0|108=2|553=F|554=x|1137=9|"));
+    talk.say(message_of("0", 2, "112=2|"));
+    talk.ear.heard();
+    const std::string bytes = message_of("S", 3, "117=a|") + message_of("S", 5, "117=b|");
+    scene.clock.move(std::chrono::seconds(7));
+    talk.conversation.hear(bytes.data(), bytes.size(), at_nine);
+    check_calls({"3 2"}, talk.ear.heard(), "what a gap is answered");
+    check(!talk.ear.ends, "the firm is taken for silent");
+}
+
 // ---------------------------------------------------------------- what a firm has the session say
 
 // Each message of the session's own that a firm can have it say without another Logon.
@@ -527,6 +570,140 @@ TEST_CASE("more refused Logons than a firm may have") {
     check_calls({"4 A", "5 1"}, right.ear.heard(), "what a Logon is told that is right");
 }
 
+// At most two minutes from the gateway's clock, either way.
+TEST_CASE("how far a firm's clock may be off") {
+    for (const auto &[sent, is_taken] :
+         std::vector<std::pair<std::string, bool>>{{"20250314-08:57:59.999", false},
+                                                   {"20250314-08:58:00", true},
+                                                   {"20250314-09:02:00", true},
+                                                   {"20250314-09:02:00.001", false}}) {
+        Scene scene;
+        Talk talk(scene);
+        talk.settle();
+        talk.say(message_of("S", 3, "117=a|", sent));
+        check(is_taken == (std::ranges::count(scene.book.calls, "received 3") == 1), sent);
+    }
+}
+
+// The firm has two seconds for its own.
+TEST_CASE("a Logout that is not answered") {
+    Scene scene;
+    Talk talk(scene);
+    talk.settle();
+    scene.sessions.log_out("the day has ended");
+    talk.serve();
+    talk.wait(1);
+    check(!talk.ear.ends, "the connection ends before the firm has answered");
+    talk.wait(1);
+    check(talk.ear.ends, "the connection stays");
+}
+
+// ---------------------------------------------------------------- what a session keeps of a line
+
+constexpr std::uint32_t nine_of_day = 9 * 60 * 60 * 1000;
+
+// As fix_sessions.h has its members.
+TEST_CASE("the line of a Logon") {
+    Machine machine({"F", "", today}, std::nullopt);
+    machine.ordered(nine_of_day, Order::open);
+    machine.adopt();
+    machine.came(nine_of_day, 7, logon_of(), true);
+    const Line &line = machine.next().line;
+    CHECK(machine.next().phase == Machine::phase_on);
+    CHECK(line.connection == 7);
+    CHECK(line.heartbeat == 30000);
+    CHECK(line.received == nine_of_day);
+    CHECK(line.sent == nine_of_day);
+    CHECK(line.settling_since == nine_of_day);
+    CHECK(line.gap == 0);
+    CHECK(line.first_test == 0);
+    CHECK(line.last_test == 0);
+    CHECK(line.is_test_due);
+    CHECK_FALSE(line.is_settled);
+}
+
+// For the operator: of the connection that has the session, and of no other.
+TEST_CASE("what a firm has not taken yet") {
+    Scene scene;
+    same<std::size_t>(0, scene.session().waiting_bytes(), "without a connection");
+    Talk talk(scene);
+    talk.ear.waits = 7;
+    same<std::size_t>(0, scene.session().waiting_bytes(), "before a Logon");
+    talk.settle();
+    same<std::size_t>(7, scene.session().waiting_bytes(), "of the connection");
+    talk.end();
+    same<std::size_t>(0, scene.session().waiting_bytes(), "behind its end");
+}
+
+TEST_CASE("a connection that waited is forgotten") {
+    SessionState session{};
+    fix_sessions_new(&session);
+    session.waits = true;
+    session.waiting = {7, nine_of_day, true};
+    fix_sessions_gone(&session, 6);
+    CHECK(session.waits);
+    CHECK(session.waiting.connection == 7);
+    fix_sessions_gone(&session, 7);
+    CHECK_FALSE(session.waits);
+    CHECK(session.waiting.connection == 0);
+    CHECK(session.waiting.since == 0);
+    CHECK_FALSE(session.waiting.is_alive);
+}
+
+// ---------------------------------------------------------------- what the operator is told
+
+// Of messages that do not reach the venue.
+TEST_CASE("what the operator is told of a firm's messages") {
+    Scene scene;
+    Talk talk(scene);
+    talk.settle();
+    talk.say(message_of("0", 3, ""));
+    check_calls({}, scene.gate.drops, "of a Heartbeat");
+    talk.say(message_of("3", 4, "45=1|"));
+    talk.say(message_of("1", 5, ""));
+    scene.book.denial = {Taken::Verdict::denied, 4, "a", "the venue is halted"};
+    talk.say(message_of("S", 6, "117=a|"));
+    scene.book.denial = {};
+    talk.say("xyz" + message_of("0", 7, ""));
+    talk.say(message_of("0", 9, ""));
+    talk.say(message_of("0", 10, ""));
+    talk.say(message_of("4", 8, "123=Y|36=11|"));
+    talk.say(message_of("0", 11, ""));
+    check_calls({"rejected by the firm", "session reject", "not taken", "no message", "gap", "gap"},
+                scene.gate.drops, "what is told");
+}
+
+// In the words that the firm was told, where it was told some.
+TEST_CASE("why a connection has ended") {
+    const auto ends_by = [](const std::function<void(Scene &, Talk &)> &happens) {
+        Scene scene;
+        Talk talk(scene);
+        talk.settle();
+        happens(scene, talk);
+        talk.serve();
+        const Calls heard = talk.ear.heard();
+        const std::string told = heard.empty() ? std::string() : value_of(talk.ear.last.back(), 58);
+        talk.end();
+        same<std::size_t>(1, scene.book.ends.size(), "ends of its connection");
+        return std::pair(scene.book.ends.at(0), told);
+    };
+    const auto is_as_told = [&](const std::string &begin,
+                                const std::function<void(Scene &, Talk &)> &happens) {
+        const auto [why, told] = ends_by(happens);
+        check(told.starts_with(begin), "it is told " + told);
+        check(why.ends_with(told), fmt::format("it is told {}, and the log {}", told, why));
+    };
+    is_as_told("MsgSeqNum too low", [](Scene &, Talk &talk) { talk.say(message_of("S", 2, "")); });
+    is_as_told("the day has ended",
+               [](Scene &scene, Talk &) { scene.sessions.log_out("the day has ended"); });
+    const auto own = ends_by([](Scene &, Talk &talk) { talk.say(message_of("5", 3, "")); });
+    check(own.first.ends_with("the firm has logged out"), own.first);
+    const auto reset = ends_by([](Scene &scene, Talk &) { scene.session().reset(1); });
+    check(reset.first.ends_with("an operator has reset the session"), reset.first);
+    const auto suspended = ends_by([](Scene &scene, Talk &) { scene.session().suspend(); });
+    check(suspended.first.ends_with("an operator has suspended the firm"), suspended.first);
+}
+
 // ---------------------------------------------------------------- what the gateway does not take
 
 TEST_CASE("a message that is not taken") {
@@ -548,6 +725,11 @@ TEST_CASE("a message that is not taken") {
                 "the next one");
     talk.say(message_of("2", 5, "7=3|16=3|"));
     check_calls({"3 j again"}, talk.ear.heard(), "what is sent again");
+    scene.book.denial = {Taken::Verdict::denied, 0, "", "not so"};
+    talk.say(message_of("R", 6, ""));
+    check_calls({"4 j"}, talk.ear.heard(), "what it is told of one without a name");
+    const std::string nameless = talk.ear.last[0];
+    check(nameless.find("|45=6|372=R|380=0|58=not so|10=") != std::string::npos, nameless);
 }
 
 } // namespace

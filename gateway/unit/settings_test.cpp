@@ -299,6 +299,22 @@ TEST_CASE("a day that began goes on by the hours that it began with") {
     CHECK_FALSE(hours.at(hours.midnight + 8h, next));
 }
 
+// Of several venues the file of the first has them, for all; each says for itself that it goes on.
+TEST_CASE("a day of several venues goes on by the hours of the first") {
+    Hours hours;
+    hours.configs[0].venue = "north";
+    hours.configs.push_back(hours.configs[0]);
+    hours.configs[1].venue = "south";
+    const TradingDay next{"20261201", hours.midnight + 31h, hours.midnight + 40h,
+                          hours.midnight + 41h};
+    keep_hours(hours.configs[0], hours.kept);
+    CHECK_FALSE(hours.at(hours.midnight + 8h, next));
+    hours.write("south-20261130.checkpoint", "end yes\nend no\nsignature x\n");
+    const auto day = hours.at(hours.midnight + 8h, next);
+    REQUIRE(day);
+    CHECK(day->ends == hours.kept.ends);
+}
+
 TEST_CASE("who listens at a port") {
     const Descriptor socket(::socket(AF_INET, SOCK_STREAM | SOCK_CLOEXEC, 0));
     sockaddr_in place{};

@@ -3,6 +3,7 @@
 #include <doctest/doctest.h>
 
 #include "check.h"
+#include "log/session_note_line.h"
 #include "log/spool.h"
 
 #include <cstdint>
@@ -129,6 +130,35 @@ TEST_CASE("a venue that gives again gives the same") {
     is_another({1, 6, 1001, "AI", "quote 1", {}});
     CHECK_THROWS_WITH(scene.give(3, "quote 3"), "the venue gave DLR1 message 3 where 2 was due");
     CHECK_THROWS_WITH(scene.spool.given("DLR1", 2), "the venue did not give DLR1 its message 2");
+}
+
+// As a start takes them: many are read at once, some of them in memory alone.
+TEST_CASE("many that the venue gave") {
+    Scene scene;
+    std::vector<Digest> hashes{Digest{}};
+    for (std::uint32_t number = 1; number <= 700; ++number) {
+        hashes.push_back(hash_of_message(hashes.back(), fmt::format("quote {}", number)));
+        scene.give(number, fmt::format("quote {}", number));
+    }
+    check(scene.spool.hash_of_given("DLR1", 0) == Digest{}, "before the first");
+    check(scene.spool.hash_of_given("DLR1", 700) == hashes[700], "of the last");
+    std::uint32_t next = 2;
+    std::vector<Digest> seen{Digest{}};
+    const auto numbered = [&](const Digest &hash) {
+        seen.push_back(hash);
+        return seen.size() % 100 == 0 ? 0 : next++; // of the messages 99, 199 and so on nothing
+    };
+    scene.spool.keep_all_given("DLR1", 1, 600, numbered);
+    scene.spool.keep_all_given("DLR1", 601, 600, numbered);
+    scene.keep(next++, 0);
+    scene.spool.keep_all_given("DLR1", 601, 700, numbered);
+    check(seen == hashes, "the hash of each, in order");
+    same<std::size_t>(694, scene.spool.kept("DLR1", 1, 1000).size(), "all that is kept");
+    same<std::string>("98:quote 97 99:quote 98 100:quote 100", scene.kept(98, 3), "but for one");
+    same<std::string>("595:quote 600 596:own 596 597:quote 601", scene.kept(595, 3), "in order");
+    same<std::uint32_t>(1700, scene.spool.kept("DLR1", 695, 1).at(0).first, "the last's moment");
+    CHECK_THROWS_WITH(scene.spool.keep_all_given("DLR1", 700, 701, numbered),
+                      "DLR1's session keeps message 701, which the venue did not give");
 }
 
 TEST_CASE("what the venue did not give is not kept") {

@@ -4,6 +4,7 @@
 #include <doctest/doctest.h>
 
 #include "check.h"
+#include "venue/landlock_rules.h"
 #include "venue/venue.h"
 
 #include <chrono>
@@ -89,6 +90,34 @@ TEST_CASE("a note of no form") {
     const Scratch folder("venue");
     tried(folder.path() / "day.db", "echo DLR1 8=x; echo why DLR1 Closed; exec sleep 200",
           "a note of no form");
+}
+
+// As linux/landlock.h has them, by its versions: what of files, of the network and of other
+// processes can be forbidden, and how many bytes say so.
+TEST_CASE("what a kernel can forbid") {
+    struct Case {
+        long version;
+        std::uint64_t files;
+        std::uint64_t network;
+        std::uint64_t scopes;
+        std::size_t size;
+    };
+    for (const Case &each : {
+             Case{1, 0x1fff, 0, 0, 8},
+             Case{2, 0x3fff, 0, 0, 8},
+             Case{3, 0x7fff, 0, 0, 8},
+             Case{4, 0x7fff, 3, 0, 16},
+             Case{5, 0xffff, 3, 0, 16},
+             Case{6, 0xffff, 3, 3, 24},
+             Case{7, 0xffff, 3, 3, 24},
+         }) {
+        const auto [rules, size] = landlock::all_of(each.version);
+        const std::string what = fmt::format("version {}: ", each.version);
+        same(each.files, rules.files, what + "files");
+        same(each.network, rules.network, what + "the network");
+        same(each.scopes, rules.scopes, what + "scopes");
+        same(each.size, size, what + "bytes");
+    }
 }
 
 TEST_CASE("one that ends again and again") {

@@ -4,6 +4,7 @@ process.
 
 import json
 import os
+import platform
 import re
 import socket
 import subprocess
@@ -195,6 +196,41 @@ def test_what_a_venue_can_not_do(gateway_program: Path, place: Path, what: str) 
     (place / "day.db").write_text("log")
     said = outcome(gateway_program, place, TRIES[what])
     assert re.match(r"(PermissionError|OSError: \[Errno 1\])", said), said
+
+
+# The calls of the system by which a process has sockets, reaches others, leaves its group, changes what a file is marked with, or
+# the machine: by the names that Linux gives them.
+CALLS = """
+    socket socketpair bind listen accept accept4 connect io_uring_setup io_uring_enter io_uring_register
+    ptrace process_vm_readv process_vm_writev pidfd_open pidfd_getfd pidfd_send_signal tkill rt_sigqueueinfo rt_tgsigqueueinfo kcmp
+    setpgid setsid setpriority ioprio_set sched_setparam sched_setscheduler sched_setattr sched_setaffinity migrate_pages move_pages
+    keyctl add_key request_key bpf perf_event_open userfaultfd mount umount2 pivot_root chroot unshare setns
+    name_to_handle_at open_by_handle_at init_module finit_module delete_module kexec_load reboot swapon swapoff
+    settimeofday clock_settime adjtimex clock_adjtime sethostname acct msgget semget shmget mq_open
+    truncate fchmod fchmodat fchown fchownat utimensat setxattr lsetxattr fsetxattr removexattr lremovexattr fremovexattr
+    chmod chown lchown utime utimes futimesat
+"""
+# Prints those of some calls that are not refused as what is not permitted. No argument of any has a meaning.
+CALLED = """
+import ctypes
+libc = ctypes.CDLL(None, use_errno=True)
+for name, number in %r:
+    ctypes.set_errno(0)
+    if libc.syscall(number, *[ctypes.c_long(-1)] * 6) != -1 or ctypes.get_errno() != 1:
+        print(name)
+"""
+
+
+def numbers_of_calls() -> dict[str, int]:
+    header = Path("/usr/include/x86_64-linux-gnu/asm/unistd_64.h").read_text()
+    return {name: int(number) for name, number in re.findall(r"#define __NR_(\w+) (\d+)", header)}
+
+
+@pytest.mark.skipif(platform.machine() != "x86_64", reason="the numbers are those of x86-64")
+def test_calls_that_a_venue_can_not_make(gateway_program: Path, place: Path) -> None:
+    numbers = numbers_of_calls()
+    tried = [(name, numbers[name]) for name in CALLS.split()]
+    assert outcome(gateway_program, place, CALLED % tried) == "done"
 
 
 @pytest.mark.parametrize("what", NEEDS)

@@ -368,7 +368,8 @@ def test_a_silent_venue_is_told(stage: Stage) -> None:
 
 
 def test_a_slow_log_is_told(stage: Stage) -> None:
-    """Once, however long the commit takes, and once more when it is done."""
+    """Once, however long the commit takes, and once more when it is done. A firm whose Logon waits for it has a HeartBtInt of one second,
+    and could say nothing before the answer: it is not taken for silent."""
     slow, number = stage.folder / "slow", 1
     stage.door.environment = {"LD_PRELOAD": str(stage.tools.shim), "DISK_SLOW_IN": str(slow)}
     stage.open()
@@ -380,11 +381,12 @@ def test_a_slow_log_is_told(stage: Stage) -> None:
         began = time.monotonic()
         with Wire(stage.door.port) as wire:
             wire.number = number
-            wire.logon(NAME, PASSWORD)
+            wire.logon(NAME, PASSWORD, heartbeat=b"1")
             is_told = within(STALLED.limit, lambda: told_since(stage, begin, STALLS))
             took = time.monotonic() - began if is_told else math.inf
             slow.unlink()  # no sync but the one that is waited for takes so long
             check(wire.read_kind(b"A") is not None, "the Logon is not answered")
+            wire.ask()
             number = wire.number
         until("it answers again", LONG, lambda: told_since(stage, begin, b"log answers again"))
         count = stage.door.told.read_bytes()[begin:].count(STALLS)
@@ -392,3 +394,24 @@ def test_a_slow_log_is_told(stage: Stage) -> None:
         return took
 
     STALLED.hold(measure)
+
+
+def test_a_slow_log_ends_no_connection(stage: Stage) -> None:
+    """A second connection of the firm waits until the first one can be asked whether it is alive, and is closed when that answers."""
+    slow = stage.folder / "slow"
+    stage.door.environment = {"LD_PRELOAD": str(stage.tools.shim), "DISK_SLOW_IN": str(slow)}
+    stage.open()
+    with Wire(stage.door.port) as old, Wire(stage.door.port) as new:
+        old.logon(NAME, PASSWORD)
+        old.ask()
+        begin = len(stage.door.told.read_bytes())
+        slow.write_text(str(STALL))
+        old.raw(old.message(b"1", NAME, [(112, b"waits")]))
+        new.number = old.number
+        new.logon(NAME, PASSWORD)
+        until("a commit takes long", LONG, lambda: told_since(stage, begin, STALLS))
+        slow.unlink()
+        old.got_until(lambda message: message.value(112) == b"waits")
+        old.ask()
+        check(new.closed_within(LONG) and not new.waiting, "the second one is let in")
+        old.ask()

@@ -107,9 +107,10 @@ def stage(noting: Tools, place: Path, request: pytest.FixtureRequest) -> Iterato
 
 
 def limited(stage: Stage, dealer: str, investor: str) -> None:
-    """Gives all dealers and the investor other limits, and the venue another bond and seven dealers more."""
-    text = 'version = 1\ndate = "%s"\n' % today()
-    text += "".join('[[bond]]\nid = "%s"\n' % bond.decode() for bond in (BOND, OTHER_BOND))
+    """Gives all dealers and the investor other limits, the bonds a band, and the venue another bond and seven dealers more."""
+    text = 'version = 3\ndate = "%s"\n' % today()
+    row = '[[bond]]\nid = "%s"\ngrid = 256\nlow = "99"\nhigh = "100"\n'
+    text += "".join(row % bond.decode() for bond in (BOND, OTHER_BOND))
     for name, trader in [
         ("DLR1", "T1"),
         ("DLR2", "T2"),
@@ -203,6 +204,7 @@ def test_each_reason_of_a_quote(stage: Stage) -> None:
         ("Closed", b"4", closed, []),
         ("OtherBond", b"1", asked, [(48, OTHER_BOND)]),
         ("InvalidPrice", b"8", asked, [(133, b"99.501")]),
+        ("OutsideBand", b"8", asked, [(133, b"100.00390625")]),
         ("OtherQuantity", b"99", asked, [(135, b"1000000")]),
         ("NotTradeable", b"99", asked, [(537, b"0")]),
         ("DuplicateQuote", b"6", asked, [(117, live)]),
@@ -261,6 +263,16 @@ def test_each_reason_of_a_decline(stage: Stage) -> None:
     stage.whole()
 
 
+def accepted(stage: Stage) -> None:
+    """The investor has been told that its last request is accepted: its dealers may be shown it before."""
+    name = stage.asked
+    stage.answer(
+        stage.investor,
+        "that its request is accepted",
+        lambda message: message.value(131) == name and message.value(297) == b"0",
+    )
+
+
 def test_each_reason_of_a_request(stage: Stage) -> None:
     limited(stage, "quotes = 9\nexposure = 60000000", "requests = 3\nopen = 2\nquantity = 5000000")
     stage.open(*stage.firms)
@@ -281,17 +293,15 @@ def test_each_reason_of_a_request(stage: Stage) -> None:
         ("TooManyDealers", b"99", request_fields(stage, new, many)),
         ("DeadlinePassed", b"4", request_fields(stage, new, both, until=moment_in(-1))),
     ]
-    stage.answer(
-        stage.investor,
-        "that its request is accepted",
-        lambda message: message.value(131) == first and message.value(297) == b"0",
-    )
+    accepted(stage)
     for name, code, fields in cases:
         refuses(stage, stage.investor, "R", fields, name, code)
     stage.ask()
+    accepted(stage)
     refuses(stage, stage.investor, "R", request_fields(stage, new, both), "TooManyOpen", b"3")
     takes(stage, stage.investor, "AJ", [(693, stage.name("p")), (694, b"6"), (131, first)], b"11")
     stage.ask()
+    accepted(stage)
     refuses(stage, stage.investor, "R", request_fields(stage, new, both), "RequestsUsedUp", b"3")
     assert {name for name, *_ in cases} | {"TooManyOpen", "RequestsUsedUp"} == set(
         names_in("Asking")

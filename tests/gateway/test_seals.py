@@ -114,17 +114,20 @@ def now_text() -> str:
     return moment_in(0)[9:].decode()
 
 
-def audited(stage: Stage, *words: str) -> subprocess.CompletedProcess[str]:
-    """The audit's check of the log as it stands."""
-    door = stage.door
+def audit_of(door: Door, *words: str) -> subprocess.CompletedProcess[str]:
+    """The audit's check of a gateway's log as it stands."""
     log = (
         [str(door.database)]
         if door.postgres is None
         else ["postgres:" + door.postgres.connection, "--schema", door.postgres.schema]
     )
-    program = " ".join(stage.tools.programs.venue)
+    program = " ".join(door.programs.venue)
     command = [str(ROOT / "audit" / "mireseason-audit"), "check", *log, "--venue", program, *words]
     return subprocess.run(command, capture_output=True, text=True, check=False)
+
+
+def audited(stage: Stage, *words: str) -> subprocess.CompletedProcess[str]:
+    return audit_of(stage.door, *words)
 
 
 @pytest.mark.parametrize("with_seal", [False, True], ids=["without a seal", "with a seal"])

@@ -138,6 +138,39 @@ def test_a_reset_that_leaves_nothing(stage: Stage) -> None:
         check(sent_again(wire) == [], "it is sent something again")
 
 
+def test_a_message_that_grows(stage: Stage) -> None:
+    """An operator has reset a session: the venue's number of a message has more digits than its 34. What no frame has room for then is
+    not taken, and uses up no number of the venue."""
+    stage.door.operators = ""
+    stage.open(stage.other)
+    with logged_on(stage, DEALER) as wire:
+        for number in range(9):
+            assert wire.raw(cancel(wire, wire.number, b"x%d" % number))
+            wire.number += 1
+        wire.ask()
+    did(stage, "reset-session", "DLR1")
+    with logged_on(stage, DEALER) as wire:
+
+        def long(size: int) -> Fields:
+            return [(50, b"T1"), (298, b"5"), (117, b"none"), (58, b"x" * size)]
+
+        def length(size: int) -> int:
+            return len(wire.message(b"Z", b"DLR1", long(size), number=wire.number))
+
+        most = next(size for size in range(3900, 4096) if length(size) == 4096)
+        for size, kind in ((most, b"j"), (most - 1, b"AI")):
+            assert wire.raw(wire.message(b"Z", b"DLR1", long(size)))
+            answer = wire.got_until(lambda message: message.kind in (b"3", b"j", b"AI"))
+            check(answer.kind == kind, "with %d bytes it is answered %r" % (size, answer.raw))
+            if kind == b"j":
+                said = answer.value(380), answer.value(58)
+                check(
+                    said == (b"0", b"the message is longer than the venue takes"),
+                    "it is answered %r" % answer.raw,
+                )
+    check(numbers_of(stage, "DLR1") == [*range(1, 11)], "the venue has other numbers")
+
+
 def test_numbers_at_their_end(stage: Stage) -> None:
     """A firm that uses up all numbers of its day harms itself alone: others trade, and a start opens the day."""
     stage.open(stage.other)

@@ -85,16 +85,23 @@ def running(bin_folder: Path, folder: Path) -> Iterator[Server]:
     data = folder / "data"
     words = [str(bin_folder / "initdb"), "-D", str(data), "-A", "trust", "-U", USER, "--no-sync"]
     subprocess.run(as_postgres(words), cwd="/", check=True, capture_output=True, timeout=LONG)
+    with serving(bin_folder, folder) as server:
+        yield server
+
+
+@contextmanager
+def serving(bin_folder: Path, folder: Path) -> Iterator[Server]:
+    """A server of the data that is in this folder already; it ends with the block."""
     words = [
         str(bin_folder / "postgres"),
         "-D",
-        str(data),
+        str(folder / "data"),
         "-k",
         str(folder),
         "-c",
         "listen_addresses=",
     ]
-    with (folder / "log").open("wb") as log:
+    with (folder / "log").open("ab") as log:
         process = subprocess.Popen(
             as_postgres(words), cwd="/", stdin=subprocess.DEVNULL, stdout=log, stderr=log
         )

@@ -68,7 +68,8 @@ def test_from_closes_on_no_new_request_is_taken(stage: Stage) -> None:
 
 
 def test_a_deadline_behind_the_end(stage: Stage) -> None:
-    """It is not taken at any time; one that is the day's end is, in both spellings, and one of another day is the venue's to reject."""
+    """It is not taken at any time; one that is the day's end is, in both spellings. What is of another day, or no moment, is the venue's
+    to reject."""
     written(stage, 'ends = "23:59"\n')
     stage.door.start()
     stage.door.wait_open()
@@ -79,12 +80,18 @@ def test_a_deadline_behind_the_end(stage: Stage) -> None:
             not_taken(investor, b"R", fields, OTHER, b"this deadline (ExpireTime, 126) is behind")
         asked(investor, b"A3", date + b"-23:59:00")
         asked(investor, b"A4", date + b"-23:59:00.000")
-        number = investor.number
-        fields = request_fields(b"A5", b"20990101-00:00:00")
-        assert investor.raw(investor.message(b"R", b"INV1", fields))
-        reject = investor.got(b"3")
-        found = [reject.value(tag) for tag in (45, 371)]
-        assert found == [b"%d" % number, b"126"], "it is answered %r" % reject.raw
+        for deadline, reason in (
+            (b"20990101-00:00:00", b"5"),
+            (date + b"-24:00:00", b"6"),
+            (date + b"-23:59:60", b"6"),
+            (date + b"-23:60:00.000", b"6"),
+            (date + b"-23:59:00.000001", b"6"),
+        ):
+            number = investor.number
+            assert investor.raw(investor.message(b"R", b"INV1", request_fields(b"A5", deadline)))
+            reject = investor.got(b"3")
+            found = [reject.value(tag) for tag in (45, 371, 373)]
+            assert found == [b"%d" % number, b"126", reason], "it is answered %r" % reject.raw
 
 
 def test_at_the_end_each_notice_is_there(stage: Stage, clock: Clock) -> None:

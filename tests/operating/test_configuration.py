@@ -78,6 +78,11 @@ FAULTS = {
         "version = 1",
         "line 4: bond BONDA0000001: grid = 256: it has no effect before version 2",
     ),
+    "a band in version 2": (
+        "grid = 256",
+        'grid = 256\nlow = "99"\nhigh = "101"',
+        'line 5: bond BONDA0000001: low = "99": it has no effect before version 3',
+    ),
     "a firm that is there twice": (
         '"DLR2"',
         '"DLR1"',

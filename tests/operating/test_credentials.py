@@ -6,6 +6,7 @@ import fcntl
 import os
 import re
 import resource
+import socket
 import subprocess
 import tomllib
 from concurrent.futures import ThreadPoolExecutor
@@ -86,7 +87,8 @@ def test_a_new_firm_is_added_behind_the_others(office: Office) -> None:
     added = office.credentials()["DLR2"]
     assert added["username"] == "DLR2" and added["password"].startswith("$")
     assert password_of(ran.stdout) not in office.file.read_text()
-    assert "SenderCompID=DLR2\n" in ran.stdout and "SocketConnectPort=1\n" in ran.stdout
+    for line in ("SenderCompID=DLR2", "SocketConnectPort=1", "SocketNodelay=Y"):
+        assert line + "\n" in ran.stdout, ran.stdout
 
 
 @pytest.mark.parametrize(
@@ -123,6 +125,7 @@ def test_what_signs_a_report_is_kept(office: Office) -> None:
     for line in ("mireseason-report 1 DLR1 a", "mireseason-report 1 DLR1 b"):
         ran = office.call("--report", line, "DLR1")
         assert ran.returncode == 0 and ran.stdout == "", ran.stderr
+        assert "DLR1 has its report" in ran.stderr and "mireseason-admin reload" in ran.stderr
         assert office.file.read_text() == KEPT + f'report = "{line}"\n'
     ran = office.call("--report", "mireseason-report 1 DLR2 a", "DLR2")
     assert ran.returncode == 1 and "DLR2 has no credentials" in ran.stderr
@@ -144,6 +147,31 @@ def test_a_firm_that_leaves_has_a_last_day(office: Office) -> None:
 def test_a_last_day_is_one_of_the_calendar(office: Office, day: str) -> None:
     ran = office.call("--last", day, "DLR1")
     assert ran.returncode == 2 and office.file.read_text() == KEPT
+
+
+def test_where_a_firm_connects(office: Office) -> None:
+    """To the address at which the gateway listens; one that is all addresses is the machine's name, and none is its own."""
+    for listen, host in (
+        ('listen = "192.0.2.9"', "192.0.2.9"),
+        ('listen = "0.0.0.0"', socket.getfqdn()),
+        ('listen = "::"', socket.getfqdn()),
+        ("", "127.0.0.1"),
+    ):
+        text = '[venue]\nconfiguration = "venue.toml"\n[fix]\nport = 7\n%s\n' % listen
+        (office.folder / "gateway.toml").write_text(text)
+        ran = office.call("--replace", "DLR1")
+        assert "SocketConnectHost=%s\nSocketConnectPort=7\n" % host in ran.stdout, ran.stderr
+
+
+def test_who_is_told_of_the_next_day(office: Office) -> None:
+    """A firm that is new, where a venue's configuration says who its firms are."""
+    words = "is new in the venue's configuration, it may log on from the next day on"
+    assert "if DLR2 " + words in office.call("DLR2").stderr
+    assert words not in office.call("--replace", "DLR2").stderr
+    (office.folder / "gateway.toml").unlink()
+    ran = office.call("INV1")
+    assert ran.returncode == 0 and words not in ran.stderr
+    assert "INV1 may log on after the next start" in ran.stderr
 
 
 def test_who_removes_is_told_of_a_restart(office: Office) -> None:
@@ -250,13 +278,15 @@ def test_what_is_no_firm_of_the_venue_gets_none(office: Office, name: str) -> No
 
 
 def test_who_is_a_firm_of_one_of_several_venues(office: Office) -> None:
-    """Any of them will do; a file that is not there yet says nothing."""
+    """Any of them will do, and the firm's settings say which; a file that is not there yet says nothing."""
     parts = ('[venue.%s]\nconfiguration = "%s.toml"\n' % (name, name) for name in "abc")
     (office.folder / "gateway.toml").write_text("".join(parts))
     (office.folder / "venue.toml").rename(office.folder / "b.toml")
     (office.folder / "a.toml").write_text(VENUE.replace("INV1", "INV2"))
-    for firm in ("INV1", "INV2"):
-        assert office.call(firm).returncode == 0
+    for firm, venues in (("INV1", "b, c"), ("INV2", "a, c")):
+        ran = office.call(firm)
+        assert ran.returncode == 0
+        assert "# TargetSubID (57) of the Logon names the venue: %s." % venues in ran.stdout
     ran = office.call("INV3")
     assert ran.returncode == 1 and "a.toml and " in ran.stderr and "b.toml has no" in ran.stderr
     for name in "ab":

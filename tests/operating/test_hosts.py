@@ -1,6 +1,8 @@
 """What configure.py writes for each host of an installation, and what it says of a site's file that is wrong."""
 
 import os
+import shutil
+import subprocess
 import sys
 import tomllib
 from dataclasses import replace
@@ -12,6 +14,7 @@ from parts.command import run
 from parts.fault import Fault
 from parts.site import Folders, read_site
 
+from tests.gateway.wait import LONG
 from tests.harness.options import ROOT
 
 # install/hosts/site.toml, but for a host of supervisors and what a host's name could be mistaken for.
@@ -253,6 +256,25 @@ def test_a_site_at_fault(name: str, place: Path) -> None:
     told = str(ended.value.code)
     assert told.startswith("configure.py: ") and words in told, told
     assert not (place / "made").exists()
+
+
+@pytest.mark.parametrize("program", ["configure.py", "certificates.py"])
+def test_a_program_of_its_own(program: str, place: Path) -> None:
+    """As an administrator calls it, from any folder; what is wrong is one line."""
+    script = ROOT / "install" / "hosts" / program
+    (place / "site.toml").write_text(SITE)
+    words = ["site.toml", *(["gw1"] if program == "configure.py" else []), "made"]
+    for site, status in (("site.toml", 0), ("none.toml", 1)):
+        command = [sys.executable, str(script), site, *words[1:]]
+        done = subprocess.run(
+            command, cwd=place, capture_output=True, text=True, timeout=LONG, check=False
+        )
+        assert done.returncode == status, done.stderr
+        assert (place / "made").exists() == (status == 0)
+        if status:
+            assert done.stderr.startswith(program + ": ") and done.stderr.count("\n") == 1
+        else:
+            shutil.rmtree(place / "made")
 
 
 def test_a_host_that_is_none(place: Path) -> None:

@@ -54,14 +54,14 @@ def test_a_hosts_certificate(place: Path) -> None:
     assert "CN = Mireseason site authority" in told(
         "x509", "-in", str(authority), "-noout", "-text"
     )
-    assert lasts(authority, 3649) and not lasts(authority, 3651)
+    assert lasts(authority, 3649) and not lasts(authority, 3650)
     for name, address in HOSTS.items():
         one = folder / (name + ".pem")
         text = told("x509", "-in", str(one), "-noout", "-text")
         assert "Subject: CN = %s\n" % name in text
         others = "DNS:localhost, IP Address:%s, IP Address:127.0.0.1\n" % address
         assert "DNS:%s, %s" % (name, others) in text
-        assert "CA:FALSE" in text and lasts(one, 824) and not lasts(one, 826)
+        assert "CA:FALSE" in text and lasts(one, 824) and not lasts(one, 825)
         assert is_of(authority, one, "sslserver") and is_of(authority, one, "sslclient")
         key = told("pkey", "-in", str(folder / (name + ".key")), "-pubout")
         assert key == told("x509", "-in", str(one), "-noout", "-pubkey")
@@ -133,14 +133,15 @@ def test_a_certificate_in_its_place(place: Path) -> None:
     """As the host's programs name it, for one user, who alone reads the key."""
     make_certificates(HOSTS, place / "made")
     folder = place / "tls"
-    put_certificate(place / "made", "gw1", folder, "daemon")
-    put_certificate(place / "made", "gw1", folder, "daemon")
+    put_certificate(place / "made", "gw1", folder, "man")
+    put_certificate(place / "made", "gw1", folder, "man")
     assert content(folder) == {
         "authority.pem": (place / "made" / "authority.pem").read_bytes(),
         "host.pem": (place / "made" / "gw1.pem").read_bytes(),
         "host.key": (place / "made" / "gw1.key").read_bytes(),
     }
-    owner = pwd.getpwnam("daemon")
+    owner = pwd.getpwnam("man")
+    assert owner.pw_uid != owner.pw_gid, "an owner with two numbers"
     for path in folder.iterdir():
         stat = path.stat()
         assert (stat.st_uid, stat.st_gid) == (owner.pw_uid, owner.pw_gid)

@@ -310,6 +310,9 @@ def test_days_by_their_names(owned: OwnedLogs, day: Database) -> None:
     """Made and removed, each for all; and what the server refuses is a fault in one line."""
     day.make("day_20990101")
     assert day.logs() == owned.logs() == [DAY, "day_20990101"]
+    day.make("day_20190101")  # the oldest is the first to go, whenever its tables were made
+    assert day.logs() == ["day_20190101", DAY, "day_20990101"]
+    day.remove("day_20190101")
     with pytest.raises(Fault, match='^schema "%s" already exists' % DAY) as fault:
         day.make(DAY)
     assert "\n" not in str(fault.value)

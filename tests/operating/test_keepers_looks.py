@@ -5,6 +5,7 @@ and the audit.
 """
 
 import fcntl
+import hashlib
 import os
 import shutil
 import subprocess
@@ -14,15 +15,18 @@ from contextlib import contextmanager
 from dataclasses import dataclass, field
 from datetime import datetime, timedelta, timezone
 from pathlib import Path
+from types import SimpleNamespace
 
 import pytest
 from mireseason_keeper import copies as copying
+from mireseason_keeper import day_file
 from mireseason_keeper import keeper as keepers
 from mireseason_keeper import main
 from mireseason_keeper.copies import DayCopy
 from mireseason_keeper.database import Column, End, Log, Table
 from mireseason_keeper.day_file import digest_of_file, digest_of_log, write_day
 from mireseason_keeper.faults import Fault
+from mireseason_keeper.given_copies import GivenCopy
 from mireseason_keeper.keeper import Counts, Keeper
 from mireseason_keeper.metrics import write_metrics
 from mireseason_keeper.settings import Settings, read_settings
@@ -270,6 +274,39 @@ def test_which_days_go(stood: Stood) -> None:
     assert stood.looks() == ([checked, "remove " + FIRST], [told], Counts())
 
 
+def test_a_day_without_a_seal_is_one_of_those_that_stay(stood: Stood) -> None:
+    """So the day before it goes: of two days one stays, whatever the audit says of it."""
+    stood.around.days |= {FIRST: Day(), SECOND: Day()}
+    stood.around.sealed.add(FIRST)
+    stood.has_copies("20261125", "20261126")
+    stood.file.write_text(CONFIGURATION.replace("[seal]", "keep = 1\n[seal]"))
+    done, _, counts = stood.looks()
+    assert done[-1] == "remove " + FIRST and counts == Counts(without_seal=1, at_fault=1)
+    assert sorted(stood.around.days) == [SECOND, TODAY, NEXT]
+
+
+def test_several_venues(stood: Stood) -> None:
+    """Each by itself: its own tables and copies, and of its own days as many stay."""
+    text = CONFIGURATION.replace("[copies]", 'schema = "{venue}_{date}"\n[copies]\nkeep = 1')
+    stood.file.write_text('[venue]\nnames = ["north", "south"]\n' + text)
+    stood.around.days.clear()
+    for name in ("north_20261125", "north_20261126", "south_20261126", "south_20261127"):
+        stood.around.days[name] = Day()
+    stood.around.sealed |= set(stood.around.days)
+    stood.has_copies("20261125-north", "20261126-north")
+    done, _, counts = stood.looks()
+    assert done == [
+        "make north_20261127",
+        "make north_20261128",
+        "check 20261125-north with --date 20261125 --venue-name north",
+        "remove north_20261125",
+        "make south_20261128",
+        "begin south_20261126 at 20261126-south",
+        "finish south_20261126 of [south] 20261126",
+    ]
+    assert counts == Counts()
+
+
 def test_a_day_that_nobody_began(stood: Stood) -> None:
     """Its tables go, it needs no copy, and it counts for none of those that are to stay."""
     stood.around.days |= {FIRST: Day(), SECOND: Day(())}
@@ -348,6 +385,7 @@ class Copied:
         self.audits("verdict: it is good", 0)
         self.copies.begin(self.log, FIRST, self.folder)
         part = copying.part_of(self.folder)
+        (part / "last.checkpoint").touch()
         (part / "later.checkpoints").touch()
         self.copies.close(part, self.folder)
 
@@ -406,6 +444,8 @@ def test_what_a_copy_is_checked_by(copied: Copied) -> None:
         "--gateway-key",
         str(copied.place / "gateway.pub"),
         "--checkpoint",
+        str(copied.folder / "last.checkpoint"),
+        "--checkpoint",
         str(copied.folder / "later.checkpoints"),
     ]
     assert (copied.place / "words.key").read_bytes() == (copied.place / "seal.pub").read_bytes()
@@ -416,6 +456,86 @@ def test_what_a_copy_is_checked_by(copied: Copied) -> None:
     copied.is_checked()
     words = (copied.place / "words").read_text().split()
     assert words[4:6] == ["--venue", str(copied.folder / "program")]
+
+
+@pytest.mark.parametrize("is_the_days", [True, False])
+def test_what_stands_in_a_copy(
+    copied: Copied, monkeypatch: pytest.MonkeyPatch, is_the_days: bool
+) -> None:
+    """The log, its configuration, what gateways have sent, what the audit says, and the program if it is that of entry 0."""
+    (copied.place / "received").mkdir()
+    (copied.place / "received" / "day-20261126.checkpoints").write_text("sent")
+    text = copied.stood.file.read_text()
+    copied.stood.file.write_text(text.replace("[seal]\n", '[seal]\ncheckpoints = "received"\n'))
+    (copied.place / "program").write_text("runs")
+    digest = hashlib.sha256(b"runs").hexdigest() if is_the_days else "0" * 64
+    head = b"venue -\nprogram %s\n%%%%\nversion = 3\n" % digest.encode()
+    monkeypatch.setattr(copying, "first_line", lambda file: head)
+    folder = copied.place / "copies" / "20261126"
+    copied.copies.begin(copied.log, SECOND, folder)
+    made = copied.copies.finish(SECOND, "", "20261126", folder)
+    assert made == DayCopy(is_the_days, "verdict: it is good")
+    there = {path.name: path for path in folder.iterdir()}
+    program = {"program"} if is_the_days else set()
+    received = "received-day-20261126.checkpoints"
+    listed = {SECOND + ".db", "venue.toml", "check.txt", received, "SHA256SUMS"}
+    assert there.keys() == listed | program
+    assert there["venue.toml"].read_text() == "version = 3\n"
+    assert there["check.txt"].read_text() == "it began\nverdict: it is good\n"
+    assert there[received].read_text() == "sent"
+    if is_the_days:
+        assert there["program"].read_text() == "runs"
+        assert there["program"].stat().st_mode & 0o777 == 0o550
+
+
+ENTRY_0 = b"venue -\nprogram -\n%%\nversion = 3\n"
+
+
+@pytest.mark.parametrize("status", [0, 1, 2])
+def test_which_copy_is_sealed(copied: Copied, monkeypatch: pytest.MonkeyPatch, status: int) -> None:
+    """One in which the audit finds nothing: not one of which it does not know whether it is as it should be (2)."""
+    monkeypatch.setattr(copying, "first_line", lambda file: ENTRY_0)
+    copied.audits("verdict: so it is", status)
+    folder = copied.place / "copies" / "20261126"
+    copied.copies.begin(copied.log, SECOND, folder)
+    assert copied.copies.finish(SECOND, "", "20261126", folder).verdict == "verdict: so it is"
+    log = copying.part_of(folder) / (SECOND + ".db")
+    last = (copied.place / "words").read_text().split()
+    is_sealed = last == ["seal", str(log), "--key", str(copied.place / "seal.pem")]
+    assert is_sealed == (status == 0) and last[0] == ("seal" if is_sealed else "check")
+
+
+def test_a_copy_that_can_not_be_sealed(copied: Copied, monkeypatch: pytest.MonkeyPatch) -> None:
+    """It has no name then: the next run makes it anew."""
+    monkeypatch.setattr(copying, "first_line", lambda file: ENTRY_0)
+    copied.audit.write_text('#!/bin/sh\n[ "$1" != seal ] || { echo "no key" >&2; exit 2; }\n')
+    folder = copied.place / "copies" / "20261126"
+    copied.copies.begin(copied.log, SECOND, folder)
+    with pytest.raises(Fault, match="^%s.db is not sealed: no key" % SECOND):
+        copied.copies.finish(SECOND, "", "20261126", folder)
+    assert not folder.exists()
+
+
+def test_a_copy_is_on_disk_before_it_has_its_name(
+    copied: Copied, monkeypatch: pytest.MonkeyPatch
+) -> None:
+    """So one that has its name is whole, also behind a power cut; and the name is on disk, too."""
+    did: list[str] = []
+    renamed = Path.rename
+
+    def rename(path: Path, to: Path) -> Path:
+        did.append("named")
+        return renamed(path, to)
+
+    monkeypatch.setattr(copying, "on_disk", lambda path: did.append(path.name))
+    monkeypatch.setattr(Path, "rename", rename)
+    part = copied.place / "copies" / "other.part"
+    part.mkdir()
+    for name in ("one", "two"):
+        (part / name).touch()
+    copied.copies.close(part, part.with_suffix(""))
+    assert sorted(did[:3]) == ["SHA256SUMS", "one", "two"]
+    assert did[3:] == ["other.part", "named", "copies"]
 
 
 def test_copies_that_are_not_what_they_were(copied: Copied) -> None:
@@ -473,6 +593,45 @@ def test_a_file_that_is_no_copy(copied: Copied) -> None:
         digest_of_file(copied.place / "none.db")
     with pytest.raises(Fault, match="day.db: unable to open"):
         write_day(copied.log, copied.place / "away" / "day.db")
+
+
+def test_an_entry_that_takes_without_end(copied: Copied, monkeypatch: pytest.MonkeyPatch) -> None:
+    """Whoever made a log may have made it so that it is not found soon: it is looked for a minute long, and no more."""
+    log = copied.folder / (FIRST + ".db")
+    assert day_file.ENTRY_SECONDS == 60.0
+    monkeypatch.setattr(day_file, "STEPS", 1)
+    monkeypatch.setattr(day_file, "ENTRY_SECONDS", -1.0)
+    with pytest.raises(Fault, match="^%s.db: interrupted$" % FIRST):
+        day_file.first_line(log)
+
+
+def test_a_list_of_sums_that_is_too_long(place: Path) -> None:
+    """64 KiB of it are read: what a gateway's host has put behind that is not there."""
+    given, digest = GivenCopy(place, "day.db"), "0" * 64
+    line = "%s  day.db\n" % digest
+    for before, is_read in ((65_536 - len(line), True), (65_536, False)):
+        (place / "SHA256SUMS").write_text("#" * (before - 1) + "\n" + line)
+        if is_read:
+            assert given.digest() == digest
+            continue
+        with pytest.raises(Fault, match="SHA256SUMS has no line for day.db$"):
+            given.digest()
+
+
+def test_how_much_stays_free(place: Path, monkeypatch: pytest.MonkeyPatch) -> None:
+    """256 MiB of the disk of the keeper's own copies."""
+    text = b"x" * 1000
+    (place / "day.db").write_bytes(text)
+    given, digest = GivenCopy(place, "day.db"), hashlib.sha256(text).hexdigest()
+    for name, room in (("fits", 1000), ("fits-not", 999)):
+        disk = SimpleNamespace(f_bavail=(256 << 20) + room, f_frsize=1)
+        monkeypatch.setattr(os, "statvfs", lambda path, disk=disk: disk)
+        if name == "fits":
+            given.take_file("day.db", digest, place / name)
+            assert (place / name).read_bytes() == text
+            continue
+        with pytest.raises(Fault, match="there is no room for 1000 bytes$"):
+            given.take_file("day.db", digest, place / name)
 
 
 # ------------------------------------------------------------ the command
@@ -547,6 +706,9 @@ def test_a_look_at_the_configuration(stood: Stood, monkeypatch: pytest.MonkeyPat
 
     monkeypatch.setattr(Database, "logs", logs)
     assert main.faults_of(stood.settings)[-1] == "the logs: primary is away"
+    monkeypatch.setattr(sys, "argv", ["mireseason-keeper", "--check", str(stood.file)])
+    assert main.main() == 1
+    assert stood.said().endswith("mireseason-keeper: the logs: primary is away\n")
     assert stood.around.done == []
 
 

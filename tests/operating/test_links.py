@@ -1,12 +1,14 @@
 """Links of the pages that packages install: each leads to where the packages put what it names."""
 
 import importlib
+import subprocess
 import sys
 from pathlib import Path
 from types import ModuleType
 
 import pytest
 
+from tests.gateway.wait import LONG
 from tests.harness.options import ROOT
 
 SCRIPT = ROOT / "install" / "packages" / "links.py"
@@ -74,6 +76,14 @@ def test_the_pages_of_a_folder(
         to("SECURITY.md", "MARKET.md"),
     )
     assert (folder / "x.txt").read_text() == "[d](../docs/OPERATING.md)"
+
+
+def test_the_program(place: Path) -> None:
+    """As debian/build.sh calls it."""
+    page = place / "MARKET.md"
+    page.write_text("[s](../SECURITY.md)")
+    subprocess.run([sys.executable, str(SCRIPT), str(place)], check=True, timeout=LONG)
+    assert page.read_text() != "[s](../SECURITY.md)" and page.read_text().startswith("[s](")
 
 
 def test_where_the_pages_stand(links: ModuleType) -> None:

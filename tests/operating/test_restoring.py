@@ -10,11 +10,15 @@ import re
 import shutil
 import sqlite3
 import subprocess
+import sys
 import tarfile
 from collections.abc import Iterable
 from contextlib import closing
 from dataclasses import dataclass
+from importlib.machinery import SourceFileLoader
+from importlib.util import module_from_spec, spec_from_loader
 from pathlib import Path
+from typing import Any
 
 import pytest
 
@@ -145,6 +149,41 @@ def test_a_log_in_its_place(machine: Machine, place: Path) -> None:
     }
     assert (machine.logs / LOG).read_bytes() == log
     assert (machine.logs / LOG).stat().st_mode & 0o777 == 0o640
+
+
+def script(monkeypatch: pytest.MonkeyPatch) -> Any:
+    """The program as a module of this process, for one test."""
+    monkeypatch.setattr(sys, "dont_write_bytecode", True)
+    loader = SourceFileLoader("restoring", str(SCRIPT))
+    spec = spec_from_loader("restoring", loader)
+    assert spec is not None
+    made = module_from_spec(spec)
+    monkeypatch.setitem(sys.modules, "restoring", made)
+    loader.exec_module(made)
+    return made
+
+
+def test_what_is_on_disk_before_a_log_is_in_its_place(
+    machine: Machine, place: Path, monkeypatch: pytest.MonkeyPatch
+) -> None:
+    """All that the backup has; and the name, too, when it says that it is done."""
+    did: list[str] = []
+    synced, renamed = os.fsync, Path.rename
+
+    def fsync(number: int) -> None:
+        did.append("on disk: " + Path(os.readlink("/proc/self/fd/%d" % number)).name)
+        synced(number)
+
+    def rename(path: Path, to: Path) -> Path:
+        did.append("named: %s" % path.name)
+        return renamed(path, to)
+
+    monkeypatch.setattr(os, "fsync", fsync)
+    monkeypatch.setattr(os, "umask", lambda bits: bits)
+    monkeypatch.setattr(Path, "rename", rename)
+    data = backup([(LOG, log_of(place, 1)), (CHECKPOINT, signed(0, 1))])
+    script(monkeypatch).restore(io.BytesIO(data), machine.config)
+    assert did == ["on disk: " + LOG, "on disk: " + CHECKPOINT, "named: " + LOG, "on disk: logs"]
 
 
 TOLD = {

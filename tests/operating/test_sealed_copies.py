@@ -175,6 +175,10 @@ def test_a_copy_is_sealed(kept: Place) -> None:
     assert kept.receipt.read_text() == (kept.copy / "SHA256SUMS").read_text()
     assert kept.receipt.stat().st_mode & 0o777 == 0o644
     assert kept.run() == Counts() and kept.told() == ""
+    # What somebody else has put there is no word of this keeper's.
+    kept.receipt.write_text("%s  %s.seal\n" % ("0" * 64, log))
+    assert kept.run() == Counts()
+    assert kept.receipt.read_text() == (kept.copy / "SHA256SUMS").read_text()
 
 
 def test_a_day_that_goes_on_is_left_alone(kept: Place) -> None:
@@ -238,6 +242,18 @@ def with_computed_column(kept: Place) -> None:
     told_to_sqlite(kept, "ALTER TABLE form ADD COLUMN more AS (zeroblob(1000000000))")
 
 
+def with_stored_column(kept: Place) -> None:
+    """Its rows hold what was computed when they were written."""
+    more = "CREATE TABLE form (number INTEGER, more BLOB AS (zeroblob(9)) STORED)"
+    told_to_sqlite(kept, "DROP TABLE form", more)
+
+
+def with_a_table_of_a_module(kept: Place) -> None:
+    told_to_sqlite(
+        kept, "DROP TABLE form", "CREATE VIRTUAL TABLE form USING rtree(number, low, high)"
+    )
+
+
 def without_entries(kept: Place) -> None:
     told_to_sqlite(kept, "DELETE FROM entry")
 
@@ -289,6 +305,8 @@ REFUSED: list[tuple[Change, str]] = [
     (with_view, "has more than tables"),
     (with_trigger, "has more than tables"),
     (with_computed_column, "has more than tables"),
+    (with_stored_column, "has more than tables"),
+    (with_a_table_of_a_module, "has more than tables"),
     (without_entries, "it has no entry 0"),
     (with_brackets, "of another day or venue"),
     (with_dots, "of another day or venue"),
@@ -413,6 +431,20 @@ def test_a_copy_that_rots(kept: Place) -> None:
     assert kept.run() == Counts(at_fault=1)
     assert "its copy is another: %s.db" % DATE in kept.told()
     assert not kept.receipt.exists()
+
+
+def test_whose_the_copies_are(kept: Place) -> None:
+    """By their names: of a day of the calendar, and of one venue; what is not whole yet has another name."""
+    names = ["20261125", "20261126-north", "20261127-south", "20261128-north.part", "20261128.part"]
+    names += ["20261131", "20261131-north", "2026112", "2026112-north", "202611250"]
+    file = kept.folder / "keeper.toml"
+    alone = SealingKeeper(read_settings(file), lambda: AFTER)
+    assert alone.days_of("", names) == ["20261125"]
+    text = file.read_text().replace('"{date}.db"', '"{venue}-{date}.db"')
+    file.write_text(text.replace("[venue]\n", '[venue]\nnames = ["north", "south"]\n'))
+    several = SealingKeeper(read_settings(file), lambda: AFTER)
+    assert several.days_of("north", names) == ["20261126"]
+    assert several.days_of("south", names) == ["20261127"]
 
 
 def test_a_day_that_does_not_come(kept: Place) -> None:

@@ -71,6 +71,11 @@ def test_a_comment_is_a_row(root: Path, monkeypatch: pytest.MonkeyPatch) -> None
     assert laws.row_in_full(root, both[1:]) == ["It rises", "`desk::it_rises`", "", "230"]
 
 
+def test_a_law_is_named_by_the_crate_in_which_it_stands(root: Path) -> None:
+    said = "`gone::it_rises`, `desk::it_rises`, `gone::nothing`"
+    assert laws.on_page(root, said) == "`desk::it_rises`, `desk::it_rises`, `gone::nothing`"
+
+
 def test_a_row_in_short_has_the_sentence_alone(root: Path, monkeypatch: pytest.MonkeyPatch) -> None:
     monkeypatch.setattr(laws, "lines_to_read", lambda _, names: 1000 * len(names) + 234)
     law = laws.Laws(root).named("desk::prices_rise")

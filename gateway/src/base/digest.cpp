@@ -43,11 +43,11 @@ Digest sha256(std::string_view bytes) {
 
 std::string text_of(const Digest &digest) {
     static constexpr std::string_view digits = "0123456789abcdef";
-    std::string text;
-    text.reserve(digest.size() * 2);
+    std::string text(digest.size() * 2, '\0');
+    auto to = text.begin();
     for (const unsigned char byte : digest) {
-        text += digits[byte >> 4];
-        text += digits[byte & 15];
+        *to++ = digits[byte >> 4];
+        *to++ = digits[byte & 15];
     }
     return text;
 }

@@ -1,5 +1,6 @@
 #include "base/record_file.h"
 
+#include <algorithm>
 #include <cerrno>
 #include <cstdlib>
 #include <stdexcept>
@@ -59,10 +60,12 @@ void write_at(const Descriptor &file, std::uint64_t place, const void *bytes, st
     }
 }
 
-std::uint64_t TextFile::append(std::string_view text) {
+std::uint64_t TextFile::append(std::initializer_list<std::string_view> texts) {
     const std::lock_guard lock(mutex_);
     const std::uint64_t begin = written_ + waiting_.size();
-    waiting_.append(text);
+    for (const std::string_view text : texts) {
+        waiting_.append(text);
+    }
     if (waiting_.size() >= chunk) {
         write_at(file_, written_, waiting_.data(), waiting_.size());
         written_ += waiting_.size();
@@ -75,11 +78,14 @@ std::string TextFile::at(std::uint64_t begin, std::size_t length) const {
     const std::lock_guard lock(mutex_);
     std::string text(length, '\0');
     std::size_t found = 0;
-    if (begin >= written_) {
-        const std::uint64_t from = std::min<std::uint64_t>(begin - written_, waiting_.size());
-        found = waiting_.copy(text.data(), length, static_cast<std::size_t>(from));
-    } else {
-        found = read_at(file_, begin, text.data(), length);
+    if (begin < written_) {
+        found =
+            read_at(file_, begin, text.data(), std::min<std::uint64_t>(length, written_ - begin));
+    }
+    if (begin + found >= written_) {
+        const std::uint64_t from = begin + found - written_;
+        found += waiting_.copy(text.data() + found, length - found,
+                               std::min<std::uint64_t>(from, waiting_.size()));
     }
     if (found != length) {
         throw std::runtime_error("the spool was cut off");

@@ -8,6 +8,7 @@
 #include <cstddef>
 #include <cstdint>
 #include <filesystem>
+#include <initializer_list>
 #include <mutex>
 #include <stdexcept>
 #include <string>
@@ -32,8 +33,8 @@ class TextFile {
   public:
     explicit TextFile(const std::filesystem::path &folder) : file_(open_unnamed(folder)) {}
 
-    // Where it begins.
-    std::uint64_t append(std::string_view text);
+    // These, one behind the other: where the first begins.
+    std::uint64_t append(std::initializer_list<std::string_view> texts);
     // Throws std::runtime_error if there are fewer bytes.
     std::string at(std::uint64_t begin, std::size_t length) const;
 

@@ -195,8 +195,10 @@ std::vector<std::string> Gateway::not_taken() const {
 std::vector<OpenRequests::Open> Gateway::open_requests() const {
     std::vector<OpenRequests::Open> all;
     for (const auto &day : days_) {
-        const auto some = day->open_requests.all();
-        all.insert(all.end(), some.begin(), some.end());
+        for (OpenRequests::Open &open : day->open_requests.all()) {
+            open.firm += day->config.venue.empty() ? "" : " of " + day->config.venue;
+            all.push_back(std::move(open));
+        }
     }
     return all;
 }

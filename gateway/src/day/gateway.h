@@ -83,7 +83,8 @@ class Gateway final {
     std::vector<std::string> halts() const;
     // The same, and where the log's disk has no room: it asks the disk, which may keep it waiting.
     std::vector<std::string> not_taken() const;
-    // Requests that are open now, of all venues; of any thread.
+    // Requests that are open now, for people: each investor with its venue, where that has a name.
+    // Of any thread.
     std::vector<OpenRequests::Open> open_requests() const;
     // Of the process, after run().
     int exit_status() { return status_.exit_status(); }

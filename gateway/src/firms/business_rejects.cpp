@@ -1,6 +1,7 @@
 #include "firms/business_rejects.h"
 
 #include "common/frame.h"
+#include "common/moment.h"
 
 #include <algorithm>
 #include <array>
@@ -65,17 +66,21 @@ std::string bond_of(const VenueDay &day, const std::string &firm, const Business
                : std::string(value_in(business.frame, "48"));
 }
 
+// Of a deadline (126) of this date: HH:MM:SS, or with milliseconds. Nothing where it is no moment.
+std::optional<Moment> moment_on(const std::string &date, std::string_view deadline) {
+    if (!deadline.starts_with(date + "-")) {
+        return std::nullopt;
+    }
+    constexpr std::size_t without_milliseconds = 8;
+    const std::string time(deadline.substr(date.size() + 1));
+    return moment_of(time.size() == without_milliseconds ? time + ".000" : time);
+}
+
 // Whether a deadline (126) of this day lies behind the day's end. What is no moment of the day is
 // the venue's to reject.
 bool is_behind_end(std::string_view deadline, const TradingDay &day) {
-    const std::string ends = text_of(day.ends);
-    constexpr std::size_t before_time = 9; // YYYYMMDD-
-    if (deadline.substr(0, before_time) != day.date + "-") {
-        return false;
-    }
-    const std::string_view seconds = deadline.substr(0, ends.size());
-    const bool has_more = deadline.find_first_of("123456789", seconds.size()) != deadline.npos;
-    return seconds > ends || (seconds == ends && has_more);
+    const auto moment = moment_on(day.date, deadline);
+    return moment && day.date + "-" + text_of(*moment) > text_of(day.ends) + ".000";
 }
 
 bool is_between(char letter, char first, char last) {

@@ -2,11 +2,12 @@
 #ifndef GATEWAY_LOG_NOTE_QUEUE_H
 #define GATEWAY_LOG_NOTE_QUEUE_H
 
-#include "common/descriptor.h"
+#include "base/record_file.h"
 
 #include <cstdint>
 #include <filesystem>
 #include <map>
+#include <memory>
 #include <mutex>
 #include <optional>
 #include <string>
@@ -17,7 +18,7 @@ namespace gateway {
 // A start reads all seals before the venue has given anything, and each note waits for what it
 // names. So they stand in an unnamed file, and nothing in memory grows with the day. One thread at
 // a time, but for noted(); each call throws std::system_error where the file can't be read or
-// written.
+// written, and std::runtime_error where it was cut off.
 class NoteQueue {
   public:
     explicit NoteQueue(const std::filesystem::path &folder);
@@ -34,7 +35,7 @@ class NoteQueue {
     bool read_some();
 
     const std::filesystem::path folder_;
-    Descriptor file_;
+    std::unique_ptr<TextFile> file_;
     std::uint64_t end_ = 0;  // of what was put,
     std::uint64_t read_ = 0; // of what was read,
     std::string buffer_;     // of which this waits

@@ -1,6 +1,9 @@
 #include "log/records.h"
 
+#include "base/spaced_words.h"
+
 #include <stdexcept>
+#include <utility>
 
 #include <fmt/format.h>
 
@@ -32,6 +35,9 @@ std::string or_dash(const std::optional<std::uint32_t> &number) {
     return number ? std::to_string(*number) : "-";
 }
 
+// Bytes of all that is hashed in front of an entry's line, and more.
+constexpr std::size_t longest_head = 192;
+
 constexpr std::string_view end_of_head = "%%\n";
 constexpr std::string_view gateway_line = "gateway";
 constexpr std::string_view reason_line = "reason";
@@ -42,12 +48,12 @@ constexpr std::string_view no_name = "-";
 } // namespace
 
 Digest hash_of(const Entry &entry) {
-    std::string text =
-        fmt::format("{} {} {} {} {} {} {} {} {}\n", text_of(entry.before), entry.place, entry.term,
-                    entry.moment, entry.received, entry.firm.value_or("-"), or_dash(entry.number),
-                    or_dash(entry.connection), entry.line.size());
-    text += entry.line;
-    return sha256(text);
+    SpacedWords head(longest_head + entry.line.size());
+    head.add(text_of(entry.before)).add(entry.place).add(entry.term);
+    head.add(entry.moment).add(entry.received);
+    head.add(entry.firm ? std::string_view(*entry.firm) : "-");
+    head.add(or_dash(entry.number)).add(or_dash(entry.connection)).add(entry.line.size());
+    return sha256(std::move(head).with('\n', entry.line));
 }
 
 Digest hash_of(const ConnectionEvent &event) {
@@ -64,14 +70,16 @@ Digest hash_of(const ConnectionEvent &event) {
 
 void check_link(const Entry &entry, std::uint32_t place, const Digest &before) {
     // What stands in front of the place.
-    const std::string front = place == 0 ? "the begin" : fmt::format("entry {}", place - 1);
+    const auto front = [place] {
+        return place == 0 ? "the begin" : fmt::format("entry {}", place - 1);
+    };
     if (entry.place != place) {
         throw std::runtime_error(fmt::format("the log has no entry {}: after {} comes entry {}",
-                                             place, front, entry.place));
+                                             place, front(), entry.place));
     }
     if (entry.before != before) {
         throw std::runtime_error(
-            fmt::format("entry {} does not follow on {} as it is now", place, front));
+            fmt::format("entry {} does not follow on {} as it is now", place, front()));
     }
     if (entry.hash != hash_of(entry)) {
         throw std::runtime_error(fmt::format("entry {} was changed: its hash is another", place));

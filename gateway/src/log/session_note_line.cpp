@@ -1,11 +1,13 @@
 #include "log/session_note_line.h"
 
 #include "base/escaped.h"
+#include "base/spaced_words.h"
 #include "common/frame.h"
 #include "common/moment.h"
 
 #include <algorithm>
 #include <charconv>
+#include <utility>
 
 #include <fmt/format.h>
 
@@ -18,6 +20,9 @@ constexpr std::string_view yes = "Y";
 constexpr std::string_view no = "N";
 constexpr std::string_view locked = "locked";
 constexpr std::string_view released = "released";
+
+// Bytes of all that stands in front of what may be long, and more.
+constexpr std::size_t longest_head = 192;
 
 bool has_fields(char kind) {
     return kind == '3' || kind == 'j';
@@ -96,11 +101,12 @@ bool take_more(std::string_view text, SessionNoteLine &note) {
 
 std::string text_of(const SessionNoteLine &note) {
     const SessionNote &said = note.said;
-    std::string line = fmt::format(
-        "{} {} {} {} {} {} {} {} {}", note.firm, note.epoch, said.kind, said.number, note.expected,
-        note.had, note.given, text_of(note.hash), text_of(Moment{static_cast<int>(said.moment)}));
     const std::string more = more_of(note);
-    return more.empty() ? line : line.append(" ").append(more);
+    SpacedWords line(longest_head + more.size());
+    line.add(note.firm).add(note.epoch).add(said.kind).add(said.number);
+    line.add(note.expected).add(note.had).add(note.given);
+    line.add(text_of(note.hash)).add(text_of(Moment{static_cast<int>(said.moment)}));
+    return more.empty() ? std::move(line).text() : std::move(line).with(' ', more);
 }
 
 // One line says one thing in one way: what is read has to be what would be written.
@@ -137,14 +143,15 @@ Digest hash_of_notes(Digest before, std::string_view lines) {
         return Digest{};
     }
     for (const std::string_view line : lines_in(lines)) {
-        before = sha256(fmt::format("{} {}\n", text_of(before), line));
+        before = sha256(text_of(before).append(" ").append(line).append("\n"));
     }
     return before;
 }
 
 Digest hash_of_message(const Digest &before, std::string_view frame) {
-    std::string text = fmt::format("{} {}\n", text_of(before), frame.size());
-    return sha256(text.append(frame));
+    SpacedWords head(longest_head + frame.size());
+    head.add(text_of(before)).add(frame.size());
+    return sha256(std::move(head).with('\n', frame));
 }
 
 } // namespace gateway

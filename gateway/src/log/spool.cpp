@@ -25,6 +25,10 @@ bool is_reject(const std::string &type) {
     return type == "3" || type == "j";
 }
 
+[[noreturn]] void fail_not_given(const std::string &firm, std::uint32_t number) {
+    throw std::runtime_error(fmt::format("the venue did not give {} its message {}", firm, number));
+}
+
 } // namespace
 
 Spool::Spool(const std::filesystem::path &folder, const std::vector<std::string> &firms)
@@ -54,12 +58,13 @@ Spool::Firm &Spool::firm_of(const std::string &name) {
     return const_cast<Firm &>(std::as_const(*this).firm_of(name));
 }
 
-Spool::Body Spool::append(std::string_view type, std::string_view bytes, std::string_view behind) {
+Spool::Body Spool::append(std::string_view type, std::string_view bytes, std::string_view frame,
+                          std::string_view told) {
     Body body;
     if (type.size() >= sizeof body.type) {
         throw std::runtime_error(fmt::format("a message of the type {} is not kept", type));
     }
-    body.begin = bodies_.append(std::string(bytes).append(behind));
+    body.begin = bodies_.append({bytes, frame, told});
     body.length = static_cast<std::uint32_t>(bytes.size());
     std::ranges::copy(type, body.type);
     return body;
@@ -85,14 +90,14 @@ std::optional<Digest> Spool::give(const std::string &name, const GivenMessage &m
         throw std::runtime_error(fmt::format("the venue gave {} message {} where {} was due", name,
                                              number, firm.last_given + 1));
     }
-    const auto frame = static_cast<std::uint32_t>(message.frame.size());
-    const std::string told = message.told.value_or("");
+    const std::string_view told = message.told ? std::string_view(*message.told) : "";
+    const Digest hash = hash_of_message(firm.last_hash, message.wire);
     firm.given.put(number,
-                   {append(message.type, message.wire, message.frame + told), frame,
-                    static_cast<std::uint32_t>(told.size()), message.place, message.moment});
-    const Digest hash = hash_of_message(firm.hashes.at(firm.last_given), message.wire);
-    firm.hashes.put(number, hash);
+                   {append(message.type, message.wire, message.frame, told),
+                    static_cast<std::uint32_t>(message.frame.size()),
+                    static_cast<std::uint32_t>(told.size()), message.place, message.moment, hash});
     firm.last_given = number;
+    firm.last_hash = hash;
     return hash;
 }
 
@@ -105,7 +110,7 @@ std::uint32_t Spool::last_given(const std::string &name) const {
 Digest Spool::hash_of_given(const std::string &name, std::uint32_t number) const {
     const Firm &firm = firm_of(name);
     const std::lock_guard lock(firm.mutex);
-    return firm.hashes.at(number);
+    return firm.given.at(number).hash;
 }
 
 GivenMessage Spool::given(const std::string &name, std::uint32_t number) const {
@@ -113,8 +118,7 @@ GivenMessage Spool::given(const std::string &name, std::uint32_t number) const {
     const std::lock_guard lock(firm.mutex);
     const Given found = firm.given.at(number);
     if (found.body.length == 0) {
-        throw std::runtime_error(
-            fmt::format("the venue did not give {} its message {}", name, number));
+        fail_not_given(name, number);
     }
     const std::uint64_t behind = found.body.begin + found.body.length;
     GivenMessage message{number,
@@ -142,7 +146,29 @@ void Spool::keep(const std::string &name, const KeptMessage &message) {
 void Spool::keep_given(const std::string &name, std::uint32_t number, std::uint32_t given) {
     Firm &firm = firm_of(name);
     const std::lock_guard lock(firm.mutex);
-    const Given found = firm.given.at(given);
+    keep_here(name, firm, firm.given.at(given), number, given);
+}
+
+void Spool::keep_all_given(const std::string &name, std::uint32_t first, std::uint32_t last,
+                           const std::function<std::uint32_t(const Digest &)> &number_of) {
+    Firm &firm = firm_of(name);
+    const std::lock_guard lock(firm.mutex);
+    for (std::uint32_t given = first; given <= last;) {
+        const std::size_t count = std::min<std::size_t>(chunk, last - given + 1);
+        std::vector<Given> all = firm.given.some(given, count);
+        all.resize(count);
+        for (const Given &each : all) {
+            const std::uint32_t number = number_of(each.hash);
+            if (number > 0) {
+                keep_here(name, firm, each, number, given);
+            }
+            ++given;
+        }
+    }
+}
+
+void Spool::keep_here(const std::string &name, Firm &firm, const Given &found, std::uint32_t number,
+                      std::uint32_t given) {
     if (found.body.length == 0) {
         throw std::runtime_error(fmt::format(
             "{}'s session keeps message {}, which the venue did not give", name, given));

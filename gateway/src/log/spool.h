@@ -9,6 +9,7 @@
 #include <cstddef>
 #include <cstdint>
 #include <filesystem>
+#include <functional>
 #include <map>
 #include <mutex>
 #include <optional>
@@ -57,6 +58,10 @@ class Spool {
     void keep(const std::string &firm, const KeptMessage &message);
     // Under its number the venue's of the number `given`, first sent at the moment of its entry.
     void keep_given(const std::string &firm, std::uint32_t number, std::uint32_t given);
+    // The same of those from `first` to `last`, in order: `number_of` is shown the running hash of
+    // each, and returns its number, or 0 where it is not kept.
+    void keep_all_given(const std::string &firm, std::uint32_t first, std::uint32_t last,
+                        const std::function<std::uint32_t(const Digest &)> &number_of);
     // Its own Rejects (35=3, 35=j) from a number on are kept no longer.
     void drop_rejects(const std::string &firm, std::uint32_t from);
     // An operator has reset the session: what it keeps of the venue's behind a number gets the
@@ -84,6 +89,7 @@ class Spool {
         std::uint32_t told = 0;  // and of the other
         std::uint32_t place = 0;
         std::uint32_t moment = 0;
+        Digest hash{}; // the running one
     };
     // What a session keeps, as KeptMessage has it.
     struct Kept {
@@ -95,8 +101,7 @@ class Spool {
     };
     // One thread at a time.
     struct Firm {
-        explicit Firm(const std::filesystem::path &folder)
-            : given(folder), hashes(folder), kept(folder) {}
+        explicit Firm(const std::filesystem::path &folder) : given(folder), kept(folder) {}
 
         // Shows what is kept from a number on, in order and each with its place in the file, until
         // `see` says false. What is not kept takes no time: most of a firm's numbers may be of
@@ -108,9 +113,9 @@ class Spool {
         void put(const Kept &record);
 
         mutable std::mutex mutex;
-        RecordFile<Given> given;   // by the venue's numbers
-        RecordFile<Digest> hashes; // likewise
+        RecordFile<Given> given; // by the venue's numbers
         std::uint32_t last_given = 0;
+        Digest last_hash{};             // of that one
         RecordFile<Kept> kept;          // in the order of the session's numbers
         std::uint32_t kept_end = 0;     // places in that file
         std::uint32_t last_kept = 0;    // the last number there
@@ -119,9 +124,13 @@ class Spool {
 
     const Firm &firm_of(const std::string &name) const;
     Firm &firm_of(const std::string &name);
-    Body append(std::string_view type, std::string_view bytes, std::string_view behind = {});
+    Body append(std::string_view type, std::string_view bytes, std::string_view frame = {},
+                std::string_view told = {});
     std::string bytes_of(const Body &body) const { return bodies_.at(body.begin, body.length); }
     bool is_same(const Given &is, const GivenMessage &message) const;
+    // The firm's lock is held.
+    static void keep_here(const std::string &name, Firm &firm, const Given &found,
+                          std::uint32_t number, std::uint32_t given);
 
     const std::filesystem::path folder_;
     TextFile bodies_;

@@ -4,7 +4,7 @@
 
 #include "log/records.h"
 
-#include <algorithm>
+#include <cstring>
 #include <memory>
 #include <optional>
 #include <stdexcept>
@@ -114,10 +114,11 @@ class Statement {
     }
     // Zeros where it has not so many bytes.
     template <typename Bytes = Digest> Bytes digest(int column) const {
-        const std::string text = bytes(column);
+        const void *data = sqlite3_column_blob(statement_.get(), column);
+        const int size = sqlite3_column_bytes(statement_.get(), column);
         Bytes digest{};
-        if (text.size() == digest.size()) {
-            std::copy(text.begin(), text.end(), digest.begin());
+        if (data != nullptr && static_cast<std::size_t>(size) == digest.size()) {
+            std::memcpy(digest.data(), data, digest.size());
         }
         return digest;
     }

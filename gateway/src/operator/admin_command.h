@@ -114,8 +114,9 @@ class OpenDay {
     explicit OpenDay(AdminScene &scene);
 
     Gateway &gateway() { return *held_.gateway; }
-    // Those that have the firm. Throws AdminFault where none has.
-    std::vector<Leader *> leaders_of(const std::string &firm);
+    // Those that have the firm, or the one of this name where a venue is named. Throws AdminFault
+    // where there is none.
+    std::vector<Leader *> leaders_of(const std::string &firm, const std::string &venue = "");
     std::vector<Leader *> leaders();
     // Commits the act into this venue's log, at which it takes effect. Throws AdminFault.
     static void commit(Leader &leader, const Act &act);
@@ -135,6 +136,12 @@ class WrongWords : public AdminFault {
 
 // Throws WrongWords where there are more words, or fewer.
 void check_words(const AdminCall &call, std::size_t least, std::size_t most);
+
+// Takes `--venue NAME` out of the words: empty where no venue is named. Throws AdminFault.
+std::string take_venue(AdminCall &call);
+
+// The names of their venues, with commas between.
+std::string venues_of(const std::vector<Leader *> &leaders);
 
 // Throws AdminFault where no reason is given; the example is one.
 void check_reason(const AdminCall &call, std::string_view example);

@@ -101,8 +101,8 @@ const std::vector<AdminCommand> &admin_commands() {
         {"firms", "", "lists the firms: who is there, what they sent, their limits", run_firms},
         {"firm", "FIRM", "shows one firm: since when it is there, its counts, its limits",
          run_firm},
-        {"hand-out", "FIRM", "prints what the firm may know of the venue, as a desk reads it",
-         run_hand_out},
+        {"hand-out", "FIRM [--venue NAME]",
+         "prints what the firm may know of the venue, as a desk reads it", run_hand_out},
         {"next-day", "", "says which day opens next and what its configuration says", run_next_day},
         {"end-day", "[--now] [--because TEXT]",
          "takes no new request, and ends the day once none is open; --now: at once, without "
@@ -120,14 +120,14 @@ const std::vector<AdminCommand> &admin_commands() {
          "refuses requests, quotes and hits, of one bond or of all", run_halt},
         {"cancel", "FIRM [--trader TRADER] --because TEXT",
          "cancels all quotes of a dealer, or those that one trader sent", run_cancel},
-        {"reset-session", "FIRM [--because TEXT]",
+        {"reset-session", "FIRM [--venue NAME] [--because TEXT]",
          "has a firm's numbers begin at 1 again, after its engine lost its store",
          run_reset_session},
-        {"release", "FIRM [--because TEXT]",
+        {"release", "FIRM [--venue NAME] [--because TEXT]",
          "lets a firm whose engine lost its store try again with its numbers as they are",
          run_release},
-        {"bust", "TRADE --because TEXT", "voids a trade by agreement; no firm is sent anything",
-         run_bust},
+        {"bust", "TRADE [--venue NAME] --because TEXT",
+         "voids a trade by agreement; no firm is sent anything", run_bust},
         {"limit", "FIRM [KEY=VALUE] [--because TEXT]",
          "shows a firm's limits, or sets one for the day; VALUE may be `configured`", run_limit},
         {"clock accept", "[--because TEXT]",
@@ -163,6 +163,27 @@ void check_words(const AdminCall &call, std::size_t least, std::size_t most) {
     }
 }
 
+std::string take_venue(AdminCall &call) {
+    const auto found = std::find(call.words.begin(), call.words.end(), "--venue");
+    if (found == call.words.end()) {
+        return "";
+    }
+    if (found + 1 == call.words.end() || (found + 1)->empty()) {
+        throw AdminFault("--venue needs a name after it");
+    }
+    std::string name = *(found + 1);
+    call.words.erase(found, found + 2);
+    return name;
+}
+
+std::string venues_of(const std::vector<Leader *> &leaders) {
+    std::string names;
+    for (Leader *leader : leaders) {
+        names += (names.empty() ? "" : ", ") + leader->day().config.venue;
+    }
+    return names;
+}
+
 void check_reason(const AdminCall &call, std::string_view example) {
     if (call.because.empty()) {
         throw AdminFault(fmt::format("say why: --because \"{}\"", example));
@@ -188,11 +209,15 @@ std::vector<Leader *> OpenDay::leaders() {
     return all;
 }
 
-std::vector<Leader *> OpenDay::leaders_of(const std::string &firm) {
+std::vector<Leader *> OpenDay::leaders_of(const std::string &firm, const std::string &venue) {
     std::vector<Leader *> all = leaders();
-    std::erase_if(all, [&](Leader *each) { return !each->sessions().has_firm(firm); });
+    std::erase_if(all, [&](Leader *each) {
+        const bool is_meant = venue.empty() || each->day().config.venue == venue;
+        return !is_meant || !each->sessions().has_firm(firm);
+    });
     if (all.empty()) {
-        throw AdminFault(fmt::format("the venue has no firm {}: `firms` lists them", firm));
+        throw AdminFault(fmt::format("the venue{} has no firm {}: `firms` lists them",
+                                     venue.empty() ? "" : " " + venue, firm));
     }
     return all;
 }

@@ -9,7 +9,8 @@ namespace gateway {
 
 namespace {
 
-// Of one venue; of several, each one's behind a line with its name.
+// Of one venue; where venues have names, behind a line with its own. What is of several is no file
+// of TOML.
 std::string told_of(Leader &leader, const std::string &firm) {
     const Config &config = leader.day().config;
     const std::string text = configuration_for_firm(config.configuration, firm);
@@ -19,10 +20,11 @@ std::string told_of(Leader &leader, const std::string &firm) {
 } // namespace
 
 AdminAnswer run_hand_out(AdminCall &call) {
+    const std::string venue = take_venue(call);
     check_words(call, 1, 1);
     OpenDay day(call.scene);
     AdminAnswer answer;
-    for (Leader *leader : day.leaders_of(call.words[0])) {
+    for (Leader *leader : day.leaders_of(call.words[0], venue)) {
         answer.said += told_of(*leader, call.words[0]);
     }
     return answer;

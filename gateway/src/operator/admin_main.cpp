@@ -53,9 +53,9 @@ COMMANDS
         One firm: when it logged on and from where, what it sent and was refused, the bytes that
         wait for it, all its limits, and how much of its day's bytes is used.
 
-    hand-out FIRM
+    hand-out FIRM [--venue NAME]
         What this firm may know of the venue: the bonds, the dealers' names, and its own limits. A
-        desk of the firm reads the file.
+        desk of the firm reads the file, which is of one venue: of several NAME says which.
 
     next-day
         Which trading day opens next and when, what is at fault in the files for it, and which firms
@@ -89,16 +89,18 @@ COMMANDS
         Takes no new request, and ends the day once none is open. With --now it ends at once, and
         the answer names the requests that get no notice. The next day opens as it is configured.
 
-    reset-session FIRM
+    reset-session FIRM [--venue NAME]
         For a firm whose engine lost its store: its numbers begin at 1 again, its next Logon has
         34=1, and what it is not known to have comes again under new numbers, marked as a copy.
+        Of a firm with a session at several venues NAME says which one's.
 
-    release FIRM
+    release FIRM [--venue NAME]
         Lets a firm whose Logons are refused for its numbers try again with them as they are.
 
-    bust TRADE --because TEXT
+    bust TRADE [--venue NAME] --because TEXT
         Voids a trade of this day by agreement of its two firms. TRADE is its name, which both have
-        in TradeID (1003). The record of the day says so; no firm is sent anything.
+        in TradeID (1003). The record of the day says so; no firm is sent anything. Where several
+        venues have a trade of this name, NAME says whose it is.
 
     limit FIRM
         All limits of a firm.

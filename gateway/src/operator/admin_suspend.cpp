@@ -13,40 +13,45 @@ namespace gateway {
 
 namespace {
 
-// Commits the act in each venue that has the firm, and has it done.
+// Commits an act about the firm at each of these venues, and has it done. It has these words.
 template <typename Commit>
-void order(AdminCall &call, const std::string &firm, const Commit &commit) {
-    OpenDay day(call.scene);
-    for (Leader *leader : day.leaders_of(firm)) {
-        commit(*leader);
+void order(const AdminCall &call, const char *word, const std::vector<Leader *> &leaders,
+           const Commit &commit) {
+    const Act act = call.act(fmt::format("{} {}", word, call.words[0]));
+    for (Leader *leader : leaders) {
+        commit(*leader, act);
         leader->carry_out_orders();
     }
 }
 
-void order_plain(AdminCall &call, const char *word) {
-    const std::string &firm = call.words[0];
-    order(call, firm, [&](Leader &leader) {
-        OpenDay::commit(leader, call.act(fmt::format("{} {}", word, firm)));
-    });
-}
-
-// With what ends that the firm has open.
-void order_with_end(AdminCall &call, const char *word) {
-    const std::string &firm = call.words[0];
-    order(call, firm, [&](Leader &leader) {
-        OpenDay::commit_with_end(leader, {firm}, call.act(fmt::format("{} {}", word, firm)));
-    });
-}
-
-void check_dealer(const FirmRow &row, const FirmEnd &end) {
+// Empty where the firm may have quotes of the trader, or any where none is named.
+std::string why_no_quotes(const FirmRow &row, const FirmEnd &end) {
     if (!row.is_dealer) {
-        throw AdminFault(fmt::format("{} is an investor, and has no quotes", end.firm));
+        return fmt::format("{} is an investor, and has no quotes", end.firm);
     }
     if (!end.trader.empty() &&
         std::find(row.traders.begin(), row.traders.end(), end.trader) == row.traders.end()) {
-        throw AdminFault(fmt::format("{} has no trader {}: its traders are {}", end.firm,
-                                     end.trader, fmt::join(row.traders, ", ")));
+        return fmt::format("{} has no trader {}: its traders are {}", end.firm, end.trader,
+                           fmt::join(row.traders, ", "));
     }
+    return {};
+}
+
+// The venues with such quotes: a firm may have other traders at each. Throws AdminFault where there
+// is none.
+std::vector<Leader *> leaders_with_quotes(OpenDay &day, const FirmEnd &end) {
+    std::vector<Leader *> all = day.leaders_of(end.firm);
+    std::string why;
+    std::erase_if(all, [&](Leader *each) {
+        const FirmRow row = firm_row(each->day().config.configuration, end.firm);
+        const std::string why_not_here = why_no_quotes(row, end);
+        why = why.empty() ? why_not_here : why;
+        return !why_not_here.empty();
+    });
+    if (all.empty()) {
+        throw AdminFault(why);
+    }
+    return all;
 }
 
 } // namespace
@@ -54,7 +59,10 @@ void check_dealer(const FirmRow &row, const FirmEnd &end) {
 AdminAnswer run_suspend(AdminCall &call) {
     check_words(call, 1, 1);
     check_reason(call, "their risk desk called");
-    order_with_end(call, "suspend");
+    OpenDay day(call.scene);
+    order(call, "suspend", day.leaders_of(call.words[0]), [&](Leader &leader, const Act &act) {
+        OpenDay::commit_with_end(leader, {call.words[0]}, act);
+    });
     return {fmt::format("{} is logged out and refused, and what it had open is taken back, until "
                         "`resume {}`",
                         call.words[0], call.words[0]),
@@ -62,7 +70,8 @@ AdminAnswer run_suspend(AdminCall &call) {
 }
 
 AdminAnswer resume_firm(AdminCall &call) {
-    order_plain(call, "resume");
+    OpenDay day(call.scene);
+    order(call, "resume", day.leaders_of(call.words[0]), OpenDay::commit);
     return {fmt::format("{} may log on again", call.words[0]), {}};
 }
 
@@ -76,12 +85,8 @@ AdminAnswer run_cancel(AdminCall &call) {
     }
     check_reason(call, "their desk has lost its connection");
     OpenDay day(call.scene);
-    const std::vector<Leader *> leaders = day.leaders_of(end.firm);
-    for (Leader *leader : leaders) {
-        check_dealer(firm_row(leader->day().config.configuration, end.firm), end);
-    }
     const std::string of_trader = end.trader.empty() ? "" : " --trader " + end.trader;
-    for (Leader *leader : leaders) {
+    for (Leader *leader : leaders_with_quotes(day, end)) {
         OpenDay::commit_with_end(*leader, end,
                                  call.act(fmt::format("cancel {}{}", end.firm, of_trader)));
     }
@@ -92,9 +97,17 @@ AdminAnswer run_cancel(AdminCall &call) {
             {}};
 }
 
+// At one venue alone: what can't be taken back leaves the firm's session at another one as it is.
 AdminAnswer run_reset_session(AdminCall &call) {
+    const std::string venue = take_venue(call);
     check_words(call, 1, 1);
-    order_plain(call, "reset-session");
+    OpenDay day(call.scene);
+    const std::vector<Leader *> found = day.leaders_of(call.words[0], venue);
+    if (found.size() > 1) {
+        throw AdminFault(fmt::format("{} has a session at several venues: say which by --venue: {}",
+                                     call.words[0], venues_of(found)));
+    }
+    order(call, "reset-session", found, OpenDay::commit);
     return {
         fmt::format("the numbers of {} begin at 1: its next Logon has 34=1, or 141=Y. What it "
                     "is not known to have comes again under new numbers, marked as a copy (97=Y)",
@@ -103,8 +116,10 @@ AdminAnswer run_reset_session(AdminCall &call) {
 }
 
 AdminAnswer run_release(AdminCall &call) {
+    const std::string venue = take_venue(call);
     check_words(call, 1, 1);
-    order_plain(call, "release");
+    OpenDay day(call.scene);
+    order(call, "release", day.leaders_of(call.words[0], venue), OpenDay::commit);
     return {fmt::format("{} may log on with its numbers as they are", call.words[0]), {}};
 }
 

@@ -195,9 +195,9 @@ void Follower::venue_gave(const AnsweredEntry &entry, std::string name, std::str
         day_.trades.add(note->name);
     }
     const std::uint32_t number = number_of(fields.number).value_or(0);
-    if (number != ++given_[name]) {
-        throw std::runtime_error(fmt::format("the venue gave {} message {} where {} was due", name,
-                                             number, given_[name]));
+    if (const std::uint32_t due = ++given_[name]; number != due) {
+        throw std::runtime_error(
+            fmt::format("the venue gave {} message {} where {} was due", name, number, due));
     }
     std::optional<std::string> told;
     if (note) {

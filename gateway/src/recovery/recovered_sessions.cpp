@@ -109,21 +109,15 @@ void RecoveredSessions::keep(const std::string &name, const SessionNoteLine &lin
     }
 }
 
-// The venue's next message.
-void RecoveredSessions::give(const std::string &name, Firm &firm) {
-    const auto given = static_cast<std::uint32_t>(firm.session.given + 1);
-    const std::uint64_t next = firm.session.day.next;
-    take_message(firm.session, spool_.hash_of_given(name, given));
-    // If its numbers are used up, nothing is kept.
-    if (firm.session.day.last_given == next) {
-        spool_.keep_given(name, static_cast<std::uint32_t>(next), given);
-    }
-}
-
+// The venue's next messages, up to the one of this number. Once the session's own numbers are used
+// up, nothing is kept.
 void RecoveredSessions::give_up_to(const std::string &name, Firm &firm, std::uint32_t number) {
-    while (firm.session.given < number) {
-        give(name, firm);
-    }
+    const auto first = static_cast<std::uint32_t>(firm.session.given + 1);
+    spool_.keep_all_given(name, first, number, [&session = firm.session](const Digest &hash) {
+        const std::uint64_t next = session.day.next;
+        take_message(session, hash);
+        return session.day.last_given == next ? static_cast<std::uint32_t>(next) : 0;
+    });
 }
 
 std::map<std::string, FirmState> RecoveredSessions::finished(const ReplaySummary &fed) {

@@ -46,7 +46,6 @@ class RecoveredSessions {
     bool may_take(const SessionNoteLine &line, const Fed &fed) const;
     void take_here(const std::string &name, Firm &firm, const SessionNoteLine &line);
     void keep(const std::string &name, const SessionNoteLine &line);
-    void give(const std::string &name, Firm &firm);
     void give_up_to(const std::string &name, Firm &firm, std::uint32_t number);
     FirmState state_of(const std::string &name, Firm &firm, const ReplaySummary &fed);
     static void count(const std::string &name, Recovered &session, const ReplaySummary::Came &came);

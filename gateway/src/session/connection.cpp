@@ -239,11 +239,11 @@ void Connection::turn() {
         return;
     }
     if (waits) {
-        conversation_.look_again();
+        look_again();
     } else {
         read();
     }
-    conversation_.serve();
+    serve(false);
     if (!admitted_ && conversation_.is_admitted()) {
         admitted_ = true;
         slot_.give_back();
@@ -255,11 +255,27 @@ void Connection::turn() {
             read();
         }
         ticked_ = Clock::now();
-        conversation_.tick(heard_until());
-        conversation_.serve();
+        serve(true);
         write();
     }
     keep_time();
+}
+
+// Its Logon is judged anew, at the moment of now.
+void Connection::look_again() {
+    const Received now = std::chrono::system_clock::now();
+    conversation_.look_again();
+    time_goes_on_from(now);
+}
+
+// What is to leave does, and first what time brings about, where it is to tick.
+void Connection::serve(bool ticks) {
+    const Received now = firms_time();
+    if (ticks) {
+        conversation_.tick(now);
+    }
+    conversation_.serve(now);
+    time_goes_on_from(now);
 }
 
 void Connection::wait(bool reads) {

@@ -25,6 +25,7 @@ namespace gateway {
 class Connection final : public Transport {
   public:
     using Clock = std::chrono::steady_clock;
+    using Received = Conversation::Received;
 
     Connection(Descriptor socket, std::string peer, const TlsServer *tls, StrangerSlot slot,
                const Sessions &sessions, const EngineSettings &settings, EngineEvents &events);
@@ -69,6 +70,8 @@ class Connection final : public Transport {
     void read();
     void hear(std::string_view said, std::size_t count);
     void hear_nothing();
+    void look_again();
+    void serve(bool ticks);
     void write();
     void ring();
     bool is_late() const;
@@ -76,7 +79,8 @@ class Connection final : public Transport {
     void linger();
     bool pass_over(std::size_t &left);
     void look_at_certificate();
-    std::chrono::system_clock::time_point heard_until() const;
+    Received firms_time() const;
+    void time_goes_on_from(Received moment);
     std::string why() const;
     bool is_own_thread() const { return std::this_thread::get_id() == owner_.load(); }
 
@@ -99,12 +103,11 @@ class Connection final : public Transport {
     bool is_blocked_ = false; // TLS has to answer before it reads on, and the peer takes nothing
     Clock::time_point progress_;
     Clock::time_point ticked_;
-    Clock::time_point reads_from_; // before it nothing is read: the firm is above its rate
-    Clock::duration held_for_{};   // in all, since nothing of it waited the last time
-    std::chrono::system_clock::time_point heard_at_; // when the last bytes were read
-    Clock::time_point taken_at_;                     // when all of them were taken
-    bool is_all_heard_ = true;                       // nothing more had come at the last look
-    std::size_t empty_records_ = 0;                  // before its Logon
+    Clock::time_point reads_from_;  // before it nothing is read: the firm is above its rate
+    Clock::duration held_for_{};    // in all, since nothing of it waited the last time
+    Received moment_{};             // of the firm's time, from which it goes on
+    Clock::time_point goes_on_;     // since then
+    std::size_t empty_records_ = 0; // before its Logon
 
     mutable std::mutex mutex_;
     std::shared_ptr<const TlsServer> renewed_; // that its certificate is to be shown to

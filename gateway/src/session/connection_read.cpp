@@ -10,8 +10,6 @@ namespace gateway {
 
 namespace {
 
-using std::chrono::milliseconds;
-
 // How much of a firm is read at once while it is held back.
 constexpr std::size_t read_while_held = 4096;
 
@@ -35,8 +33,7 @@ void Connection::read() {
     const Channel::Progress progress = channel_.read(
         bytes.data(), was_held && !comes_late ? read_while_held : bytes.size(), count);
     is_blocked_ = progress == Channel::Progress::wants_write;
-    is_all_heard_ = progress == Channel::Progress::wants_read;
-    if (is_all_heard_) {
+    if (progress == Channel::Progress::wants_read) {
         held_for_ = {};
     }
     if (progress == Channel::Progress::ended) {
@@ -50,20 +47,21 @@ void Connection::read() {
 
 // What the peer said in so many bytes that were read: nothing, perhaps.
 void Connection::hear(std::string_view said, std::size_t count) {
-    heard_at_ = std::chrono::system_clock::now();
+    const Received now = std::chrono::system_clock::now();
+    Received moment = firms_time();
     if (channel_.holds_more()) {
         // It does not show in poll().
         ring();
     }
     if (said.empty()) {
         hear_nothing();
-    } else {
-        conversation_.hear(said.data(), said.size(), heard_at_);
+    } else if (conversation_.hear(said.data(), said.size(), now)) {
+        moment = now;
     }
-    taken_at_ = Clock::now();
+    time_goes_on_from(moment);
     reads_from_ = conversation_.may_hear_from(count);
     // What this thread takes, for the log above all, is not held by the rate.
-    held_for_ += std::max(reads_from_ - taken_at_, Clock::duration(0));
+    held_for_ += std::max(reads_from_ - goes_on_, Clock::duration(0));
 }
 
 // Of a firm it counts in its rate.
@@ -74,11 +72,17 @@ void Connection::hear_nothing() {
     }
 }
 
-// Until when it is known what the firm has said. Behind bytes that were read there may be more: the
-// time that it took to log them is no silence of the firm, nor is a longer one while it is held.
-std::chrono::system_clock::time_point Connection::heard_until() const {
-    return is_all_heard_ ? std::chrono::system_clock::now()
-                         : heard_at_ + std::chrono::floor<milliseconds>(Clock::now() - taken_at_);
+// The firm's time is that of its last message, and goes on from there while this thread waits for
+// more. It stands still while the thread works for the firm: then the log may take its time,
+// nothing is read of the firm, and what it is to answer does not leave. A clock that is set is none
+// of it.
+Connection::Received Connection::firms_time() const {
+    return moment_ + std::chrono::duration_cast<Received::duration>(Clock::now() - goes_on_);
+}
+
+void Connection::time_goes_on_from(Received moment) {
+    moment_ = moment;
+    goes_on_ = Clock::now();
 }
 
 // Writes what waits, ends its own direction, and passes over what the peer still sends until that

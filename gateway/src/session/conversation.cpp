@@ -24,10 +24,10 @@ constexpr const char *held_too_long =
 Conversation::Conversation(const Sessions &sessions, EngineEvents &events, Transport &transport)
     : transport_(transport), events_(events), door_(sessions, events, transport) {}
 
-void Conversation::hear(const char *bytes, std::size_t count, Received at) {
+bool Conversation::hear(const char *bytes, std::size_t count, Received at) {
     stream_.append(bytes, count);
     at_ = at;
-    go_on();
+    return go_on();
 }
 
 void Conversation::look_again() {
@@ -42,9 +42,9 @@ std::chrono::steady_clock::time_point Conversation::may_hear_from(std::size_t by
                               : session->host().was_read(session->firm(), pieces, bytes);
 }
 
-void Conversation::serve() {
+void Conversation::serve(Received now) {
     if (is_known() && (!work_.has_more || std::chrono::steady_clock::now() >= work_.from)) {
-        work_ = door_.session()->serve(door_.connection());
+        work_ = door_.session()->serve(door_.connection(), now);
     }
 }
 
@@ -64,7 +64,7 @@ void Conversation::log_out(const char *reason) {
 
 void Conversation::tick(Received now) {
     if (is_known()) {
-        door_.session()->tick(now);
+        door_.session()->tick(door_.connection(), now);
     }
 }
 
@@ -73,7 +73,9 @@ bool Conversation::may_go_on() const {
 }
 
 // What follows a Logon in the same bytes is not looked at before the Logon has been answered.
-void Conversation::go_on() {
+// Whether a message was taken.
+bool Conversation::go_on() {
+    bool has_taken = false;
     while (may_go_on()) {
         const FoundMessage found = next_message(std::string_view(stream_).substr(begin_));
         if (found.skip > 0) {
@@ -87,6 +89,7 @@ void Conversation::go_on() {
         ++pieces_;
         const std::string_view message = std::string_view(stream_).substr(begin_, found.length);
         begin_ += found.length;
+        has_taken = true;
         take(message);
     }
     if (begin_ == stream_.size() || begin_ >= most_taken) {
@@ -99,6 +102,7 @@ void Conversation::go_on() {
                stream_.size() - begin_ > most_before_logon) {
         turn_away(stranger_words::no_logon, "a first message that is too long");
     }
+    return has_taken;
 }
 
 void Conversation::skip(std::size_t count) {
@@ -110,12 +114,13 @@ void Conversation::skip(std::size_t count) {
     }
 }
 
-// Its answer leaves before what follows is looked at.
+// Its answer leaves before what follows is looked at. The log may have taken its time for it, which
+// is no silence of the firm.
 void Conversation::take(std::string_view message) {
     if (std::exchange(is_first_, false)) {
         logon_was_judged(door_.judge(message));
     } else if (door_.session()->take(door_.connection(), message, at_)) {
-        serve();
+        serve(at_);
     }
 }
 

@@ -23,8 +23,8 @@ class Conversation {
     Conversation(const Conversation &) = delete;
     Conversation &operator=(const Conversation &) = delete;
 
-    // Bytes that were read at a moment.
-    void hear(const char *bytes, std::size_t count, Received at);
+    // Bytes that were read at a moment. Whether a message has ended with them.
+    bool hear(const char *bytes, std::size_t count, Received at);
     // Something was read in which the peer says nothing: it counts as a message does, in the rate.
     void hear_nothing() { ++pieces_; }
     // Whether a Logon waits for the firm's old connection to end. Then nothing is to be read, and
@@ -34,16 +34,15 @@ class Conversation {
     // From when on the firm may be read again, by its rate: these are the bytes that it was heard.
     std::chrono::steady_clock::time_point may_hear_from(std::size_t bytes);
     // What the session has to say leaves with the transport, once the firm's rate lets it:
-    // FirmSession::serve().
-    void serve();
+    // FirmSession::serve(). It is `now` for the firm.
+    void serve(Received now = std::chrono::system_clock::now());
     // From when on there is more to say; nothing where all is said.
     std::optional<std::chrono::steady_clock::time_point> serves_from() const;
     // The firm has sent more than it may for too long.
     void is_held_too_long();
     // Ends it for this reason, where a firm has logged on.
     void log_out(const char *reason);
-    // What time brings about; to be called each fifth of a second. Until `now` all that the firm
-    // has said was heard.
+    // What time brings about; to be called each fifth of a second. It is `now` for the firm.
     void tick(Received now = std::chrono::system_clock::now());
     // Ends a connection whose Logon was not accepted; `word` is one of stranger_words.
     void turn_away(const char *word, const std::string &text) { door_.turn_away(word, text); }
@@ -56,7 +55,7 @@ class Conversation {
     bool is_admitted() const { return is_known() && !waits_; }
 
   private:
-    void go_on();
+    bool go_on();
     bool may_go_on() const;
     void take(std::string_view message);
     void logon_was_judged(Door::Standing standing);

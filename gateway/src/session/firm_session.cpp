@@ -279,10 +279,13 @@ void FirmSession::tell(const MachineTurn &turn) {
     }
 }
 
-void FirmSession::tick(Received now) {
+void FirmSession::tick(std::uint64_t connection, Received now) {
     const std::lock_guard lock(mutex_);
-    machine_.tick(begin(now));
-    carry_out(nullptr);
+    if (machine_.has(connection)) {
+        ahead_ = std::max(now - std::chrono::system_clock::now(), Received::duration(0));
+        machine_.tick(begin(now));
+        carry_out(nullptr);
+    }
     end_parted();
 }
 

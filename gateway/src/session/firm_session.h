@@ -65,18 +65,19 @@ class FirmSession final {
     bool take(std::uint64_t connection, std::string_view message, Received at);
     // No more has come for now.
     void all_taken();
-    // Heartbeats, and what else time brings about.
-    void tick(Received now);
+    // Heartbeats, and what else time brings about, by the time of the connection that has the
+    // session: that of another one is none of it.
+    void tick(std::uint64_t connection, Received now);
     // Ends what the connection had. No call reaches its transport after it.
     void release(std::uint64_t connection, const std::string &why);
 
     // Leaves with the transport what is to leave now, as far as it is committed and the firm takes
-    // it. From when on it is to be called again, if there is more.
+    // it. From when on it is to be called again, if there is more. It is `now` for the firm.
     struct Work {
         bool has_more = false;
         Time from{};
     };
-    Work serve(std::uint64_t connection);
+    Work serve(std::uint64_t connection, Received now);
 
     // Where more follow at once, its bytes leave with theirs.
     void deliver(const Delivery &delivery, bool more_follow = false);
@@ -151,6 +152,7 @@ class FirmSession final {
     void tell(const MachineTurn &turn);
 
     // firm_session_came.cpp
+    Received logon_moment(std::uint64_t connection) const;
     Standing judge_logon(std::uint64_t connection, std::string_view logon);
     Standing refuse_before_opening(std::uint64_t connection, std::string_view logon,
                                    const NotOpen &why);
@@ -168,7 +170,7 @@ class FirmSession final {
     Time count_handed(std::size_t handed);            // takes the lock
     bool flush(std::uint64_t connection, bool waits); // takes the lock
     void wait_stored(std::unique_lock<std::mutex> &lock, std::uint64_t ticket, std::uint32_t place);
-    Step step(std::uint64_t connection); // takes the lock
+    Step step(std::uint64_t connection, Received now); // takes the lock
     Step hand(const Wanted &wanted);
     void load(std::uint64_t connection); // takes the lock
 
@@ -183,6 +185,9 @@ class FirmSession final {
     mutable std::mutex mutex_;
     Machine machine_;
     std::uint32_t moment_ = 0; // of its last event
+    // By how much the time of the connection that has the session is ahead of the clock: that was
+    // set back since the firm's last message.
+    Received::duration ahead_{};
     std::string_view message_; // that it is, empty where it is another
     LogonRate logons_;
     RefusedNumbers refused_;

@@ -50,8 +50,6 @@ FirmSession::Standing FirmSession::enter(std::uint64_t connection, Transport &tr
 
 FirmSession::Standing FirmSession::look_again(std::uint64_t connection, std::string_view logon) {
     const std::lock_guard lock(mutex_);
-    machine_.tick(begin());
-    carry_out(nullptr);
     const Wanted wanted = machine_.wants();
     if (wanted.kind == static_cast<std::uint32_t>(Want::logon) && wanted.number == connection) {
         return judge_logon(connection, logon);
@@ -64,7 +62,13 @@ FirmSession::Standing FirmSession::look_again(std::uint64_t connection, std::str
     return standing;
 }
 
-// At the moment of now: to judge a password takes its time.
+// At the moment of now: to judge a password takes its time. Where another connection has the
+// session, the two seconds in which that may say something begin, and these are of its time.
+FirmSession::Received FirmSession::logon_moment(std::uint64_t connection) const {
+    const bool is_second = !machine_.is_away() && !machine_.has(connection);
+    return std::chrono::system_clock::now() + (is_second ? ahead_ : Received::duration(0));
+}
+
 FirmSession::Standing FirmSession::judge_logon(std::uint64_t connection, std::string_view logon) {
     if (const auto why = host_.not_open(names_.firm)) {
         return refuse_before_opening(connection, logon, *why);
@@ -75,7 +79,8 @@ FirmSession::Standing FirmSession::judge_logon(std::uint64_t connection, std::st
     const bool too_often = !logons_.may_log_on(LogonRate::Time::clock::now());
     const Denial denial{0, {}, logs_on_too_often};
     const std::uint32_t expected = machine_.numbers().expected;
-    machine_.came(begin(), connection, logon, true, too_often ? &denial : nullptr);
+    machine_.came(begin(logon_moment(connection)), connection, logon, true,
+                  too_often ? &denial : nullptr);
     const auto notice = static_cast<Notice>(machine_.turn().told.notice);
     if (notice == Notice::lost_store) {
         tell_refused(visitors_[connection], refusal_words::lost_store);

@@ -21,13 +21,13 @@ constexpr std::size_t least_of_a_read = 64;
 
 } // namespace
 
-FirmSession::Work FirmSession::serve(std::uint64_t connection) {
+FirmSession::Work FirmSession::serve(std::uint64_t connection, Received now) {
     std::size_t handed = 0;
     std::size_t read = 0;
     Step done = Step::moved;
     for (std::size_t steps = 0; steps < most_steps && done != Step::idle && done != Step::held;
          ++steps) {
-        done = step(connection);
+        done = step(connection, now);
         if (done == Step::unknown) {
             load(connection);
             read += least_of_a_read;
@@ -98,7 +98,7 @@ void FirmSession::wait_stored(std::unique_lock<std::mutex> &lock, std::uint64_t 
     stored_ticket_ = std::max(stored_ticket_, ticket);
 }
 
-FirmSession::Step FirmSession::step(std::uint64_t connection) {
+FirmSession::Step FirmSession::step(std::uint64_t connection, Received now) {
     const std::lock_guard lock(mutex_);
     const SessionState &state = machine_.state();
     Visitor *const of = visitor(connection);
@@ -109,7 +109,7 @@ FirmSession::Step FirmSession::step(std::uint64_t connection) {
     const Wanted wanted = machine_.wants();
     switch (static_cast<Want>(wanted.kind)) {
     case Want::tick:
-        machine_.tick(begin());
+        machine_.tick(begin(now));
         carry_out(nullptr);
         return Step::moved;
     case Want::again:

@@ -3,6 +3,7 @@
 #include "venue/confinement.h"
 
 #include "common/descriptor.h"
+#include "venue/landlock_rules.h"
 
 #include <array>
 #include <cerrno>
@@ -35,46 +36,6 @@ namespace fs = std::filesystem;
 [[noreturn]] void fail(const char *what) {
     throw std::system_error(errno, std::generic_category(), what);
 }
-
-// What the headers of older systems lack of linux/landlock.h.
-namespace landlock {
-
-constexpr long create_ruleset = 444;
-constexpr long add_rule = 445;
-constexpr long restrict_self = 446;
-constexpr unsigned ask_version = 1;
-constexpr int path_beneath = 1;
-
-constexpr std::uint64_t execute = 1U << 0;
-constexpr std::uint64_t write_file = 1U << 1;
-constexpr std::uint64_t read_file = 1U << 2;
-constexpr std::uint64_t read_dir = 1U << 3;
-
-struct Ruleset {
-    std::uint64_t files = 0;
-    std::uint64_t network = 0;
-    std::uint64_t scopes = 0;
-};
-
-struct [[gnu::packed]] Beneath {
-    std::uint64_t allowed = 0;
-    std::int32_t folder = -1;
-};
-
-// All that a kernel of this version can forbid, and how long what it reads of that is.
-std::pair<Ruleset, std::size_t> all_of(long version) {
-    Ruleset rules;
-    rules.files = (1U << 13) - 1;
-    rules.files |= version >= 2 ? 1U << 13 : 0; // to move files between folders
-    rules.files |= version >= 3 ? 1U << 14 : 0; // to cut them
-    rules.files |= version >= 5 ? 1U << 15 : 0; // to control devices
-    rules.network = version >= 4 ? 3 : 0;       // to bind, to connect
-    rules.scopes = version >= 6 ? 3 : 0;        // abstract sockets, signals
-    const std::size_t words = version >= 6 ? 3 : version >= 4 ? 2 : 1;
-    return {rules, words * sizeof(std::uint64_t)};
-}
-
-} // namespace landlock
 
 // The file of a program, as it is looked up in PATH; empty where there is none.
 fs::path find_program(const std::string &word) {

@@ -82,14 +82,14 @@ std::vector<LoggedEntry> Feeder::next_entries(ReconnectingReader &reader) {
     return entries;
 }
 
-std::string Feeder::lines_of(const std::vector<LoggedEntry> &entries) {
+std::string Feeder::lines_of(std::vector<LoggedEntry> entries) {
     std::string lines;
     for (const LoggedEntry &logged : entries) {
         lines.append(logged.entry.line).append("\n");
     }
     next_ = entries.back().entry.place + 1;
     before_ = entries.back().entry.hash;
-    feeding_(entries);
+    feeding_(std::move(entries));
     return lines;
 }
 

@@ -26,8 +26,8 @@ class Feeder final : private EntryFeed::Reader {
         EntryFeed &feed;
         Digest first_hash{}; // of place 0
     };
-    // Told of entries before they are written.
-    using Feeding = std::function<void(const std::vector<LoggedEntry> &)>;
+    // Given entries before they are written.
+    using Feeding = std::function<void(std::vector<LoggedEntry>)>;
 
     // head is what stands in front of the first entry.
     Feeder(Process &process, const Log &log, std::string head, Feeding feeding);
@@ -48,7 +48,7 @@ class Feeder final : private EntryFeed::Reader {
     bool wait_for_entries(const std::stop_token &stop);
     std::vector<LoggedEntry> next_entries(ReconnectingReader &reader);
     // The lines of the entries, which are fed from now on.
-    std::string lines_of(const std::vector<LoggedEntry> &entries);
+    std::string lines_of(std::vector<LoggedEntry> entries);
 
     // EntryFeed::Reader
     void entries_came(const std::vector<LoggedEntry> &entries) override;

@@ -140,7 +140,7 @@ std::exception_ptr Venue::serve(Process &process, const std::stop_token &stop) {
     const std::jthread errors([&] { listen_to_errors(process); });
     try {
         Feeder feeder(process, log_, settings_.configuration + "%%\n#\n",
-                      [this](const std::vector<LoggedEntry> &entries) { note_fed(entries); });
+                      [this](std::vector<LoggedEntry> entries) { note_fed(std::move(entries)); });
         const std::stop_callback forward(stop, [&] { feeder.stop(); });
         const std::exception_ptr fault = read_all(process);
         feeder.stop();
@@ -169,16 +169,16 @@ std::exception_ptr Venue::read_all(Process &process) {
     }
 }
 
-void Venue::note_fed(const std::vector<LoggedEntry> &entries) {
+void Venue::note_fed(std::vector<LoggedEntry> entries) {
     const std::lock_guard lock(mutex_);
-    for (const LoggedEntry &logged : entries) {
+    for (LoggedEntry &logged : entries) {
+        replay_summary_.add(logged.entry);
         fed_.push_back({{logged.entry.place,
                          logged.entry.number.value_or(0),
                          moment_of(logged.entry.moment).value_or(Moment{}),
                          {}},
-                        logged.entry.line,
+                        std::move(logged.entry.line),
                         logged.received});
-        replay_summary_.add(logged.entry);
     }
 }
 
@@ -297,7 +297,7 @@ std::optional<Venue::Fed> Venue::take_fed() {
     if (fed_.empty()) {
         return std::nullopt;
     }
-    const Fed entry = fed_.front();
+    std::optional<Fed> entry(std::move(fed_.front()));
     fed_.pop_front();
     return entry;
 }

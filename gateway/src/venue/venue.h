@@ -115,7 +115,7 @@ class Venue {
     std::string run_once(std::stop_token stop);
     std::exception_ptr serve(Process &process, const std::stop_token &stop);
     void set_running(Process *process);
-    void note_fed(const std::vector<LoggedEntry> &entries);
+    void note_fed(std::vector<LoggedEntry> entries);
     std::exception_ptr read_all(Process &process);
     void read(Process &process);
     void take_line(std::string_view line);
