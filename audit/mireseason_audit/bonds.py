@@ -1,17 +1,19 @@
 """The bonds of a day, as its configuration has them.
 
 A row may have `name`, `isin`, `currency` (three capital letters) and `quoted` ("32nds" or
-"decimals"), which the venue's program ignores. A bond without `quoted` is shown in decimals.
+"decimals"), which the venue's program ignores. A bond without `quoted` is shown in decimals. In
+version 3 it may have a band, `low` and `high`.
 """
 
 import re
 from collections.abc import Mapping
-from dataclasses import dataclass
+from dataclasses import dataclass, replace
 
 from bounded_toml import table_of
 
 from .faults import Wrong
 from .frame import printable
+from .prices import Band, Price
 from .records import Day
 
 BOND = re.compile(r"[A-Z0-9]{12}")
@@ -29,6 +31,7 @@ class Bond:
     in_32nds: bool = False
     name: str = ""
     isin: str = ""
+    band: Band | None = None
 
     @property
     def words(self) -> str:
@@ -43,9 +46,23 @@ class Bond:
 
 def bonds_of(day: Day) -> dict[str, Bond]:
     """The bonds by their identifiers, in the order of the rows."""
-    rows = table_of(day.configuration).get("bond", [])
-    bonds = [bond_of(row) for row in rows if isinstance(row, dict)]
+    table = table_of(day.configuration)
+    rows = [row for row in table.get("bond", []) if isinstance(row, dict)]
+    bonds = [replace(bond_of(row), band=band_of(row, table.get("version"))) for row in rows]
     return {bond.id: bond for bond in bonds}
+
+
+def band_of(row: Mapping[str, object], version: object) -> Band | None:
+    """The ends of a bond's band; None before version 3, and where it has none."""
+    low, high = row.get("low"), row.get("high")
+    if version != 3 or (low is None and high is None):
+        return None
+    if not isinstance(low, str) or not isinstance(high, str):
+        raise Wrong("entry 0: bond %s has a band without two texts" % row.get("id"))
+    band = Band(Price(low), Price(high))
+    if band.low.ticks is None or band.high.ticks is None:
+        raise Wrong("entry 0: bond %s has a band from %r to %r" % (row.get("id"), low, high))
+    return band
 
 
 def bond_of(row: Mapping[str, object]) -> Bond:

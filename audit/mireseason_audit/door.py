@@ -63,7 +63,7 @@ class DoorReader:
     def take(self, entry: Entry) -> None:
         """The next entry, and first the events before it."""
         while self._next is not None and self._next.entry < entry.place:
-            self._take_event(self._next, entry.moment)
+            self._take_event(self._next)
             self._next = next(self._events, None)
         self._take_entry(entry)
         self._moment, self._place = entry.moment, entry.place
@@ -75,7 +75,7 @@ class DoorReader:
             if event.entry > self._place:
                 text = "it stands after entry %d, and the last one is %d"
                 self._tell_event("behind", event, text % (event.entry, self._place))
-            self._take_event(event, "")
+            self._take_event(event)
             self._next = next(self._events, None)
         return self.found
 
@@ -146,10 +146,9 @@ class DoorReader:
 
     # ------------------------------------------------------------ events
 
-    def _take_event(self, event: ConnectionEvent, next_moment: str) -> None:
-        """An event; next_moment is that of the entry behind it, if there is one."""
+    def _take_event(self, event: ConnectionEvent) -> None:
         self._check_order(event)
-        self._check_times(event, next_moment)
+        self._check_times(event)
         self._check_columns(event)
         self._follow(event)
         found = self.found
@@ -178,8 +177,10 @@ class DoorReader:
             text = "its term %d is before %d, that of the row before it"
             self._tell_event("term", event, text % (event.term, before.term))
 
-    def _check_times(self, event: ConnectionEvent, next_moment: str) -> None:
-        """Events and entries have one clock, which never falls."""
+    def _check_times(self, event: ConnectionEvent) -> None:
+        """An event is not before an event or an entry in front of it. The entry behind it may have an
+        earlier moment: that of its receipt, since when it has waited for its turn.
+        """
         before = "" if self._before is None else self._before.moment
         if not EXACT.fullmatch(event.moment):
             self._tell_event("exact", event, "its moment %s is no time" % event.moment)
@@ -190,9 +191,6 @@ class DoorReader:
             text = "its moment %s is before %s, that of entry %d, after which it stands"
             words = text % (event.moment, self._moment, event.entry)
             self._tell_event("moment of entry", event, words)
-        elif next_moment and event.moment[:MILLISECOND] > next_moment:
-            text = "its moment %s is after %s, that of the entry after it"
-            self._tell_event("moment behind", event, text % (event.moment, next_moment))
 
     def _check_columns(self, event: ConnectionEvent) -> None:
         """Which columns each event has."""

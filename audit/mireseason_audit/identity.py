@@ -98,7 +98,8 @@ def speakers_of(day: Day, terms: list[tuple[int, int]], notes: list[Speaker]) ->
     """Each gateway that wrote: entry 0 says who began, a note each start and each take-over; of a
     term without one only its first entry is known.
     """
-    first = Speaker(0, terms[0][1] if terms else 0, "", day.gateway)
+    began = next((term for _, term in terms), 0)
+    first = Speaker(0, began, "", day.gateway)
     named = {one.term for one in notes} | {first.term}
     unnamed = [Speaker(place, term, "", "") for place, term in terms if term not in named]
     return sorted([first, *notes, *unnamed], key=lambda one: one.place)

@@ -52,12 +52,32 @@ class Price:
 
     def moved(self, thirty_seconds: int) -> str:
         """The price so many 32nds higher, as it is written in a message."""
-        value = (self.decimal or Decimal(0)) + Decimal(thirty_seconds) / 32
-        text = format(value, "f")
-        return text.rstrip("0").rstrip(".") if "." in text else text
+        return spelled((self.decimal or Decimal(0)) + Decimal(thirty_seconds) / 32)
 
     def __str__(self) -> str:
         return self.text
+
+
+@dataclass(frozen=True)
+class Band:
+    """The prices that a bond may have, both ends among them."""
+
+    low: Price
+    high: Price
+
+    def moved(self, price: Price, thirty_seconds: int) -> Price | None:
+        """The price so many 32nds higher, or the end of the band before that; None for one outside it."""
+        value, low, high = price.decimal, self.low.decimal, self.high.decimal
+        if value is None or low is None or high is None or not low <= value <= high:
+            return None
+        after = min(max(value + Decimal(thirty_seconds) / 32, low), high)
+        return Price(spelled(after))
+
+
+def spelled(value: Decimal) -> str:
+    """A price as a message has it."""
+    text = format(value, "f")
+    return text.rstrip("0").rstrip(".") if "." in text else text
 
 
 @lru_cache(maxsize=4096)

@@ -2,10 +2,11 @@
 messages.
 """
 
-from collections.abc import Callable
+from collections.abc import Callable, Mapping
 from dataclasses import dataclass, field
 from pathlib import Path
 
+from .bonds import Bond, bonds_of
 from .frame import Fields, fault_of, framed, text_of
 from .lines import Came, came_of
 from .log import Log
@@ -14,7 +15,7 @@ from .records import Day
 from .requests import Request
 from .streams import blocks_of
 
-BID, OFFER, SEQ_NUM, QUOTE = 132, 133, 34, 117
+BID, OFFER, SEQ_NUM, QUOTE, BOND = 132, 133, 34, 117, 48
 
 
 @dataclass(frozen=True)
@@ -42,20 +43,22 @@ class MovedDay:
 
         Lines without the part, in small hexadecimal digits, are left as they are.
         """
+        bonds = bonds_of(day)
         with path.open("wb", buffering=1 << 20) as file:
             file.write(day.head)
             for entry in log.entries():
                 if entry.place > 0:
                     line = entry.line
-                    moved = self._line(entry.place, line, move) if is_with(line, part) else line
-                    file.write(moved + b"\n")
+                    if is_with(line, part):
+                        line = self._line(entry.place, line, move, bonds)
+                    file.write(line + b"\n")
 
-    def _line(self, place: int, line: bytes, move: Move) -> bytes:
+    def _line(self, place: int, line: bytes, move: Move, bonds: Mapping[str, Bond]) -> bytes:
         came = came_of(line)
         if came is None or not is_whole(came) or text_of(came.fields, 35) != "S":
             return line
         by = move(place, came)
-        changed = moved_fields(came.fields, by) if by else None
+        changed = moved_fields(came.fields, by, bonds) if by else None
         if changed is None:
             return line
         fields, before, after = changed
@@ -91,12 +94,17 @@ def body_of(fields: Fields) -> Fields:
     return Fields(pair for pair in fields if pair[0] not in (8, 9, 10))
 
 
-def moved_fields(fields: Fields, by: int) -> tuple[Fields, Price, Price] | None:
-    """The body with its price moved; None where it has no price that can be moved."""
+def moved_fields(
+    fields: Fields, by: int, bonds: Mapping[str, Bond]
+) -> tuple[Fields, Price, Price] | None:
+    """The body with its price moved, within its bond's band; None where no price can be moved."""
     for at, (tag, value) in enumerate(fields):
         price = Price(value.decode("ascii", "replace"))
         if tag in (BID, OFFER) and price.ticks is not None:
-            after = Price(price.moved(by))
+            bond = bonds.get(text_of(fields, BOND))
+            after = bond.band.moved(price, by) if bond and bond.band else Price(price.moved(by))
+            if after is None or after.decimal == price.decimal:
+                return None
             changed = Fields([*fields[:at], (tag, after.text.encode()), *fields[at + 1 :]])
             return body_of(changed), price, after
     return None

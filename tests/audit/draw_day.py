@@ -31,6 +31,7 @@ MIDDLES = {
     "US912810TM09": 87.75,
     "US912810SX72": 73.0,
 }
+BANDED = ("US91282CBB27", "US912810SX72")  # half a point to each side of the middle
 ALL_DEALERS = {
     "ALPHA": ("AL1", "AL2"),
     "BRAVO": ("BR1",),
@@ -66,10 +67,12 @@ def first_of(table: dict[str, tuple[str, ...]], count: int) -> dict[str, tuple[s
 
 
 def configuration(firms: Firms) -> bytes:
-    text = 'version = 2\ndate = "%s"\n' % DATE
+    text = 'version = 3\ndate = "%s"\n' % DATE
     more = itertools.chain(firms.currencies, itertools.repeat(""))
     for (bond, grid), currency in zip(BONDS.items(), more):
         text += '\n[[bond]]\nid = "%s"\ngrid = %d\n' % (bond, grid)
+        if bond in BANDED:
+            text += 'low = "%s"\nhigh = "%s"\n' % (MIDDLES[bond] - 0.5, MIDDLES[bond] + 0.5)
         if currency:
             text += 'currency = "%s"\n' % currency
         if firms.in_32nds:
@@ -355,7 +358,8 @@ class Market:
     def quote(self, request: Request, dealer: str, spoilt: bool = False) -> None:
         draw, grid = self.draw, BONDS[request.bond]
         away = draw.randrange(0, 9) / grid * (1 if request.buys else -1)
-        price = MIDDLES[request.bond] + away + (0.001 if spoilt else 0)
+        wrong = 1 if request.bond in BANDED else 0.001  # outside the band, or off the grid
+        price = MIDDLES[request.bond] + away + (wrong if spoilt else 0)
         name = "%s%d" % (dealer[0].lower(), next(self.names))
         body = [("117", name), ("131", request.shown[dealer]), ("48", request.bond), ("22", "4")]
         body.append(("133" if request.buys else "132", ("%.8f" % price).rstrip("0").rstrip(".")))

@@ -6,11 +6,13 @@ from pathlib import Path
 
 import pytest
 from mireseason_audit.certificates import Second, chosen, movers, second_for
-from mireseason_audit.check import dealt
+from mireseason_audit.check import dealt, epoch_findings, once_each, target_findings
 from mireseason_audit.command import check_whole
 from mireseason_audit.facts import QuoteFact, RequestFact
 from mireseason_audit.faults import Unreadable
+from mireseason_audit.findings import Finding
 from mireseason_audit.frame import fields_of
+from mireseason_audit.identity import Identity
 from mireseason_audit.looks import listed
 from mireseason_audit.order_events import (
     NEW,
@@ -24,6 +26,7 @@ from mireseason_audit.request_lists import lists_of
 from mireseason_audit.requests import Request
 from mireseason_audit.sqlite_log import SqliteSource
 from mireseason_audit.statistics import Spread
+from mireseason_audit.verdict import Verdict
 
 from tests.audit.common import DAY
 
@@ -268,6 +271,78 @@ def test_firms_in_groups() -> None:
     """As many as there are processors, at the most; the first firms each in another one."""
     assert dealt(["a", "b", "c"], 2) == [("a", "c"), ("b",)]
     assert dealt(["a", "b"], 4) == [("a",), ("b",)]
+
+
+# ------------------------------------------------------------ findings
+
+
+def test_resets_that_no_operator_ordered() -> None:
+    """A session says how often it was reset, and each time is an act in the log: more than that is told, and less is still to come."""
+    found = epoch_findings(
+        {"INV1": 3, "DLR1": 1, "DLR2": 2, "DLR3": 0}, {"DLR1": 1, "DLR2": 1, "DLR3": 4}
+    )
+    assert [(one.where, one.text) for one in found] == [
+        ("DLR2", "its session says 2 resets, and the log has 1"),
+        ("INV1", "its session says 3 resets, and the log has 0"),
+    ]
+    (one,) = epoch_findings({"DLR1": 1}, {})
+    assert one.text == "its session says 1 reset, and the log has 0"
+    assert one.items == ("sessions",)
+
+
+def test_what_a_session_expects() -> None:
+    """A number behind the last that came; where it is not, the entry of that is named."""
+    numbers = {"INV1": (7, 40), "DLR2": (3, 9), "DLR1": (5, 12)}
+    found = target_findings({"DLR1": 6, "DLR2": 3, "DLR3": 1}, numbers)
+    assert [(one.where, one.place, one.text) for one in found] == [
+        ("DLR2", 9, "its session expects number 3, and number 3 came"),
+        ("INV1", 40, "its session expects number none, and number 7 came"),
+    ]
+
+
+def test_one_thing_that_several_jobs_find() -> None:
+    """It is told once, with its place where one of them knows it, and belongs to what each of them says."""
+    at, messages = "DLR1", {"given": b"a", "found": b"b"}
+    first = Finding(at, "x", None, 3, **messages, named_items=("messages",))  # type: ignore[arg-type]
+    placed = Finding(at, "y", 9, 3, **messages, named_items=("sessions",))  # type: ignore[arg-type]
+    later = Finding(at, "z", 8, 3, **messages, named_items=("messages",))  # type: ignore[arg-type]
+    (told,) = once_each([first, placed, later])
+    assert (told.text, told.place, told.items) == ("y", 9, ("messages", "sessions"))
+    others = [
+        Finding("DLR2", "x", None, 3, b"a", b"b"),
+        Finding(at, "x", None, 4, b"a", b"b"),
+        Finding(at, "x", None, 3, b"c", b"b"),
+        Finding(at, "x", None, 3, b"a"),
+        Finding("entries", "x", 4),
+        Finding("entries", "x", 5),
+        Finding("entries", "y", 5),
+    ]
+    assert [one.text for one in once_each([first, *others, *others])] == [
+        "x",
+        *(one.text for one in others),
+    ]
+
+
+def test_the_first_finding() -> None:
+    """That of the lowest place; those without a place count where no other has one."""
+    with SqliteSource(DAY).open() as log:
+        day = log.day()
+    verdict = Verdict("day.db", day, Identity(day, {}), True)
+    assert verdict.first is None
+    nowhere, other = Finding("tables", "a"), Finding("tables", "b")
+    late, early = Finding("entries", "c", 9), Finding("entries", "d", 0)
+    for findings, first in (
+        ([nowhere, late, early], early),
+        ([nowhere, late], late),
+        ([nowhere, other], nowhere),
+    ):
+        verdict.findings = findings
+        assert verdict.first is first
+    verdict.findings = [nowhere, late]
+    words = "2 things are not as they should be, the first at entry 9; found wrong: entries, tables"
+    assert verdict.words == words
+    verdict.findings = [nowhere]
+    assert verdict.words == "1 thing is not as it should be; found wrong: tables"
 
 
 def test_what_is_no_field() -> None:

@@ -196,12 +196,6 @@ class Doors(unittest.TestCase):
                 "row 4: its moment 09:00:01.999999 is before"
                 " 09:00:02.000, that of entry 3, after which it stands",
             ),
-            (
-                3,
-                {"moment": "09:00:02.001000"},
-                "row 3: its moment 09:00:02.001000 is after"
-                " 09:00:02.000, that of the entry after it",
-            ),
             (3, {"moment": "9:00"}, "row 3: its moment 9:00 is no time"),
             (4, {"entry": 1}, "row 4: it stands after entry 1, and the row before it after 2"),
             (8, {"entry": 6}, "row 8: it stands after entry 6, and the last one is 5"),
@@ -244,6 +238,15 @@ class Doors(unittest.TestCase):
             if place < 8 and "place" not in columns:
                 follows = "door: row %d: it does not follow on the row before it, as that is now"
                 self.assertIn(follows % (place + 1), log.texts())
+
+    def test_a_message_that_waited(self) -> None:
+        """It was received before a Logon of another firm, and had its turn at the log behind that:
+        the venue takes it at its receipt.
+        """
+        log = Log().entry("09:00:00.000000").event("09:00:00.000500", "logon")
+        log.event("09:00:02.000000", "logon", number=2, firm="INV1")
+        log.entry("09:00:01.000001", "DLR1", 1).entry("09:00:02.000100", "INV1", 2)
+        self.assertEqual(log.texts(), [])
 
     def test_a_logon_that_is_taken_out(self) -> None:
         log = whole()

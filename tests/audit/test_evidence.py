@@ -9,15 +9,21 @@ from collections.abc import Iterator
 from contextlib import closing
 from datetime import date
 from pathlib import Path
+from typing import cast
 
 import pytest
+from mireseason_audit import outside
+from mireseason_audit.chain import misnumbered
 from mireseason_audit.checkpoints import is_over, numbered
+from mireseason_audit.evidence import with_loss
 from mireseason_audit.faults import Unreadable, Wrong
+from mireseason_audit.findings import Finding
 from mireseason_audit.identity import Asked, Identity, speakers_of
+from mireseason_audit.log import Log as AnyLog
 from mireseason_audit.notes import speaker_of
 from mireseason_audit.outside import compared, missing_rows, read_outside
 from mireseason_audit.proved import proved_programs
-from mireseason_audit.records import Checkpoint, Entry
+from mireseason_audit.records import Checkpoint, Entry, SealRow
 from mireseason_audit.sqlite_log import SqliteSource
 
 from tests.audit import ledger
@@ -232,6 +238,38 @@ def test_checkpoints_in_lines(day: Day, tmp_path: Path) -> None:
     assert "has no checkpoint of this log" in finding.text
 
 
+def test_a_checkpoint_of_another_venue(day: Day, tmp_path: Path) -> None:
+    """A gateway signs one for each of its venues: that of another one says nothing of this log."""
+    other = tmp_path / "other.checkpoint"
+    other.write_text(day.kept.read_text().replace("\nvenue -\n", "\nvenue LDN\n"))
+    with SqliteSource(day.log).open() as log:
+        (finding,) = compared(log, log.day(), read_outside(other))
+        own = [*read_outside(day.kept), *read_outside(other)]
+        assert list(compared(log, log.day(), own)) == []
+    assert finding.text == "other.checkpoint has no checkpoint of this log"
+
+
+def test_a_loss_that_an_operator_accepted(day: Day) -> None:
+    """What is missing is told all the same, with who gave it up, when, and why."""
+    lines = [
+        b'# act 10:00:00.000 op(7) log accept-loss because="the disk is gone"',
+        b'# act 10:00:01.000 op(7) halt because="log accept-loss"',
+        b'# act 10:00:02.000 pat(8) log accept-loss because="and once more"',
+    ]
+    entries = [note_entry(place, 1, line) for place, line in enumerate(lines, 5)]
+    entries.append(entries[0]._replace(place=8, firm="DLR1"))
+
+    class Log:
+        def entries(self) -> Iterator[Entry]:
+            return iter(entries)
+
+    (one,) = with_loss(cast(AnyLog, Log()), [Finding("entries", "its end was cut off", 3)])
+    assert one.place == 3 and one.text == (
+        'its end was cut off; entry 5: op(7) accepted the loss of a log\'s end, because "the disk is gone"'
+        '; entry 7: pat(8) accepted the loss of a log\'s end, because "and once more"'
+    )
+
+
 @pytest.mark.parametrize(
     "old, new, told",
     [
@@ -256,6 +294,35 @@ def test_no_checkpoint(tmp_path: Path, text: str) -> None:
     path.write_text(text)
     with pytest.raises(Wrong):
         read_outside(path)
+
+
+def test_a_file_of_checkpoints_that_is_too_long(
+    tmp_path: Path, monkeypatch: pytest.MonkeyPatch
+) -> None:
+    monkeypatch.setattr(outside, "LONGEST", 99)
+    path = tmp_path / "long.checkpoint"
+    path.write_text("x" * 100)
+    with pytest.raises(Unreadable, match="long.checkpoint is longer than 99 bytes$"):
+        read_outside(path)
+    path.write_text("x" * 99)
+    with pytest.raises(Wrong, match="long.checkpoint is no checkpoint of a gateway$"):
+        read_outside(path)
+
+
+# Of each seal its number, and the last entry and the last row of connections then.
+SEALS: list[tuple[list[tuple[int, int, int]], str]] = [
+    ([(1, 4, 0), (2, 4, 0), (3, 9, 0), (4, 9, 3)], ""),
+    ([(2, 4, 0)], "seal 1 is missing: in its place comes 2"),
+    ([(1, 4, 0), (3, 9, 0)], "seal 2 is missing: in its place comes 3"),
+    ([(1, 9, 3), (2, 8, 3)], "seal 2 is of less than the one before"),
+    ([(1, 9, 3), (2, 9, 2)], "seal 2 is of less than the one before"),
+]
+
+
+@pytest.mark.parametrize("rows, told", SEALS, ids=[told for _, told in SEALS])
+def test_numbers_of_seals(rows: list[tuple[int, int, int]], told: str) -> None:
+    found = misnumbered((SealRow(*row) for row in rows), has_notes=False)
+    assert [one.text for one in found] == ([told] if told else [])
 
 
 def checkpoints(numbers: list[int], ended: int) -> Iterator[Checkpoint]:

@@ -15,6 +15,7 @@ from mireseason_audit.differing import differing
 from mireseason_audit.evidence import Evidence
 from mireseason_audit.faults import Wrong
 from mireseason_audit.identity import Asked
+from mireseason_audit.items import checks_text
 from mireseason_audit.jobs import Files
 from mireseason_audit.outside import read_outside
 from mireseason_audit.progress import Progress
@@ -199,6 +200,12 @@ def test_an_empty_log_that_was_signed_before(day: Day, tmp_path: Path, evidence:
     ran = day.check()
     assert ran.status == 1
     assert ran.out.endswith("day it is of; nothing else of the log was judged\n"), ran.text
+
+
+def test_what_is_looked_at_fits_a_terminal() -> None:
+    """Each line of the help; a longer one would break there."""
+    widths = [len(line) for line in checks_text().splitlines()]
+    assert 76 < max(widths) <= 80
 
 
 def test_which_fields_differ() -> None:

@@ -9,16 +9,25 @@ from pathlib import Path
 from unittest import mock
 
 from mireseason_audit import pair_command, work
+from mireseason_audit.bonds import Bond, bonds_of
 from mireseason_audit.dictionary import read_dictionary
 from mireseason_audit.facts import quantity_in
-from mireseason_audit.faults import Unreadable
-from mireseason_audit.frame import barred, fault_of, fields_of, framed, number_in, sum_of
+from mireseason_audit.faults import Unreadable, Wrong
+from mireseason_audit.frame import (
+    barred,
+    fault_of,
+    fields_of,
+    framed,
+    number_in,
+    sum_of,
+    text_of,
+)
 from mireseason_audit.jobs import due_texts, held, is_head
 from mireseason_audit.lines import came_of, firm_and_time
 from mireseason_audit.arguments import connection_of, source_of
 from mireseason_audit.main import parser_of
 from mireseason_audit.pair import Compared, Differences, compared_by, difference_words, differences
-from mireseason_audit.prices import Price
+from mireseason_audit.prices import Band, Price
 from mireseason_audit.progress import Progress
 from mireseason_audit.reading import Reader
 from mireseason_audit.records import Sent, configured
@@ -109,14 +118,54 @@ class Prices(unittest.TestCase):
         self.assertEqual(Price("100").moved(-32), "99")
 
     def test_a_moved_quote_is_a_frame_with_another_price_alone(self) -> None:
-        changed = moved_fields(fields_of(soh(QUOTE)), 32)
+        changed = moved_fields(fields_of(soh(QUOTE)), 32, {})
         assert changed is not None
         fields, before, after = changed
         self.assertEqual((before.text, after.text), ("99.50390625", "100.50390625"))
         self.assertIsNone(fault_of(framed(fields)))
         same = [pair for pair in fields_of(soh(QUOTE))[2:-1] if pair[0] != 133]
         self.assertEqual([pair for pair in fields if pair[0] != 133], same)
-        self.assertIsNone(moved_fields(fields_of(soh(ACCEPTED)), 32))
+        self.assertIsNone(moved_fields(fields_of(soh(ACCEPTED)), 32, {}))
+
+    def test_a_price_is_moved_up_to_an_end_of_its_bonds_band(self) -> None:
+        band = Band(Price("99"), Price("0100.50"))
+        for by, expected in (
+            (1, "99.53515625"),
+            (31, "100.47265625"),
+            (32, "100.5"),
+            (64, "100.5"),
+        ):
+            self.assertEqual(band.moved(Price("99.50390625"), by), Price(expected))
+        self.assertEqual(band.moved(Price("99.50390625"), -32), Price("99"))
+        for outside in ("98.99609375", "100.50390625", "-99.5", "x"):
+            self.assertIsNone(band.moved(Price(outside), 1), outside)
+        fields, wide = fields_of(soh(QUOTE)), Band(Price("90"), Price("110"))
+        for ends, expected in ((band, "100.5"), (wide, "101.50390625")):
+            moved = moved_fields(fields, 64, {text_of(fields, 48): Bond("B", band=ends)})
+            self.assertEqual(moved and moved[2].text, expected)
+        narrow = Band(Price("99.50390625"), Price("99.50390625"))
+        self.assertIsNone(moved_fields(fields, 64, {text_of(fields, 48): Bond("B", band=narrow)}))
+
+
+class Bands(unittest.TestCase):
+    @staticmethod
+    def band_in(version: int, ends: str) -> Band | None:
+        text = 'version = %d\ndate = "20250314"\n[[bond]]\nid = "BONDA0000001"\ngrid = 256\n%s'
+        day = configured("1", "", (text % (version, ends)).encode())
+        return bonds_of(day)["BONDA0000001"].band
+
+    def test_a_band_is_one_of_version_3(self) -> None:
+        ends = 'low = "95.5"\nhigh = "105"\n'
+        self.assertEqual(self.band_in(3, ends), Band(Price("95.5"), Price("105")))
+        for version in (1, 2):
+            self.assertIsNone(self.band_in(version, ends))
+            self.assertIsNone(self.band_in(version, "low = 5\n"))
+        self.assertIsNone(self.band_in(3, ""))
+
+    def test_a_band_that_no_venue_takes(self) -> None:
+        for ends in ('low = "99"', "low = 99\nhigh = 100", 'low = "99"\nhigh = "x"'):
+            with self.assertRaisesRegex(Wrong, "bond BONDA0000001 has a band"):
+                self.band_in(3, ends)
 
 
 class Quantities(unittest.TestCase):
@@ -346,6 +395,7 @@ class Pairs(unittest.TestCase):
         self.assertTrue(Compared(("row equal", "due equal", "messages equal")).holds)
         self.assertTrue(Compared(("row equal", "due differs at 3", "messages differ at 2")).holds)
         self.assertFalse(Compared(("row equal", "due equal", "messages differ at 2")).holds)
+        self.assertTrue(Compared(("row differs", "due equal", "messages differ at 2")).holds)
 
 
 class Processes(unittest.TestCase):

@@ -270,12 +270,12 @@ def test_words_that_are_none(words: list[str], told: str) -> None:
 
 
 def test_two_at_one_time(tmp_path: Path) -> None:
-    """Two processes append to one file, and no line comes into another."""
+    """Two processes append to one file, and no line comes into another. The venue is the gateway's only one, so it has no name."""
     day = today_text()
-    lines = in_a_row(200, day, "LDN")
+    lines = in_a_row(200, day)
     key = tmp_path / "gateway.pub"
     key.write_bytes(ledger.public_key())
-    words = [str(AUDIT), "receive", str(tmp_path), "--gateway-key", str(key), "--venue-name", "LDN"]
+    words = [str(AUDIT), "receive", str(tmp_path), "--gateway-key", str(key)]
     both = [subprocess.Popen(words, stdin=subprocess.PIPE) for _ in range(2)]
     for at, line in enumerate(lines):
         for each in both if at % 3 == 0 else both[at % 2 : at % 2 + 1]:
@@ -286,7 +286,7 @@ def test_two_at_one_time(tmp_path: Path) -> None:
         assert each.stdin is not None
         each.stdin.close()
         assert each.wait() == 0
-    kept = (tmp_path / ("LDN-%s.checkpoints" % day)).read_bytes().splitlines(keepends=True)
+    kept = (tmp_path / ("day-%s.checkpoints" % day)).read_bytes().splitlines(keepends=True)
     assert sorted(kept) == sorted(lines)
     assert not (tmp_path / "told").exists()
 

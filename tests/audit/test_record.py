@@ -13,9 +13,9 @@ from mireseason_audit.faults import Wrong
 from mireseason_audit.findings import Finding
 from mireseason_audit.frame import fault_of, fields_of, framed
 from mireseason_audit.identity import Identity
-from mireseason_audit.records import Entry, Messages, Outgoing, Sent, configured, day_of
+from mireseason_audit.records import Entry, Kept, Messages, Outgoing, Sent, configured, day_of
 from mireseason_audit.report import report
-from mireseason_audit.seal import Sealed, compared, first_of, read_seal, write_seal
+from mireseason_audit.seal import Sealed, compared, digest, first_of, read_seal, write_seal
 from mireseason_audit.verdict import Verdict
 from mireseason_audit.wire import WireReader, carried, header_fault, parts_of
 
@@ -411,6 +411,31 @@ class Seals(unittest.TestCase):
         for count in range(7):
             taken = [row for block in first_of(blocks, count) for row in zip(*block)]
             self.assertEqual(taken, rows[:count])
+
+    def test_what_a_digest_is_of(self) -> None:
+        """How many messages, and the SHA-256 of all that is kept of each, however they are read in blocks. Another form would speak
+        against each seal that was taken before."""
+        whole = Kept(
+            (2, 4),
+            (1, None),
+            (b"ab", b"c"),
+            (0, 1),
+            (0, 1),
+            (0, 1),
+            ("AI", "3"),
+            ("09:00", "09:01"),
+        )
+        text = b"2 1 2 0 0 0 AI 09:00\nab" + b"4 -1 1 1 1 1 3 09:01\nc"
+        self.assertEqual(digest([whole]), "2 " + hashlib.sha256(text).hexdigest())
+        self.assertEqual(digest([whole.picked([0]), whole.picked([1])]), digest([whole]))
+        for at in range(len(whole)):
+            columns: Any = [*whole[:at], whole[at][::-1], *whole[at + 1 :]]
+            turned = Kept._make(columns)
+            self.assertNotEqual(digest([turned]), digest([whole]), at)
+        sent = Messages((1, 2), (3, 9), (b"ab", b"c"))
+        text = b"1 3 2\nab" + b"2 9 1\nc"
+        self.assertEqual(digest([sent]), "2 " + hashlib.sha256(text).hexdigest())
+        self.assertEqual(digest([]), "0 " + hashlib.sha256(b"").hexdigest())
 
     def test_each_changed_line(self) -> None:
         """Whatever else a seal says than the log: it is told."""

@@ -7,11 +7,17 @@ import sqlite3
 import subprocess
 import unittest
 from contextlib import closing
+from datetime import date
 from pathlib import Path
 from typing import Any
 
+from mireseason_audit.checkpoints import check_numbers_of
+from mireseason_audit.sqlite_log import SqliteSource
+from mireseason_audit.until import UntilLog
+
 from tests.audit import ledger
 from tests.audit.common import ROOT, Ran, audit, folder, keys, venue_words
+from tests.audit.draw_day import DATE
 from tests.audit.tamper import ENTRIES, hash_of
 
 FORMS = (3, 4, 5, 6)
@@ -150,6 +156,14 @@ class Signatures(unittest.TestCase):
         ran = audit("stats", self.log, "--until", "9", "--gateway-key", key)
         self.assertEqual(ran.status, 2, ran.text)
         self.assertIn("signatures, checkpoints and seals are of the whole log", ran.err)
+
+    def test_a_gap_is_seen_in_a_part(self) -> None:
+        """Up to an entry the checkpoints have numbers as in the whole log."""
+        self.do("DELETE FROM checkpoint WHERE number = 1")
+        with SqliteSource(self.log).open() as log:
+            found = check_numbers_of(UntilLog(log, log.last_place()), DATE, date.max)
+        assert found is not None
+        self.assertIn("checkpoint 1 is missing", found.findings[0].text)
 
     def test_forms_before(self) -> None:
         """A log with all that its sessions sent, and one that no end ends: checked as they were."""

@@ -110,6 +110,34 @@ def test_what_was_refused_is_that_of_the_sheet(stored: Exported, sheet: Sheet) -
             assert (row["what"], row["code"], row["name"]) == (one.what, "300=4", one.code)
 
 
+def test_what_each_message_says_of_itself(stored: Exported) -> None:
+    """Its number and its type. A cancel of all quotes is about the request of its first answer."""
+    rows, cancels = stored.table("messages"), 0
+    for row in rows:
+        fields = dict(field.split("=", 1) for field in row["text"].strip("|").split("|"))
+        assert (row["number"], row["type"]) == (fields["34"], fields["35"]), row
+        to = (row["entry"], row["firm"], "sent")
+        told = [one["request"] for one in rows if (one["entry"], one["firm"], one["way"]) == to]
+        if row["what"] == "cancel" and len(told) > 1:
+            cancels += told[0] != told[-1]
+            assert row["request"] == told[0]
+    assert cancels > 0
+
+
+def test_why_a_hit_is_refused(stored: Exported) -> None:
+    """The name of the refusal, as the answer has it (58)."""
+    answers: dict[tuple[str, str], str] = {}
+    for row in stored.table("messages"):
+        if row["way"] == "sent":
+            answers.setdefault((row["entry"], row["firm"]), row["text"])
+    reasons = [row["reason"] for row in stored.table("responses")]
+    assert reasons == [
+        answers[row["entry"], row["investor"]].partition("|58=")[2].partition("|")[0]
+        for row in stored.table("responses")
+    ]
+    assert set(reasons) == {"", "Expired", "Gone", "NotOpen"}
+
+
 def test_both_forms_have_the_same_rows(run: Audit, short_log: Path, tmp_path: Path) -> None:
     one = exported(run, short_log, tmp_path, "csv")
     other = exported(run, short_log, tmp_path, "json")
@@ -131,7 +159,10 @@ def test_each_message_of_the_log_is_there_once(drawn: Exported, drawn_log: Path)
         messages = log.execute("SELECT firm, number, place, bytes FROM sent").fetchall()
         notes = [notes for notes, in log.execute("SELECT notes FROM seal ORDER BY number")]
         targets = {firm: session.expected for firm, session in noted(notes).items()}
-        doors = log.execute("SELECT place, moment, event, address FROM connection").fetchall()
+        doors = log.execute(
+            "SELECT place, moment, event, entry, number, firm, address, certificate, why, left_out"
+            " FROM connection"
+        ).fetchall()
     assert (len(came), len(sent)) == (len(entries), len(messages))
     for place, moment, firm, received, connection, line in entries:
         row = came[str(place)]
@@ -144,11 +175,12 @@ def test_each_message_of_the_log_is_there_once(drawn: Exported, drawn_log: Path)
         assert row["entry"] == str(place)
         assert row["text"].replace("|", "\x01").encode() == data
     assert {row["firm"]: int(row["expected"]) for row in drawn.table("sessions")} == targets
+    columns = ("row", "moment", "event", "entry", "connection", "firm", "address", "certificate")
     listed = [
-        (int(row["row"]), row["moment"], row["event"], row["address"])
+        tuple(row[name] for name in (*columns, "why", "left_out"))
         for row in drawn.table("connections")
     ]
-    assert listed == doors
+    assert listed == [tuple("" if one is None else str(one) for one in row) for row in doors]
 
 
 def test_requests_and_quotes_of_a_drawn_day(drawn: Exported, drawn_log: Path) -> None:

@@ -6,6 +6,15 @@ import sqlite3
 from contextlib import closing
 from pathlib import Path
 
+import pytest
+from mireseason_audit import day_commands, day_pass
+from mireseason_audit.collector import Collector
+from mireseason_audit.confirmations import confirmation_text, confirmations as rows_of
+from mireseason_audit.day_pass import DayPass
+from mireseason_audit.main import act, parser_of
+from mireseason_audit.sqlite_log import SqliteSource
+from mireseason_audit.wire_texts import WireText
+
 from tests.audit.witness import message_of
 from tests.supervisor.conftest import STORED, Audit
 from tests.supervisor.exported import Exported, Row
@@ -116,3 +125,50 @@ def test_an_investors_own_file(run: Audit, tmp_path: Path, sheet: Sheet) -> None
     assert "GROVE" not in text and "G-0" not in text
     for quote in sheet.quotes:
         assert '"%s"' % quote.name not in text  # the dealers' own names of their quotes
+
+
+COMMANDS = {
+    "confirmations": ["trades", STORED],
+    "tables": ["export", STORED, "FOLDER", "--csv"],
+    "an investor's file": ["export", STORED, "FOLDER", "--csv", "--for", "FJORD"],
+}
+
+
+@pytest.mark.parametrize("name", COMMANDS)
+def test_a_trade_that_was_told_under_another_name(
+    name: str, tmp_path: Path, monkeypatch: pytest.MonkeyPatch, capsys: pytest.CaptureFixture[str]
+) -> None:
+    """It is a finding, and nothing is made of such a day. What else is checked of a day is not looked at here."""
+    monkeypatch.setattr(day_commands, "checked", lambda work: work.checker().begun())
+    folder = tmp_path / "made"
+    words = [str(folder if word == "FOLDER" else word) for word in COMMANDS[name]]
+    words[1:1] = ["--venue", "none"]
+    assert act(parser_of().parse_args(words)) == 0
+    assert not folder.exists() or list(folder.iterdir())
+    capsys.readouterr()
+    folder = tmp_path / "other"
+    words = [word.replace(str(tmp_path / "made"), str(folder)) for word in words]
+    told = WireText(trade="20261125-GROVE-DELTA-7")
+    monkeypatch.setattr(Collector, "wire", lambda collector, message: told)
+    assert act(parser_of().parse_args(words)) == 1
+    said = capsys.readouterr().out
+    text = "it was told the trade 20261125-GROVE-DELTA-1 under the name 20261125-GROVE-DELTA-7"
+    assert "DELTA: entry 11, number 4: " + text in said
+    assert not folder.exists() or not list(folder.iterdir())
+
+
+def test_a_trade_that_operators_voided(monkeypatch: pytest.MonkeyPatch) -> None:
+    """Both firms' confirmations say why, and no other trade's."""
+    name = "20261125-GROVE-DELTA-1"
+    monkeypatch.setattr(day_pass, "voided", lambda log: {name: "both asked", "another": "x"})
+    with SqliteSource(STORED).open() as log:
+        day = log.day()
+        facts = DayPass(log, day).run()
+    void = {one.name: one.void for one in facts.trades if one.void}
+    assert void == {name: "both asked"} and len(facts.trades) == 21
+    for firm in day.firms:
+        rows = list(rows_of(facts, {}, firm.name))
+        lines = confirmation_text(firm, rows).splitlines()[1:]
+        ends = [line.endswith(", VOID: both asked") for line in lines]
+        assert ends == [row.trade.name == name for row in rows]
+        assert any(ends) == (firm.name in ("GROVE", "DELTA"))
