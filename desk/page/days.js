@@ -30,7 +30,8 @@ export class Days {
   }
   isToday() { return this.day === 'today'; }
   areMany() { return this.day === 'all'; }
-  requests() { return this.isToday() ? [...this.model.requests.values()] : this.found; }
+  // A list of its own: whoever shows it turns and sorts it.
+  requests() { return this.isToday() ? [...this.model.requests.values()] : [...this.found]; }
   choose(day) {
     this.day = day;
     set(this.title, day === 'today' ? 'Today' : day === 'all' ? 'Earlier days, read-only' : `${dayWords(day)}, read-only`);

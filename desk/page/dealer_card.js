@@ -1,6 +1,6 @@
 // A request that a dealer is shown: a price to send or to replace, and how the request ended.
 import {h, keepFocus, looksDead, set, show} from './dom.js';
-import {decimal, inMode, other, parse, text, thirtySeconds} from './price.js';
+import {decimal, inMode, other, parse, parseQuote, text, thirtySeconds} from './price.js';
 import {amount, clock, money, span} from './amounts.js';
 import {Card} from './card.js';
 import {isOver, liveQuote} from './model.js';
@@ -79,8 +79,8 @@ export class DealerCard extends Card {
   }
   read() {
     const typed = this.entry.value.trim(), isFault = this.isMissing || typed !== '', rate = parseYield(typed);
-    const {price, why} = rate === null ? parse(typed, this.bond.grid) : this.readYield(rate);
-    set(this.echo, !isFault ? `steps of 1/${this.bond.grid}${this.lastWords()}`
+    const {price, why} = rate === null ? parseQuote(typed, this.bond) : this.readYield(rate);
+    set(this.echo, !isFault ? `steps of 1/${this.bond.grid}${this.bandWords()}${this.lastWords()}`
       : why ?? `= ${/[-']/.test(typed) ? decimal(price) : thirtySeconds(price)}${this.worthOf(price)}`);
     this.echo.classList.toggle('why', isFault && price === undefined && rate === null);
   }
@@ -96,6 +96,10 @@ export class DealerCard extends Card {
   worthOf(price) {
     const answer = this.bond.priced && this.is() ? this.worked.of({price}, this.request.quantity) : null;
     return answer && !answer.why ? `, yields ${percent(answer.yield)}, the buyer pays ${money(answer.amounts.total)} ${answer.currency}` : '';
+  }
+  bandWords() {
+    const {low, high} = this.bond;
+    return low === undefined ? '' : ` from ${text(low)} to ${text(high)}`;
   }
   // The trader's own last price, and the firm's where that is another.
   lastWords() {
@@ -121,7 +125,7 @@ export class DealerCard extends Card {
   send() {
     const rate = parseYield(this.entry.value);
     if (rate !== null) return this.takeYield(rate);
-    const {price} = parse(this.entry.value, this.bond.grid);
+    const {price} = parseQuote(this.entry.value, this.bond);
     this.isMissing = price === undefined;
     if (this.isMissing) return this.say(''); // the line below the price says why
     const tooMuch = whyTooMuch(this.desk.model, this.request), question = this.question(price);

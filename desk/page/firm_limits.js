@@ -6,7 +6,13 @@ import {parse, text} from './price.js';
 
 const finest = 256; // of all grids: a reference may stand between two steps of a bond's own
 
-const field = (label, words = {}) => h('input', {className: 'number', autocomplete: 'off', 'aria-label': label, ...words});
+const field = (label, words = {}) => h('input', {className: 'number', autocomplete: 'off', 'aria-label': label, 'data-shown': '', ...words});
+
+// Shows what holds, but for a field in which somebody has typed something else.
+function follow(input, value) {
+  if (input.value === input.dataset.shown) input.value = value;
+  if (input.value === value) input.dataset.shown = value;
+}
 
 export class FirmLimits {
   constructor(model, link) {
@@ -20,6 +26,7 @@ export class FirmLimits {
     this.distance = field('Distance in points', {inputMode: 'decimal', placeholder: '1'});
     this.why = h('p', {role: 'status'});
     this.rows = new Map(); // by login
+    this.lines = new Map(); // of references, by bond
     this.close = h('button', {className: 'strong'}, 'Close');
     this.node = h('dialog', {id: 'limits', 'aria-labelledby': 'limits-title'}, h('h2', {id: 'limits-title'}, 'Limits of the firm'),
       this.traderTable(), this.referenceForm(), this.distanceForm(), this.why, h('form', {method: 'dialog', className: 'foot'}, this.close));
@@ -45,6 +52,7 @@ export class FirmLimits {
   }
   open() {
     this.tell('');
+    this.distance.value = this.distance.dataset.shown;
     this.draw();
     this.node.showModal();
     this.close.focus();
@@ -53,8 +61,8 @@ export class FirmLimits {
   draw() {
     if (!this.model.hello?.trader.isAdmin) return;
     arrange(this.traders, this.model.limits.map(one => this.traderRow(one)));
-    this.references.replaceChildren(...Object.entries(this.model.references).map(([id, one]) => this.referenceRow(id, one)));
-    if (document.activeElement !== this.distance) this.distance.value = this.model.distance === null ? '' : text(this.model.distance);
+    arrange(this.references, Object.entries(this.model.references).map(([id, one]) => this.referenceRow(id, one)));
+    follow(this.distance, this.model.distance === null ? '' : text(this.model.distance));
   }
   // `done` is what holds once the desk has taken it; took() is called then.
   act(command, done, took = () => {}) {
@@ -70,17 +78,12 @@ export class FirmLimits {
   }
   traderRow(trader) {
     const row = this.rows.get(trader.login) ?? this.addRow(trader);
-    for (const [name, input] of Object.entries(row.most)) {
-      const value = trader[name] === null ? '' : amount(trader[name]);
-      if (input.value === input.dataset.shown) input.value = value; // or somebody types in it
-      if (input.value === value) input.dataset.shown = value;
-    }
+    for (const [name, input] of Object.entries(row.most)) follow(input, trader[name] === null ? '' : amount(trader[name]));
     set(row.used, amount(trader.used));
     return row.node;
   }
   addRow({login, trader, mayAct}) {
-    const most = {quantity: field(`Quantity of ${login}`, {placeholder: 'the firm\u2019s', 'data-shown': ''}),
-      exposure: field(`Exposure of ${login}`, {placeholder: 'the firm\u2019s', 'data-shown': ''})};
+    const most = {quantity: field(`Quantity of ${login}`, {placeholder: 'the firm\u2019s'}), exposure: field(`Exposure of ${login}`, {placeholder: 'the firm\u2019s'})};
     const press = h('button', {type: 'button', className: 'small', 'aria-label': `Set the limits of ${login}`, onclick: () => this.setLimits(login, most)}, 'Set');
     const enter = event => { if (event.key === 'Enter' && !event.repeat) this.setLimits(login, most); };
     for (const input of Object.values(most)) input.addEventListener('keydown', enter);
@@ -102,10 +105,17 @@ export class FirmLimits {
     });
   }
   referenceRow(id, {price, at, by}) {
-    const {name} = this.model.bond(id);
+    const line = this.lines.get(id) ?? this.addReference(id);
+    [text(price), clock(at), by].forEach((words, nth) => set(line.cells[nth], words));
+    return line.node;
+  }
+  addReference(id) {
+    const {name} = this.model.bond(id), cells = [h('td', {className: 'number'}), h('td'), h('td')];
     const remove = h('button', {type: 'button', className: 'small', 'aria-label': `Remove the reference of ${name}`,
       onclick: () => this.act({do: 'set reference', bond: id, price: null}, `${name} has no reference any more.`)}, 'Remove');
-    return h('tr', {}, h('th', {scope: 'row'}, name), h('td', {className: 'number'}, text(price)), h('td', {}, clock(at)), h('td', {}, by), h('td', {}, remove));
+    const line = {cells, node: h('tr', {}, h('th', {scope: 'row'}, name), ...cells, h('td', {}, remove))};
+    this.lines.set(id, line);
+    return line;
   }
   setReference(event) {
     event.preventDefault();
@@ -116,9 +126,9 @@ export class FirmLimits {
   }
   setDistance(event) {
     event.preventDefault();
-    const typed = this.distance.value.trim(), {price, why} = typed ? parse(typed, finest) : {price: null};
+    const {value} = this.distance, typed = value.trim(), {price, why} = typed ? parse(typed, finest) : {price: null};
     if (why) return this.tell(`${typed} is no distance: write 0.5 or 1, in points, or nothing for one point.`, true);
-    this.distance.blur();
-    this.act({do: 'set distance', distance: price}, `A typed word is wanted beyond ${price === null ? 'one point' : `${text(price)} points`}.`);
+    this.act({do: 'set distance', distance: price}, `A typed word is wanted beyond ${price === null ? 'one point' : `${text(price)} points`}.`,
+      () => { this.distance.dataset.shown = value; }); // it follows the desk again
   }
 }

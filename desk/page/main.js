@@ -44,7 +44,7 @@ class Page {
     this.lists = new ListCards(of('lists'), this.model, this.link,
       {go: id => this.cards.go(id), tell: (what, isBad) => this.top.say(what, isBad)});
     this.programs = new Programs(of('programs'), this.model, this.link, what => this.top.say(what, true));
-    this.table = new OpenTable(of('table'), this.model, id => this.cards.go(id));
+    this.table = new OpenTable(of('table'), this.model, () => this.link.now(), id => this.cards.go(id));
     this.help = new Help();
     this.limits = new FirmLimits(this.model, this.link);
     document.body.append(this.help.node, this.paper.node, this.limits.node);
@@ -194,7 +194,7 @@ class Page {
     const moment = this.link.now();
     this.top.tick(moment);
     this.cards.tick(moment);
-    this.table.tick(moment);
+    this.table.draw();
     if (this.model.hello) this.lists.draw(moment);
     if (this.model.hello) this.elsewhere.draw(this.cards.all(), moment);
     this.ticket?.tick();

@@ -12,10 +12,11 @@ const pageOf = 10; // lines that PageUp and PageDown go
 const soon = 15_000;
 
 export class OpenTable {
-  // go(id) leads to the card of a request.
-  constructor(node, model, go) {
+  // now() is the desk's time; go(id) leads to the card of a request.
+  constructor(node, model, now, go) {
     this.node = node;
     this.model = model;
+    this.now = now;
     this.go = go;
     this.lines = new Map(); // by request
     this.order = []; // of the lines that are shown
@@ -116,10 +117,6 @@ export class OpenTable {
     this.at = id;
   }
 
-  tick(moment) {
-    this.moment = moment;
-    if (this.isShown && this.sorting) this.draw();
-  }
   // A line under the keys stays when its request ends: what is typed next would be meant for it.
   shown() {
     const isHere = this.list.contains(document.activeElement);
@@ -128,7 +125,7 @@ export class OpenTable {
   }
   draw() {
     if (!this.isShown || !this.sorting) return;
-    this.moment ??= Date.now();
+    this.moment = this.now();
     const requests = this.shown();
     this.order = requests.map(one => one.id);
     arrange(this.list, requests.map(one => this.line(one).node));

@@ -70,3 +70,9 @@ export function parse(entry, grid) {
   }
   return {price};
 }
+
+// The same of a price that is quoted: in the bond's band too, where it has one.
+export function parseQuote(entry, {grid, low, high}) {
+  const read = parse(entry, grid), {price, why} = read;
+  return why || low === undefined || (low <= price && price <= high) ? read : {why: `Outside the bond\u2019s band: ${text(low)} to ${text(high)}.`};
+}

@@ -19,7 +19,7 @@ export class Programs {
   line(program) {
     const line = this.lines.get(program.name) ?? this.add(program.name), {isOn, isStopped, by, since} = program;
     set(line.words, isStopped ? `stopped by ${by || 'the desk'}, ${clock(since)} UTC: it may do nothing until a trader releases it`
-      : isOn ? `acts with the rights of ${program.trader}, since ${clock(since)} UTC. F9 stops it` : 'not connected');
+      : isOn ? `acts with the rights of ${program.trader}. F9 stops it` : 'not connected');
     line.words.classList.toggle('why', isStopped);
     show(line.stop, !isStopped && this.model.mayAct());
     show(line.release, isStopped && this.model.mayAct());

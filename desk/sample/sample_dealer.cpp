@@ -1,5 +1,7 @@
 #include "sample_dealer.h"
 
+#include <algorithm>
+
 namespace sample {
 
 namespace tag = desk::tag;
@@ -44,7 +46,7 @@ void SampleDealer::consider(const std::string &request) {
     }
 }
 
-// Some 32nds off what the bond is worth, on its grid.
+// Some 32nds off what the bond is worth, on its grid and in its band.
 void SampleDealer::quote(const std::string &request, std::chrono::seconds valid_for) {
     const auto found = open_.find(request);
     const desk::Bond *bond =
@@ -54,14 +56,16 @@ void SampleDealer::quote(const std::string &request, std::chrono::seconds valid_
     }
     const int step = 256 / bond->grid;
     const int spread = 8 + 4 * roll(6);
-    const int price = worth(*bond) + (found->second.is_bought ? spread : -spread);
+    const int exact = worth(*bond) + (found->second.is_bought ? spread : -spread);
+    const desk::Price price =
+        std::clamp(desk::Price{exact / step * step}, bond->band.low, bond->band.high);
     found->second.quote = name('Q');
-    std::vector<desk::FixField> fields{{tag::quote_req_id, request},
-                                       {tag::quote_id, found->second.quote},
-                                       {tag::security_id, bond->id},
-                                       {tag::id_source, "4"},
-                                       {found->second.is_bought ? tag::offer : tag::bid,
-                                        desk::text_of(desk::Price{price / step * step})}};
+    std::vector<desk::FixField> fields{
+        {tag::quote_req_id, request},
+        {tag::quote_id, found->second.quote},
+        {tag::security_id, bond->id},
+        {tag::id_source, "4"},
+        {found->second.is_bought ? tag::offer : tag::bid, desk::text_of(price)}};
     if (valid_for > 0s) {
         fields.emplace_back(tag::valid_until, desk::fix_text(desk::now() + valid_for));
     }

@@ -8,8 +8,11 @@
 #include <cctype>
 #include <filesystem>
 #include <memory>
+#include <optional>
 #include <sstream>
+#include <string_view>
 #include <system_error>
+#include <utility>
 
 namespace desk {
 
@@ -44,25 +47,77 @@ void gather(const json &view, std::string &text) {
     }
 }
 
-// What a person may look for in a request.
-std::string text_of(const json &view, const Market &market) {
+// What a person may look for in a request. A dealer's page calls a side by what the firm would do.
+std::string text_of(const json &view, const Market &market, Role role) {
     std::string text;
     gather(view, text);
     if (const Bond *bond = market.bond(view.at("bond"))) {
-        text += bond->name;
+        text += bond->name + '\n';
+    }
+    if (role == Role::dealer) {
+        text += view.at("side") == "buy" ? "offer" : "bid";
     }
     return lowered(std::move(text));
 }
 
-// `2,000,000` and `2m` are 2000000, as the page has quantities.
+bool is_number(std::string_view text) {
+    return !text.empty() && std::all_of(text.begin(), text.end(),
+                                        [](unsigned char c) { return std::isdigit(c) != 0; });
+}
+
+// Takes what a word ends with off it.
+bool take_end(std::string_view &word, std::string_view end) {
+    const bool has = word.ends_with(end);
+    word.remove_suffix(has ? end.size() : 0);
+    return has;
+}
+
+// `2m`, `1.5m` and `500k` in digits; nothing where it is no such quantity.
+std::optional<std::string> quantity_in(std::string_view word) {
+    std::size_t zeros = 0;
+    for (const auto &[unit, count] : {std::pair("k", 3), {"mm", 6}, {"m", 6}, {"b", 9}}) {
+        if (zeros == 0 && take_end(word, unit)) {
+            zeros = static_cast<std::size_t>(count);
+        }
+    }
+    const std::size_t point = std::min(word.find('.'), word.size());
+    std::string digits(word.substr(0, point));
+    std::string part(word.substr(std::min(point + 1, word.size())));
+    part.erase(part.find_last_not_of('0') + 1);
+    if (zeros == 0 || part.size() > zeros || !is_number(digits + part)) {
+        return {};
+    }
+    digits += part + std::string(zeros - part.size(), '0');
+    const std::size_t first = digits.find_first_not_of('0');
+    return first == std::string::npos ? std::nullopt : std::optional(digits.substr(first));
+}
+
+// `99-16+`, whole points, 32nds and eighths of one, as the decimal of the desk's own words.
+std::optional<std::string> price_in(std::string_view word) {
+    const std::size_t dash = word.find_first_of("-'");
+    const std::string_view points = word.substr(0, dash);
+    std::string_view rest = word.substr(std::min(dash, word.size() - 1) + 1);
+    int eighths = take_end(rest, "+") ? 4 : 0;
+    if (eighths == 0 && rest.size() == 3 && rest[2] >= '1' && rest[2] <= '7') {
+        eighths = rest[2] - '0';
+        rest.remove_suffix(1);
+    }
+    if (!is_number(points) || points.size() > 3 || !is_number(rest) || rest.size() > 2) {
+        return {};
+    }
+    const int parts = std::stoi(std::string(rest));
+    const Price price{std::stoi(std::string(points)) * 256 + parts * 8 + eighths};
+    return parts < 32 ? std::optional(text_of(price)) : std::nullopt;
+}
+
+// A quantity and a price as the desk writes them, however the page reads them.
 std::string plain(std::string word) {
     std::erase(word, ',');
-    const char unit = word.empty() ? ' ' : word.back();
-    const std::string digits = word.substr(0, word.size() - (word.empty() ? 0 : 1));
-    const bool is_short =
-        (unit == 'k' || unit == 'm') && !digits.empty() &&
-        std::all_of(digits.begin(), digits.end(), [](unsigned char c) { return std::isdigit(c); });
-    return is_short ? digits + (unit == 'k' ? "000" : "000000") : word;
+    if (word.empty()) {
+        return word;
+    }
+    const std::optional<std::string> quantity = quantity_in(word);
+    return quantity ? *quantity : price_in(word).value_or(word);
 }
 
 bool has_all(const std::string &text, const std::vector<std::string> &words) {
@@ -106,7 +161,7 @@ std::vector<json> Archive::requests(const std::string &date, const std::string &
     std::vector<json> found;
     for (const std::string &request : day->requests()) {
         json view = day->view(request);
-        if (found.size() < most && has_all(text_of(view, market_), words)) {
+        if (found.size() < most && has_all(text_of(view, market_, role_), words)) {
             add_values(view, values_, day_of(Moment(std::chrono::milliseconds(view.at("made")))));
             found.push_back(std::move(view));
         }

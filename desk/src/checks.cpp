@@ -85,6 +85,16 @@ std::string why_not_exposure(const DealerRequest &request, const Trader &trader,
     return {};
 }
 
+std::string why_not_price(Price price, const Bond &bond) {
+    if (!price.is_in_range() || !price.is_on_grid(bond.grid)) {
+        return "The price is off the bond's grid of 1/" + std::to_string(bond.grid) + ".";
+    }
+    return bond.band.has(price)
+               ? ""
+               : "The price is outside the bond's band of " + text_of(bond.band.low) + " to " +
+                     text_of(bond.band.high) + ".";
+}
+
 bool is_far(Price one, Price other, Price distance) {
     return std::abs(one.in_256ths - other.in_256ths) > distance.in_256ths;
 }
@@ -280,9 +290,9 @@ std::string why_not(const command::Quote &quote, const Trader &trader, const Mar
         return "The live quote is another one than you were shown: look again.";
     }
     const Bond *bond = market.bond(request->bond);
-    const int grid = bond != nullptr ? bond->grid : 256;
-    if (!quote.price.is_in_range() || !quote.price.is_on_grid(grid)) {
-        return "The price is off the bond's grid of 1/" + std::to_string(grid) + ".";
+    if (std::string why = why_not_price(quote.price, bond != nullptr ? *bond : Bond{});
+        !why.empty()) {
+        return why;
     }
     if (trader.quantity && request->quantity > *trader.quantity) {
         return "The quantity is above the " + grouped(*trader.quantity) +

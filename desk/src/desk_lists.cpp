@@ -86,7 +86,14 @@ void Desk::stop_lists(const std::string &why) {
 
 // Whatever does not go out within seconds is not news any more: it stays where it is.
 void Desk::ask_lists() {
-    if (lists() == nullptr || !lists()->next(asking_)) {
+    if (lists() == nullptr) {
+        return;
+    }
+    std::erase_if(asking_, [this](const std::string &request) {
+        const std::optional<ListPlace> place = lists()->place_of(request);
+        return !place || place->list->lines[place->line].state != ListLine::State::waiting;
+    });
+    if (!lists()->next(asking_)) {
         return;
     }
     if (!is_on_) {
@@ -106,9 +113,12 @@ void Desk::ask_line(const ListPlace &place) {
     const AskedList &list = *place.list;
     const ListLine &line = list.lines[place.line];
     const std::string request = list.request_of(place.line);
+    asking_.insert(request);
+    // What is refused is asked no more, also before that stands in the journal.
     const auto refuse = [this, id = list.id, at = place.line, request](const std::string &why) {
-        asking_.erase(request);
-        if (!why.empty()) {
+        if (why.empty()) {
+            asking_.erase(request);
+        } else {
             note_later({{"do", "refuse line"}, {"list", id}, {"line", at}, {"why", why}});
         }
     };
@@ -117,7 +127,6 @@ void Desk::ask_line(const ListPlace &place) {
     if (trader == config_.traders.end()) {
         return refuse("The desk has no trader '" + list.login + "' any more.");
     }
-    asking_.insert(request);
     act(*trader,
         command::Ask{line.bond, line.side, line.quantity, list.within, list.dealers, request},
         refuse);

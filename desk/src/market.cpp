@@ -12,14 +12,39 @@ namespace {
 constexpr Quantity most_exposure = 1'000'000'000'000'000, most_quantity = 1'000'000'000'000;
 constexpr int most_quotes = 4096, most_requests = 1024;
 
-Bond bond_of(const TomlTable &row) {
-    Bond bond{row.text("id"), row.has("name") ? row.text("name") : row.text("id"), 256};
-    if (row.has("grid")) {
-        bond.grid = static_cast<int>(row.number("grid", 32, 256));
-    }
-    if (bond.grid != 32 && bond.grid != 64 && bond.grid != 128 && bond.grid != 256) {
+int grid_of(const TomlTable &row) {
+    const auto grid = row.has("grid") ? static_cast<int>(row.number("grid", 32, 256)) : 256;
+    if (grid != 32 && grid != 64 && grid != 128 && grid != 256) {
         row.fail("'grid' has to be 32, 64, 128 or 256");
     }
+    return grid;
+}
+
+Price end_of(const TomlTable &row, const std::string &key, int grid) {
+    const std::optional<Price> price = price_of(row.text(key));
+    if (!price || !price->is_on_grid(grid)) {
+        row.fail("'" + key + "' has to be a price on the grid of 1/" + std::to_string(grid));
+    }
+    return *price;
+}
+
+Band band_of(const TomlTable &row, int grid) {
+    if (!row.has("low") && !row.has("high")) {
+        return {};
+    }
+    const Band band{end_of(row, "low", grid), end_of(row, "high", grid)};
+    if (band.low > band.high) {
+        row.fail("'low' is above 'high'");
+    }
+    return band;
+}
+
+// In version 1 of the venue's configuration every grid is 256, and before version 3 no bond has a
+// band.
+Bond bond_of(const TomlTable &row, std::int64_t version) {
+    Bond bond{row.text("id"), row.has("name") ? row.text("name") : row.text("id"), grid_of(row)};
+    bond.grid = version > 1 ? bond.grid : 256;
+    bond.band = version > 2 ? band_of(row, bond.grid) : Band{};
     return bond;
 }
 
@@ -59,12 +84,10 @@ const Bond *Market::bond(const std::string &id) const {
 Market read_market(const std::string &path, const std::string &firm, Role role) {
     const toml::table text = read_toml(path);
     const TomlTable file(path, "", text);
-    // In version 1 of the venue's configuration every grid is 256.
-    const bool has_grids = file.number("version", 1, 2) == 2;
+    const std::int64_t version = file.number("version", 1, 3);
     Market market;
     for (const TomlTable &row : file.tables("bond")) {
-        market.bonds.push_back(bond_of(row));
-        market.bonds.back().grid = has_grids ? market.bonds.back().grid : 256;
+        market.bonds.push_back(bond_of(row, version));
     }
     for (const TomlTable &row : file.tables("dealer")) {
         market.dealers.push_back(row.text("name"));

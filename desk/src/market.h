@@ -1,8 +1,9 @@
-// Reads what no message of the venue says: its bonds and their grids, the names of its dealers, and
-// the firm's own limits. They stand in a file that the venue's operator hands out.
+// Reads what no message of the venue says: its bonds with their grids and bands, the names of its
+// dealers, and the firm's own limits. They stand in a file that the venue's operator hands out.
 #ifndef DESK_MARKET_H
 #define DESK_MARKET_H
 
+#include "price.h"
 #include "terms.h"
 
 #include <string>
@@ -14,6 +15,7 @@ struct Bond {
     std::string id;   // SecurityID (48)
     std::string name; // for the eye; the id where the file has none
     int grid = 256;   // steps a point
+    Band band = {};   // of all prices where the file has none
 };
 
 // Of a dealer exposure and quotes, of an investor the others.

@@ -1,31 +1,15 @@
-// Prices: whole numbers of 256ths of a point.
+// Prices and bands, which the gateway reads as well.
 #ifndef DESK_PRICE_H
 #define DESK_PRICE_H
 
-#include <compare>
-#include <optional>
-#include <string>
-#include <string_view>
+#include "common/price.h"
 
 namespace desk {
 
-struct Price {
-    int in_256ths = 0;
-
-    static constexpr int least = 1;
-    static constexpr int greatest = 255'999;
-
-    bool is_in_range() const { return in_256ths >= least && in_256ths <= greatest; }
-    // On a grid of 32, 64, 128 or 256 steps a point.
-    bool is_on_grid(int grid) const { return in_256ths % (256 / grid) == 0; }
-
-    auto operator<=>(const Price &) const = default;
-};
-
-// Nothing where the text is no price that the venue would take.
-std::optional<Price> price_of(std::string_view text);
-// As the venue writes it: 99.50390625, 99.5, 5.
-std::string text_of(Price price);
+using gateway::Band;
+using gateway::Price;
+using gateway::price_of;
+using gateway::text_of;
 
 } // namespace desk
 

@@ -83,6 +83,10 @@ void add_values(json &view, const BondValues &values, const Date &traded) {
 
 json view_of(const Bond &bond, const BondValues &values, const Date &traded) {
     json view{{"id", bond.id}, {"name", bond.name}, {"grid", bond.grid}, {"priced", false}};
+    if (!bond.band.has_all()) {
+        view["low"] = bond.band.low.in_256ths;
+        view["high"] = bond.band.high.in_256ths;
+    }
     const BondTerms *terms = values.terms(bond.id);
     const std::optional<Settlement> settlement = values.settlement(bond.id, traded);
     if (terms != nullptr && settlement) {

@@ -50,7 +50,8 @@ std::string_view quote_code(std::int64_t code) {
     case 6:
         return "the quote's name was used before";
     case 8:
-        return "the price is off the bond's grid, out of range, or of the wrong side";
+        return "the price is outside the bond's band, off its grid, out of range, or of the wrong "
+               "side";
     default:
         return "you declined the request, or the validity was over when the quote came";
     }

@@ -153,6 +153,58 @@ TEST_CASE("prices and yields are those of spreadsheets, paid once, twice and fou
     }
 }
 
+// The bond market of the US closes on Good Friday, the banks there do not; 1 May is a day off of
+// TARGET alone, the last Monday of August one of the United Kingdom, and weekdays have none.
+TEST_CASE("each calendar has holidays of its own") {
+    struct Row {
+        BusinessDays days;
+        Date good_friday, may, august,
+            christmas; // a day behind 28 March, 30 April, 23 August, 24 December
+    };
+    const Date april = 2024y / 4 / 1, easter_tuesday = 2024y / 4 / 2;
+    for (const Row &row :
+         {Row{BusinessDays::target, easter_tuesday, 2024y / 5 / 2, 2024y / 8 / 26, 2024y / 12 / 27},
+          Row{BusinessDays::us_government_bonds, april, 2024y / 5 / 1, 2024y / 8 / 26,
+              2024y / 12 / 26},
+          Row{BusinessDays::us_settlement, 2024y / 3 / 29, 2024y / 5 / 1, 2024y / 8 / 26,
+              2024y / 12 / 26},
+          Row{BusinessDays::united_kingdom, easter_tuesday, 2024y / 5 / 1, 2024y / 8 / 27,
+              2024y / 12 / 27},
+          Row{BusinessDays::weekdays, 2024y / 3 / 29, 2024y / 5 / 1, 2024y / 8 / 26,
+              2024y / 12 / 25}}) {
+        CAPTURE(static_cast<int>(row.days));
+        BondTerms terms = thirty_360();
+        terms.dated = 2020y / 2 / 13;
+        terms.maturity = 2030y / 2 / 13;
+        terms.business_days = row.days;
+        const QuantBond bond(terms);
+        const auto settles = [&](Date traded) { return bond.settlement(traded).value().date; };
+        CHECK(settles(2024y / 3 / 28) == row.good_friday);
+        CHECK(settles(2024y / 4 / 30) == row.may);
+        CHECK(settles(2024y / 8 / 23) == row.august);
+        CHECK(settles(2024y / 12 / 24) == row.christmas);
+    }
+}
+
+// Twelve coupons of 1 per cent compound to 1.01^12 - 1 a year; the price of a bond on its coupon's
+// day is 100 at its coupon.
+TEST_CASE("a bond that pays each month, by the yield of a month and of a year") {
+    BondTerms terms = thirty_360();
+    terms.coupon = 12;
+    terms.frequency = 12;
+    terms.dated = 2024y / 1 / 15;
+    terms.maturity = 2026y / 1 / 15;
+    terms.business_days = BusinessDays::weekdays;
+    terms.settlement_days = 0;
+    const auto yield = [&](YieldConvention convention) {
+        terms.yield = convention;
+        const QuantBond bond(terms);
+        return bond.yield_of(100, bond.settlement(2024y / 4 / 15).value()).value();
+    };
+    CHECK(yield(YieldConvention::at_coupon_frequency) == doctest::Approx(12));
+    CHECK(yield(YieldConvention::yearly) == doctest::Approx(12.682503));
+}
+
 // The yield that discounts one payment of 104 in a year to 100 is 4 per cent.
 TEST_CASE("at par, on a coupon's day, an annual bond yields its coupon") {
     const BondValues values({{"B", annual(4)}});

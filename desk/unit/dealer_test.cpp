@@ -159,6 +159,10 @@ TEST_CASE_FIXTURE(Fixture, "a cancel of all that finds nothing is told, and wait
     CHECK(shown("R1").pending.empty());
     receive("35=AI|297=9|");
     CHECK(day.notice()->text == "Cancel all: there was no live quote");
+    CHECK_FALSE(day.notice()->is_refusal);
+    receive("35=3|45=99|371=0|373=11|");
+    CHECK(day.notice()->text.rfind("A message of this desk was refused: ", 0) == 0);
+    CHECK(day.notice()->is_refusal);
 }
 
 TEST_CASE_FIXTURE(Fixture, "each end of a request has its name") {
@@ -252,6 +256,24 @@ TEST_CASE_FIXTURE(Fixture, "the desk helps before it sends") {
           "Wait: the withdrawal of T3 is not answered yet.");
 }
 
+TEST_CASE_FIXTURE(Fixture, "a price outside the bond's band is not sent, and its ends are") {
+    const Moment at = *moment_of("20260314-00:00:04.000");
+    const Trader trader{"dora", "", "T3", true, {}, {}};
+    const Price low{99 * 256}, high{101 * 256};
+    Market market{{Bond{"BONDA0000001", "Alder", 128, {low, high}}}, {}, {}};
+    market.limits.exposure = 3'000'000;
+    market.limits.quotes = 2;
+    const auto why = [&](int price) {
+        return why_not(command::Quote{"R1", Price{price}, {}, ""}, trader, market, day, at);
+    };
+    const std::string outside = "The price is outside the bond's band of 99 to 101.";
+    CHECK(why(low.in_256ths - 2) == outside);
+    CHECK(why(low.in_256ths).empty());
+    CHECK(why(high.in_256ths).empty());
+    CHECK(why(high.in_256ths + 2) == outside);
+    CHECK(why(high.in_256ths + 1) == "The price is off the bond's grid of 1/128.");
+}
+
 TEST_CASE_FIXTURE(Fixture, "the same entries give the same views, at once and later") {
     quote_live(2, "q1", "R1");
     send(3, "35=Z|298=4|");
@@ -320,4 +342,77 @@ TEST_CASE_FIXTURE(Fixture, "a history says who of the firm acted, and nobody whe
     receive("35=AJ|131=R1|694=3|");
     CHECK(shown("R1").history.back().text == "Expired");
     CHECK(shown("R1").history.back().trader.empty());
+}
+
+TEST_CASE_FIXTURE(Fixture, "each end of a request is told in its own words") {
+    struct Row {
+        const char *type, *words, *state;
+    };
+    for (const Row &row :
+         {Row{"1", "Done", "done"}, Row{"3", "Expired", "expired"},
+          Row{"4", "Cover: another dealer won, and your quote was the next best", "cover"},
+          Row{"5", "Done away: another dealer won", "away"},
+          Row{"6", "The investor passed", "passed"}}) {
+        CAPTURE(row.type);
+        Fixture one;
+        one.quote_live(2, "q1", "R1");
+        one.receive(std::string("35=AJ|693=N1|131=R1|117=q1|133=99.5|694=") + row.type + "|");
+        CHECK(one.shown("R1").told->text == row.words);
+        CHECK_FALSE(one.shown("R1").told->is_refusal);
+        CHECK(one.day.view("R1").at("state") == row.state);
+        CHECK(one.day.view("R1").at("ended") == milliseconds_of(*moment_of("20260314-00:00:01")));
+        CHECK(one.day.usage().open == 1);
+    }
+}
+
+TEST_CASE_FIXTURE(Fixture, "a bid is the price of a request that sells, and a validity is kept") {
+    send(2, "35=S|131=R2|117=q1|132=99|133=101|62=20260314-00:02:00.000|");
+    CHECK(shown("R2").quotes[0].price == Price{99 * 256});
+    send(3, "35=S|131=R1|117=q2|132=99|133=101|");
+    CHECK(shown("R1").quotes[0].price == Price{101 * 256});
+    receive("35=AI|131=R2|117=q1|297=0|");
+    const nlohmann::json quote = day.view("R2").at("quotes").at(0);
+    CHECK(quote.at("valid") == milliseconds_of(*moment_of("20260314-00:02:00.000")));
+    CHECK(quote.at("state") == "live");
+    CHECK(day.view("R1").at("quotes").at(0).at("valid").is_null());
+    receive("35=AJ|693=N1|131=R2|117=q1|694=1|132=98.5|133=101|");
+    CHECK(shown("R2").result == Price{98 * 256 + 128}); // as the venue has awarded it
+    CHECK(day.view("R2").at("quotes").at(0).at("state") == "hit");
+}
+
+TEST_CASE_FIXTURE(Fixture, "a cancel of all tells what is live behind it, and of its own refusal") {
+    quote_live(2, "q1", "R1");
+    send(3, "35=Z|298=4|");
+    quote_live(4, "q2", "R2"); // sent behind it
+    receive("35=AI|117=q1|297=17|");
+    CHECK(day.notice()->text == "Cancel all: 1 quote withdrawn, and others are live");
+    send(5, "35=Z|298=4|");
+    CHECK(shown("R2").awaits(Act::withdraw));
+    day.take_changed();
+    receive("35=3|45=5|371=50|373=5|");
+    CHECK(day.notice()->text == "The cancel of all quotes was refused: the trader is not allowed "
+                                "(Reject, 371=50, 373=5)");
+    CHECK(day.notice()->is_refusal);
+    CHECK(day.take_changed() == std::set<std::string>{"R2"});
+    CHECK(shown("R2").pending.empty());
+    CHECK(shown("R2").live()->id == "q2");
+    send(6, "35=Z|298=4|");
+    receive("35=AI|297=9|58=the venue is halted|");
+    CHECK(day.notice()->text == "Cancel all: the venue is halted");
+    CHECK(shown("R2").pending.empty());
+}
+
+TEST_CASE_FIXTURE(Fixture, "a withdrawal and a decline that the venue does not take are told so") {
+    quote_live(2, "q1", "R1");
+    send(3, "35=Z|298=5|117=q1|");
+    receive("35=j|45=3|372=Z|380=4|58=the venue's clock is in doubt|");
+    CHECK(shown("R1").told->text == "Withdrawal refused: the venue's clock is in doubt");
+    CHECK(shown("R1").pending.empty());
+    CHECK(shown("R1").live() != nullptr);
+    send(4, "35=AG|131=R2|658=10|");
+    receive("35=j|45=4|372=AG|380=4|58=not now|");
+    CHECK(shown("R2").told->text == "Decline refused: not now");
+    CHECK(shown("R2").told->trader == "T3");
+    CHECK(shown("R2").pending.empty());
+    CHECK_FALSE(shown("R2").is_declined);
 }

@@ -84,6 +84,41 @@ TEST_CASE("a command is read whole, or not at all") {
         json{{"do", "save group"}, {"name", "x"}, {"dealers", std::vector<std::string>(65, "D")}}));
 }
 
+TEST_CASE("a command is read up to each limit, and not beyond it") {
+    const auto read = [](const json &command) { return read_command(json::parse(command.dump())); };
+    const auto is_read = [&](const json &command) { return read(command).has_value(); };
+    for (const std::size_t size : {64, 65}) {
+        CHECK(is_read({{"do", "pass"}, {"request", std::string(size, 'x')}}) == (size == 64));
+        json ask{{"do", "ask"}, {"bond", "B"}, {"side", "buy"}, {"quantity", 1}, {"seconds", 60}};
+        ask["dealers"] = std::vector<std::string>(size, "D");
+        CHECK(is_read(ask) == (size == 64));
+    }
+    for (const std::size_t size : {0, 1, 200, 201}) {
+        const json line{{"bond", "B"}, {"side", "sell"}, {"quantity", 7}};
+        json list{{"do", "ask list"}, {"name", "n"}, {"seconds", 60}, {"dealers", {"D"}}};
+        list["lines"] = std::vector<json>(size, line);
+        CHECK(is_read(list) == (size == 1 || size == 200));
+    }
+    json quote{{"do", "quote"}, {"request", "R"}, {"price", 1}, {"seconds", 0}, {"replaces", "Q"}};
+    CHECK(std::get<command::Quote>(*read(quote)).replaces == "Q");
+    quote["seconds"] = 90;
+    CHECK(std::get<command::Quote>(*read(quote)).valid_for == std::chrono::seconds(90));
+    quote["seconds"] = -1;
+    CHECK_FALSE(is_read(quote));
+    json limits{{"do", "set limits"}, {"login", "tess"}, {"quantity", 1'000'000'000'000'000}};
+    limits["exposure"] = nullptr;
+    const auto set = std::get<command::SetLimits>(*read(limits));
+    CHECK(set.quantity == 1'000'000'000'000'000);
+    CHECK_FALSE(set.exposure);
+    limits["quantity"] = 1'000'000'000'000'001;
+    CHECK_FALSE(is_read(limits));
+    limits["quantity"] = nullptr;
+    limits["exposure"] = 5;
+    CHECK(std::get<command::SetLimits>(*read(limits)).exposure == 5);
+    limits.erase("quantity");
+    CHECK_FALSE(is_read(limits)); // none is said by no value
+}
+
 TEST_CASE("who fails too often waits a minute, and nobody else") {
     Attempts attempts(3, "");
     const Moment at = *moment_of("20260314-09:00:00.000");
@@ -204,6 +239,46 @@ TEST_CASE("groups are each trader's own, have a limit, and outlive the process")
     CHECK(groups.of("nobody").empty());
 }
 
+TEST_CASE("a bond's band is read of version 3, and each fault of it is told") {
+    const Folder folder;
+    const std::string path = folder.file("market.toml");
+    const auto market_with = [&](const std::string &version, const std::string &ends) {
+        put(path, "version = " + version + "\n[[bond]]\nid = \"BONDA0000001\"\ngrid = 128\n" +
+                      ends + "[[dealer]]\nname = \"DLR1\"\nexposure = 5\nquotes = 5\n");
+        return read_market(path, "DLR1", Role::dealer).bonds.at(0);
+    };
+    const auto fault = [&](const std::string &ends) {
+        try {
+            market_with("3", ends);
+        } catch (const std::runtime_error &why) {
+            return std::string(why.what());
+        }
+        return std::string();
+    };
+    const Bond bond = market_with("3", "low = \"095.50\"\nhigh = \"105\"\n");
+    CHECK(bond.band.low == Price{24448});
+    CHECK(bond.band.high == Price{26880});
+    CHECK(market_with("3", "").band.has_all());
+    CHECK(market_with("2", "low = \"95.5\"\nhigh = 5\n").band.has_all());
+    CHECK(market_with("3", "low = \"99\"\nhigh = \"99\"\n").band.high == Price{25344});
+    CHECK_THROWS_AS(market_with("4", ""), std::runtime_error);
+    struct Row {
+        const char *ends;
+        const char *told;
+    };
+    for (const Row &row :
+         {Row{"low = \"95.5\"\n", "[[bond]] 1: 'high' is missing, or no text"},
+          Row{"high = \"95.5\"\n", "[[bond]] 1: 'low' is missing, or no text"},
+          Row{"low = 95\nhigh = \"105\"\n", "[[bond]] 1: 'low' is missing, or no text"},
+          Row{"low = \"95-16\"\nhigh = \"105\"\n", "'low' has to be a price on the grid of 1/128"},
+          Row{"low = \"95\"\nhigh = \"105.00390625\"\n",
+              "'high' has to be a price on the grid of 1/128"},
+          Row{"low = \"99.5\"\nhigh = \"99\"\n", "[[bond]] 1: 'low' is above 'high'"}}) {
+        CAPTURE(row.ends);
+        CHECK(fault(row.ends).find(row.told) != std::string::npos);
+    }
+}
+
 TEST_CASE("each fault of the configuration names its key") {
     const Folder folder;
     put(folder.file("secret"), "fix-password\n");
@@ -226,6 +301,22 @@ TEST_CASE("each fault of the configuration names its key") {
     CHECK(config.fix.password == "fix-password");
     CHECK(config.traders[0].may_act);
     CHECK(config.traders[0].quantity == 100);
+    CHECK_FALSE(config.fix.has_tls);
+    CHECK(config.banner.empty());
+    CHECK(config.data == folder.file("data"));
+    CHECK(config.fix.dictionaries == folder.file("fix"));
+    std::string more = good;
+    replace(more, "[fix]",
+            "banner = \"A trial.\"\n[fix]\nauthorities = \"ca.pem\"\ncertificate = "
+            "\"own.pem\"\nkey = \"own.key\"");
+    put(path, more);
+    const Config full = read_config(path);
+    CHECK(full.banner == "A trial.");
+    CHECK(full.data == folder.file("data"));
+    CHECK(full.fix.has_tls);
+    CHECK(full.fix.tls.authorities == folder.file("ca.pem"));
+    CHECK(full.fix.tls.certificate == folder.file("own.pem"));
+    CHECK(full.fix.tls.key == folder.file("own.key"));
     struct Row {
         const char *old;
         const char *fresh;

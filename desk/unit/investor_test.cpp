@@ -72,6 +72,12 @@ TEST_CASE_FIXTURE(Fixture, "quotes come, are replaced and go") {
     CHECK(asked().dealers[0].answer == AskedDealer::Answer::took_back);
     receive(2003, "35=AI|34=6|52=20260314-00:00:03.000|1181=5|131=A1|297=11|448=DLR3|");
     CHECK(asked().dealers[2].answer == AskedDealer::Answer::declined);
+    const auto answered = [](const char *name, const char *answer) {
+        return nlohmann::json{{"name", name}, {"answer", answer}};
+    };
+    CHECK(day.view("A1").at("dealers") == nlohmann::json{answered("DLR1", "took back"),
+                                                         answered("DLR2", "quoted"),
+                                                         answered("DLR3", "declined")});
     CHECK(day.alarm().empty());
 }
 
@@ -112,6 +118,52 @@ TEST_CASE_FIXTURE(Fixture, "where it sells, the cover is the highest of the othe
         entry(Kind::received, 3100, "35=AI|34=6|52=20260314-00:00:03.100|1181=5|693=H1|297=0|"));
     CHECK(sells.request("A1")->award->price == Price{99 * 256});
     CHECK(sells.request("A1")->cover->dealer == "DLR3");
+}
+
+TEST_CASE_FIXTURE(Fixture, "of equal prices the cover is the earlier one, and none that has gone") {
+    receive(2000, quote(2, "Q1", "DLR3", "99"));
+    receive(2001, quote(3, "Q2", "DLR2", "99.5", "62=20260314-00:00:02.500|"));
+    receive(2002, quote(4, "Q3", "DLR1", "99.25"));
+    receive(2003, "35=AI|34=6|52=20260314-00:00:02.003|1181=5|131=A1|117=Q1|297=17|");
+    receive(2004, quote(6, "Q4", "DLR3", "99.5"));
+    send(3000, "35=AJ|34=3|50=T9|693=H1|117=Q3|694=1|");
+    receive(3100, "35=AI|34=8|52=20260314-00:00:03.100|1181=7|693=H1|131=A1|117=Q3|297=0|");
+    CHECK(asked().award->dealer == "DLR1");
+    CHECK(asked().award->trader == "T9");
+    CHECK(asked().cover->dealer == "DLR2"); // whether its validity is over or not
+    CHECK(asked().cover->price == Price{99 * 256 + 128});
+    CHECK(asked().told->text == "Done with DLR1 at 99.25");
+    CHECK(asked().told->trader == "T9");
+    const nlohmann::json view = day.view("A1");
+    CHECK(view.at("cover") == nlohmann::json{{"dealer", "DLR2"}, {"price", 25'472}});
+    CHECK(view.at("state") == "done");
+    CHECK(view.at("trader") == "T8");
+    CHECK(view.at("quotes").at(0).at("state") == "gone");
+    CHECK(view.at("quotes").at(1).at("state") == "live");
+    CHECK(view.at("quotes").at(2).at("state") == "hit");
+}
+
+TEST_CASE_FIXTURE(Fixture, "a hit with nobody else's quote has no cover") {
+    receive(2000, quote(2, "Q1", "DLR1", "99.5"));
+    send(3000, "35=AJ|34=3|50=T8|693=H1|117=Q1|694=1|");
+    receive(3100, "35=AI|34=4|52=20260314-00:00:03.100|1181=3|693=H1|131=A1|117=Q1|297=0|");
+    CHECK_FALSE(asked().cover);
+    CHECK_FALSE(day.view("A1").contains("cover"));
+}
+
+TEST_CASE_FIXTURE(Fixture, "the venue's clock is ahead by what its last new message has") {
+    CHECK(day.clock_offset() == std::chrono::milliseconds(0));
+    receive(2000, "35=AI|34=3|52=20260314-00:00:03.500|1181=2|131=A1|297=11|448=DLR3|");
+    CHECK(day.clock_offset() == std::chrono::milliseconds(1500));
+    receive(9000, "35=AI|34=4|43=Y|52=20260314-00:00:03.600|1181=3|131=A1|297=11|448=DLR2|");
+    CHECK(day.clock_offset() == std::chrono::milliseconds(1500)); // it was sent before
+    receive(9500, "35=AI|34=5|52=20260314-00:00:09.000|60=20260314-00:00:08.000|1181=4|131=A1|"
+                  "297=7|");
+    CHECK(day.clock_offset() == std::chrono::milliseconds(-500));
+    CHECK(asked().ended == moment_of("20260314-00:00:08.000")); // when the venue has decided it
+    CHECK(asked().state == State::expired);
+    CHECK(asked().told->text == "Expired");
+    CHECK(day.usage().open == 0);
 }
 
 TEST_CASE_FIXTURE(Fixture, "a refused hit changes nothing, and its rule is told in words") {

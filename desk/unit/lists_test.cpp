@@ -98,3 +98,47 @@ TEST_CASE("a stop ends what waits, and a refusal its line") {
     lists.apply(note({{"do", "stop list"}, {"list", "L9"}, {"why", "x"}}), at);
     CHECK(lists.all().size() == 1);
 }
+
+TEST_CASE("a page is told all of a list, and of each line what it asks and why it was not asked") {
+    Lists lists;
+    lists.apply(note(note_of(two_lines())), at);
+    lists.apply(note({{"do", "refuse line"}, {"list", "L1-2"}, {"line", 1}, {"why", "no"}}), at);
+    const auto line = [](const char *bond, const char *side, int quantity, const char *state,
+                         const char *why) {
+        return json{{"bond", bond},   {"side", side},  {"quantity", quantity},
+                    {"state", state}, {"request", ""}, {"why", why}};
+    };
+    json told{
+        {"id", "L1-2"},
+        {"name", "Monday"},
+        {"trader", "T8"},
+        {"made", 1000},
+        {"seconds", 60},
+        {"dealers", {"DLR1"}},
+        {"lines", {line("A", "buy", 5, "waiting", ""), line("B", "sell", 7, "refused", "no")}}};
+    CHECK(view_of(lists.all().at(0)) == told);
+    CHECK(lists.next({})->line == 0);
+    lists.sent("L1-2-0");
+    lists.apply(note({{"do", "stop list"}, {"list", "L1-2"}, {"why", "enough"}}), at);
+    told["lines"][0]["state"] = "sent"; // what was asked or refused is not stopped
+    told["lines"][0]["request"] = "L1-2-0";
+    CHECK(view_of(lists.all().at(0)) == told);
+}
+
+TEST_CASE("the list that came first is asked first") {
+    Lists lists;
+    for (const char *id : {"L1-2", "L1-10"}) {
+        AskedList list = two_lines();
+        list.id = id;
+        lists.apply(note(note_of(list)), at);
+    }
+    CHECK(lists.next({})->list->id == "L1-2");
+    CHECK(lists.next({"L1-2-0", "L1-2-1"})->list->id == "L1-10");
+    CHECK(lists.place_of("L1-10-1")->list->id == "L1-10");
+    CHECK(lists.place_of("L1-10-1")->line == 1);
+    CHECK_FALSE(lists.place_of("L1-1-0"));
+    lists.take_changed();
+    lists.sent("L1-10-0");
+    lists.sent("A1-1");
+    CHECK(lists.take_changed() == std::set<std::string>{"L1-10"});
+}

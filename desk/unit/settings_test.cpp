@@ -85,6 +85,14 @@ TEST_CASE("references hold over a restart") {
     CHECK(references.of("A")->at == at);
     CHECK_FALSE(references.of("B"));
     CHECK(references.distance() == Price{64});
+    CHECK(references.view() ==
+          json{{"t", "references"},
+               {"references",
+                {{"A", {{"price", 25600}, {"at", milliseconds_of(at)}, {"by", "ada"}}}}},
+               {"distance", 64}});
+    CHECK(References(folder.file("none.json")).distance() == Price{256}); // a point
+    put(path, R"({"distance": 64, "references": {"A": {"price": "x"}}})");
+    CHECK_FALSE(References(path).of("A")); // a file of another form: they are set anew
 }
 
 TEST_CASE("a program is known by its token alone, and stays stopped over a restart") {
@@ -109,6 +117,27 @@ TEST_CASE("a program is known by its token alone, and stays stopped over a resta
     programs.release("P1");
     CHECK(programs.writer()().empty());
     CHECK_FALSE(Programs(one_program(), path).is_stopped("P1"));
+}
+
+TEST_CASE("a page is told whether a program acts, and since when it may not") {
+    const Folder folder;
+    Programs programs(one_program(), folder.file("programs.json"));
+    const auto told = [&](bool is_on, bool is_stopped, const char *by, const json &since) {
+        const json one{{"name", "P1"},  {"trader", "tess"},
+                       {"isOn", is_on}, {"isStopped", is_stopped},
+                       {"by", by},      {"since", since}};
+        CHECK(programs.view() == json{{"t", "programs"}, {"programs", json::array({one})}});
+    };
+    told(false, false, "", nullptr);
+    programs.connected("P1", true);
+    told(true, false, "", nullptr);
+    programs.stop("P1", "ada", at);
+    programs.stop_all("tom", at + std::chrono::seconds(1)); // it is stopped already
+    told(true, true, "ada", milliseconds_of(at));
+    programs.connected("P1", false);
+    told(false, true, "ada", milliseconds_of(at));
+    programs.release("P1");
+    told(false, false, "", nullptr);
 }
 
 TEST_CASE("a program's price is held against reference, last price and other live quotes") {
@@ -156,6 +185,9 @@ TEST_CASE("a program's price is held against reference, last price and other liv
     receive("35=AI|131=R4|117=qR4|297=17|");
     CHECK(asked("R2", 101).empty()); // a slip that was withdrawn is no yardstick
     CHECK(asked("R2", 102) == "The price is more than 1 from the firm's last one, 100.");
+    show("R5", "1");
+    quote(5, "R5", "100.5");
+    CHECK(asked("R1", 102) == "The price is more than 1 from the firm's last one, 100.5.");
     references.set_distance(Price{3 * 256});
     CHECK(asked("R2", 103).empty());
     CHECK(asked("R3", 104) == "The price is more than 3 from the firm's live quote 100.");
@@ -191,6 +223,12 @@ TEST_CASE("what a page asks to be told is read with limits") {
         CHECK_FALSE(read_query(json::parse(text)));
     }
     CHECK_FALSE(read_query(json{{"do", "find"}, {"find", std::string(257, 'x')}}));
+    CHECK(read_query(json{{"do", "find"}, {"find", std::string(256, 'x')}}));
+    for (const auto &[yield, is_read] :
+         {std::pair(-20.0, true), {200.0, true}, {-20.1, false}, {200.1, false}}) {
+        const json asked{{"do", "price"}, {"bond", "A"}, {"quantity", 1}, {"yield", yield}};
+        CHECK(read_query(json::parse(asked.dump())).has_value() == is_read);
+    }
 }
 
 TEST_CASE("a program's row names a trader, a name of its own and a secret file") {
@@ -225,6 +263,9 @@ TEST_CASE("a program's row names a trader, a name of its own and a secret file")
     CHECK(config.programs[0].acts_as.is_admin);
     CHECK(config.programs[0].token_digest == web::digest_of(token));
     CHECK(config.traders[0].names == std::vector<std::string>{"T3", "P1"});
+    CHECK(config.programs[0].acts_as.names == config.traders[0].names); // whose limits it shares
+    CHECK(config.programs[0].acts_as.is_program);
+    CHECK_FALSE(config.traders[0].is_program);
     CHECK(fault_of("\"P1\"", "\"T3\"").find("'name' is 'T3', which another") != std::string::npos);
     CHECK(fault_of("\"tess\"", "\"tom\"").find("'login' is 'tom'") != std::string::npos);
     CHECK(fault_of("\"token\"", "\"absent\"").find("absent can't be read") != std::string::npos);

@@ -47,6 +47,19 @@ TEST_CASE("a price is on a grid where it is a whole number of its steps") {
     CHECK(Price{25480}.is_on_grid(32));
 }
 
+TEST_CASE("a band has both its ends, and what lies between them") {
+    const Band band{Price{25344}, Price{25472}};
+    for (const int inside : {25344, 25345, 25472}) {
+        CHECK(band.has(Price{inside}));
+    }
+    CHECK_FALSE(band.has(Price{25343}));
+    CHECK_FALSE(band.has(Price{25473}));
+    CHECK_FALSE(band.has_all());
+    CHECK(Band{}.has_all());
+    CHECK(Band{}.has(Price{Price::least}));
+    CHECK(Band{}.has(Price{Price::greatest}));
+}
+
 TEST_CASE("a moment is read in both spellings of FIX, and finer ones are cut") {
     for (const char *text : {"20250314-09:01:02.345", "20250314-09:01:02.345678"}) {
         const auto moment = moment_of(text);
@@ -62,6 +75,11 @@ TEST_CASE("a moment is read in both spellings of FIX, and finer ones are cut") {
         CAPTURE(none);
         CHECK_FALSE(moment_of(none));
     }
+    const std::string_view whole = "20250314-09:01:02";
+    for (std::size_t size = 0; size < whole.size(); ++size) {
+        CHECK_FALSE(moment_of(whole.substr(0, size)));
+    }
+    CHECK(moment_of(whole));
 }
 
 TEST_CASE("a message gives the first field of a tag, and all of a group") {

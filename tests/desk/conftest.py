@@ -94,7 +94,7 @@ class House:
 
 def venue_text() -> str:
     return (
-        'version = 2\ndate = "%s"\n' % today()
+        'version = 3\ndate = "%s"\n' % today()
         + bonds_text()
         + "".join(map(row_text, sorted(FIRMS, key=lambda firm: firm.role)))
     )

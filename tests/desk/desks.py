@@ -21,6 +21,7 @@ BONDS = (
     ("BONDB0000002", 128, MARKUP),
     ("BONDC0000003", 32, "Cedar 4.75 02/34"),
 )
+BANDS = {"BONDC0000003": ("80", "120")}
 
 
 @dataclass(frozen=True)
@@ -44,9 +45,14 @@ FIRMS = (INVESTOR, DEALER, OTHER)
 
 def bonds_text() -> str:
     return "".join(
-        '[[bond]]\nid = "%s"\ngrid = %d\nname = %s\n' % (bond, grid, json.dumps(name))
+        '[[bond]]\nid = "%s"\ngrid = %d\n%sname = %s\n'
+        % (bond, grid, band_text(bond), json.dumps(name))
         for bond, grid, name in BONDS
     )
+
+
+def band_text(bond: str) -> str:
+    return 'low = "%s"\nhigh = "%s"\n' % BANDS[bond] if bond in BANDS else ""
 
 
 def row_text(firm: FirmOf) -> str:
@@ -66,7 +72,7 @@ def market_text(firm: FirmOf) -> str:
         for one in FIRMS
         if one.role == "dealer" and one is not firm
     )
-    return "version = 2\n" + bonds_text() + dealers + row_text(firm)
+    return "version = 3\n" + bonds_text() + dealers + row_text(firm)
 
 
 @dataclass(frozen=True)

@@ -177,7 +177,7 @@ def test_an_admin_guards_the_firm(house: House) -> None:
     admin.until_says("#limits", "tess (T1)", "lou (T4), looks only")
     admin.one("#limits input[aria-label='Reference price']").send_keys("99")
     admin.click("#limits button", "Set the reference")
-    admin.until_says("#limits", "Alder 4.125 03/29", "ada")
+    admin.until_says("#limits form table", "Alder 4.125 03/29", "ada")
     distance = admin.one("#limits input[aria-label='Distance in points']")
     distance.clear()
     distance.send_keys("0.5", Keys.ENTER)

@@ -128,6 +128,7 @@ def test_a_busy_minute(house: House) -> None:
             ("sell", 1_500_000, "BONDB0000002"),
             ("buy", 500_000, "BONDC0000003"),
             ("sell", 5_000_000, "BONDA0000001"),
+            ("buy", 1_000_000, "BONDC0000003"),
         )
     ):
         one.ask_for(["DLR1", "DLR2"], side, quantity, bond=bond)
@@ -144,6 +145,9 @@ def test_a_busy_minute(house: House) -> None:
     one.until("a trade", lambda: one.requests[asked]["state"] == "done")
     dealer.card_says("Done away", number=2)
     dealer.quote("x", 3)
+    dealer.card_says("from 80 to 120", number=4)
+    dealer.quote("120.03125", 4)
+    dealer.card_says("Outside the bond\u2019s band: 80 to 120.", number=4)
     investor.card_says("99.50390625", number=0)
     investor.arm("DLR1", number=0)
     look(investor, "investor")

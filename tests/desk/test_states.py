@@ -406,6 +406,7 @@ def test_each_refusal_of_the_venue_is_in_words(house: House) -> None:
         market.read_text()
         .replace("exposure = 10000000", "exposure = 100000000")
         .replace("grid = 32", "grid = 256")
+        .replace('high = "120"', 'high = "200"')
     )
     house.other.stop()
     house.other.start()
@@ -418,11 +419,24 @@ def test_each_refusal_of_the_venue_is_in_words(house: House) -> None:
     said = refused(other, names[2], 99 * POINT)
     assert said.startswith("Quote 99 refused: ") and "exposure" in said, said
     investor.ask_for(["DLR2"], quantity=1, bond="BONDC0000003")
-    said = refused(other, other.wait_shown(4), 99 * POINT + 1)
+    name = other.wait_shown(4)
+    said = refused(other, name, 99 * POINT + 1)
     assert (
         said.startswith("Quote 99.00390625 refused: the price is ")
         and "off the bond's grid" in said
     ), said
+    said = refused_by_desk(other, name, 200 * POINT + 1)
+    assert said == "The price is outside the bond's band of 80 to 200."
+    before = other.requests[name]["told"]
+    assert other.act(do="quote", request=name, price=121 * POINT, seconds=0, replaces="") == ""
+    other.until("another refusal", lambda: other.requests[name]["told"] != before)
+    said = str(other.requests[name]["told"]["text"])
+    assert said == "Quote 121 refused: the price is outside the bond's band", said
+
+
+def refused_by_desk(view: View, request: str, price: int) -> str:
+    """Why the desk itself sends no such quote."""
+    return str(view.act(do="quote", request=request, price=price, seconds=0, replaces=""))
 
 
 def refused(view: View, request: str, price: int) -> str:

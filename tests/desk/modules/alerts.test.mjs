@@ -258,6 +258,12 @@ test('a tone is played once somebody has pressed something', async () => {
   made.length = 0;
   sounds.play('hit');
   assert.deepEqual(made.filter(one => one.frequency).map(one => one.frequency), [660, 825, 990]);
+  const heard = kind => { made.length = 0; sounds.play(kind); return made.filter(one => one.frequency); };
+  const all = Object.keys(kinds).map(heard);
+  assert.ok(all.every(tones => tones.length && tones.every((tone, nth) => tone.from >= (tones[nth - 1]?.until ?? 10) && tone.until > tone.from)), 'each kind has its tones, one behind the other');
+  assert.equal(new Set(all.map(tones => tones.map(tone => `${tone.frequency} ${tone.from}`).join())).size, 5, 'no two kinds sound alike');
+  const [high, low] = heard('lost');
+  assert.ok(low.frequency < high.frequency, 'what is lost falls');
   isWanted = false;
   contexts[0].state = 'suspended';
   await pressed();

@@ -41,6 +41,23 @@ test('a price that is read back', () => {
   press(entry(), 'Escape');
 });
 
+test('the last minute of a request', () => {
+  const left = () => { const node = card(0).querySelector('.left'); return [words(node), node.classList.contains('soon')]; };
+  const ends = milliseconds => { desk.tells([request('R1', {deadline: clock.at + milliseconds})]); return left(); };
+  assert.deepEqual([ends(15_000), ends(14_999), ends(1), ends(0)], [['0:15', false], ['0:15', true], ['0:01', true], ['over', true]]);
+  assert.ok(button(card(0), 'Send').disabled, 'nothing is sent behind the deadline');
+  desk.tells([request('R1')]);
+});
+
+test('whose the last price was', () => {
+  const before = [own(99, {at: midday - 100_000}), own(98, {at: midday - 90_000, trader: 'T2'})];
+  const last = quotes => { desk.tells([request('R0', {quotes, state: 'away', ended: midday - 80_000}), request('R1')]); return echo(); };
+  assert.equal(last(before), 'steps of 1/256, your last 99, your firm\u2019s 98 (T2)');
+  assert.equal(last(before.slice(1)), 'steps of 1/256, your firm\u2019s 98 (T2)');
+  assert.equal(last([own(97), own(96, {state: 'refused'})]), 'steps of 1/256, your last 97', 'what was refused is no price');
+  assert.equal(last([own(99, {at: midday - 100_000})]), 'steps of 1/256, your last 99');
+});
+
 test('one step of the grid', () => {
   assert.ok(press(entry(), 'ArrowUp').defaultPrevented);
   assert.equal(entry().value, '99.00390625', 'from the last price');
@@ -107,6 +124,18 @@ test('a live quote', () => {
   button(card(0), 'Withdraw').click();
   const [sent] = desk.heard;
   assert.deepEqual(sent, {do: 'withdraw', request: 'R1', number: sent.number});
+});
+
+test('a live quote while the venue is not connected', () => {
+  desk.says({...dealerHello().session, on: false});
+  quote();
+  assert.equal(live(), 'Live 99.5 (99-16), to the deadline: it may still stand, and be hit');
+  assert.deepEqual([button(card(0), 'Replace').disabled, button(card(0), 'Withdraw').disabled], [true, false], 'a withdrawal is never refused');
+  button(card(0), 'Withdraw').click();
+  assert.equal(desk.heard[0].do, 'withdraw');
+  desk.says(dealerHello().session);
+  quote();
+  assert.equal(live(), 'Live 99.5 (99-16), to the deadline');
 });
 
 test('a price that is far off wants a typed word', () => {
@@ -209,4 +238,10 @@ test('how a request ended', () => {
   assert.equal(ended({state: 'done', result: 99 * 256, trade: 'X1', quotes: [own(99, {state: 'hit'})]}),
     'DONE: sold 2,000,000 at 99 to INV1, 12:00:05 UTC. Trade X1.');
   assert.equal(ended({state: 'done', side: 'sell', result: 99 * 256}), 'DONE: bought 2,000,000 at 99 from INV1, 12:00:05 UTC.');
+  assert.equal(ended({side: 'sell', result: 99 * 256, quotes: [own(99)]}), 'Done away, 12:00:05 UTC. Your bid was 99.');
+  desk.tells([request('R5', {investor: 'INV2'})]);
+  const other = cards().find(one => words(one).includes('INV2'));
+  type(entry(other), '99.75');
+  desk.tells([request('R5', {investor: 'INV2', state: 'expired', ended: midday + 5000, told: {text: 'Expired', at: midday, refusal: false}})]);
+  assert.deepEqual([told(other), desk.heard], ['Expired, 12:00:05 UTC. You did not quote. 99.75 was not sent.', []], 'a price that is only typed is not sent');
 });

@@ -35,6 +35,22 @@ test('the requests of a dealer\u2019s day', () => {
     ['Birch 3 2030|0|2,000,000|\u22122,000,000', 'Alder 4 2034|2,000,000|0|+2,000,000']);
 });
 
+test('what a dealer has bought and sold of what the filter lets through', () => {
+  const sums = text => { const filter = at('filter'); filter.value = text; filter.dispatchEvent(new window.Event('input', {bubbles: true})); return words(at('blotter').querySelector('.sums')); };
+  assert.equal(sums('birch'), '1 of 9 requests, 1 done: bought 0, sold 2,000,000');
+  assert.equal(sums('bid'), '2 of 9 requests, 1 done: bought 2,000,000, sold 0');
+  assert.equal(sums('99-00'), '1 of 9 requests, 1 done: bought 0, sold 2,000,000');
+  sums('');
+});
+
+test('the ticket of a dealer\u2019s trade', () => {
+  const paper = at('paper'), terms = nth => { button(rows()[nth], 'Ticket').click(); paper.close(); return Object.fromEntries([...paper.querySelectorAll('dl')[0].querySelectorAll('dt')].map(dt => [words(dt), words(dt.nextSibling)])); };
+  assert.deepEqual(terms(0), {Trade: 'T1', 'Traded, UTC': '2026-11-27 11:58:19', Buyer: 'INV1', Seller: 'DLR1', Bond: 'Birch 3 2030', Identifier: SECOND, Nominal: '2,000,000',
+    Price: '99 (99-00)', 'Trader of DLR1': 'T2', Request: 'R1'});
+  const {Buyer, Seller, Price, 'Trader of DLR1': trader} = terms(7);
+  assert.deepEqual([Buyer, Seller, Price, trader], ['DLR1', 'INV1', '91 (91-00)', 'T1']);
+});
+
 test('the file of a dealer\u2019s day', async () => {
   button(at('blotter'), 'Export CSV').click();
   const {blob, name} = saved.pop(), [head, first, second] = (await blob.text()).split('\r\n');
@@ -43,9 +59,12 @@ test('the file of a dealer\u2019s day', async () => {
 });
 
 test('a hundred rows at first', () => {
-  desk.tells(Array.from({length: 95}, (_, nth) => ended(`M${nth}`, 'passed', {bond: SECOND})));
+  const others = Array.from({length: 95}, (_, nth) => ended(`M${nth}`, 'passed', {bond: SECOND})), more = at('blotter').querySelector('.more');
+  desk.tells(others.slice(0, 91));
   clock.pass(60);
-  const more = at('blotter').querySelector('.more');
+  assert.deepEqual([rows().length, seen(more)], [100, false]);
+  desk.tells(others);
+  clock.pass(60);
   assert.deepEqual([rows().length, words(more)], [100, 'Show 4 more of 104']);
   more.click();
   assert.deepEqual([rows().length, seen(more)], [104, false]);

@@ -58,6 +58,9 @@ test('the alarm', () => {
   assert.deepEqual([...alarm.querySelectorAll('li')].map(words), ['offer 2,000,000 Alder 4 2034 at 99.5 until 12:01:00 UTC', 'bid 2,000,000 Alder 4 2034 at 98 until 12:02:00 UTC']);
   assert.match(words(alarm), /Withdraw or Cancel all is delivered as soon as the venue is back\. To cancel them now, call the venue\u2019s operator\.$/);
   assert.equal(document.querySelector('.said[role=status]').parentNode, alarm, 'what else is said has a line in it');
+  desk.says({t: 'trader', trader: {...trader, mayAct: false}});
+  assert.match(words(alarm), /12:02:00 UTCTo cancel them now, call the venue\u2019s operator\.$/, 'who may only look can send no cancel');
+  desk.says({t: 'trader', trader});
   clock.skip(60_000);
   assert.equal(alarm.querySelectorAll('li').length, 1, 'a quote whose validity is over is none');
   session();
@@ -178,16 +181,22 @@ test('a press behind a move does nothing', () => {
 });
 
 test('programs', () => {
-  const program = {name: 'auto', trader: 'ann', isOn: true, isStopped: false, by: '', since: midday}, part = at('programs');
+  const program = {name: 'auto', trader: 'ann', isOn: true, isStopped: false, by: '', since: null}, part = at('programs'); // as the desk tells it
   assert.equal(seen(part), false);
   desk.says({t: 'programs', programs: [program]});
-  assert.deepEqual([words(part.querySelector('span')), seen(part)], ['acts with the rights of ann, since 12:00:00 UTC. F9 stops it', true]);
+  assert.deepEqual([words(part.querySelector('span')), seen(part)], ['acts with the rights of ann. F9 stops it', true]);
+  const {trader: own} = hello();
+  desk.says({t: 'trader', trader: {...own, mayAct: false}});
+  desk.says({t: 'programs', programs: [program]});
+  assert.equal(button(part, 'Stop'), undefined, 'who may only look stops nothing');
+  desk.says({t: 'trader', trader: own});
+  desk.says({t: 'programs', programs: [program]});
   button(part, 'Stop').click();
   let [sent] = desk.heard;
   assert.deepEqual(sent, {do: 'stop program', name: 'auto', number: sent.number});
   desk.says({t: 'programs', programs: [{...program, isOn: false}]});
   assert.equal(words(part.querySelector('span')), 'not connected');
-  desk.says({t: 'programs', programs: [{...program, isStopped: true, by: 'T2'}]});
+  desk.says({t: 'programs', programs: [{...program, isStopped: true, by: 'T2', since: midday}]});
   assert.equal(words(part.querySelector('span')), 'stopped by T2, 12:00:00 UTC: it may do nothing until a trader releases it');
   assert.equal(button(part, 'Stop'), undefined);
   const release = button(part, 'Release');
@@ -198,7 +207,7 @@ test('programs', () => {
   assert.deepEqual(sent, {do: 'release program', name: 'auto', number: sent.number});
   desk.answers(sent.number, 'Not you.');
   assert.equal(said(), 'Not you.');
-  desk.says({t: 'programs', programs: [{...program, isStopped: true, by: ''}]});
+  desk.says({t: 'programs', programs: [{...program, isStopped: true, by: '', since: midday}]});
   assert.match(words(part), /stopped by the desk,/);
   desk.says({t: 'programs', programs: []});
   assert.equal(seen(part), false);
@@ -244,22 +253,42 @@ test('limits of the firm', () => {
   desk.says({t: 'references', references: {[BOND]: {price: 99 * 256, at: midday, by: 'tom'}}, distance: 128});
   const row = dialog.querySelectorAll('tbody')[1].children[0];
   assert.deepEqual([[...row.children].slice(0, 4).map(words), points.value], [['Alder 4 2034', '99', '12:00:00', 'tom'], '0.5']);
-  row.querySelector('button').click();
+  const remove = row.querySelector('button');
+  remove.focus();
+  desk.says({t: 'limits', traders});
+  assert.equal(document.activeElement, remove, 'no message comes between the two halves of a press');
+  desk.says({t: 'references', references: {[BOND]: {price: 98 * 256, at: midday + 1000, by: 'ann'}, [SECOND]: {price: 1, at: midday, by: 'tom'}}, distance: 128});
+  assert.deepEqual([[...row.children].slice(0, 4).map(words), words(row.nextSibling.firstChild)], [['Alder 4 2034', '98', '12:00:01', 'ann'], 'Birch 3 2030']);
+  assert.equal(document.activeElement, remove);
+  remove.click();
   [sent] = desk.heard;
   assert.deepEqual(sent, {do: 'set reference', bond: BOND, price: null, number: sent.number});
   desk.answers(sent.number);
   assert.equal(why(), 'Alder 4 2034 has no reference any more.');
-  for (const [typed, value, words_] of [['2', 512, 'A typed word is wanted beyond 2 points.'], ['', null, 'A typed word is wanted beyond one point.']]) {
+  const references = more => desk.says({t: 'references', references: {}, ...more});
+  type(points, '0.25');
+  points.blur();
+  references({distance: 128});
+  assert.equal(points.value, '0.25', 'what somebody types stays, also where the keys have gone on to the button');
+  submit(distance);
+  desk.answers(desk.heard[0].number, 'No.');
+  assert.deepEqual([why(), points.value], ['No.', '0.25']);
+  for (const [typed, value, words_, shown] of [['2', 512, 'A typed word is wanted beyond 2 points.', '2'], ['', null, 'A typed word is wanted beyond one point.', '1']]) {
     points.value = typed;
     submit(distance);
     [sent] = desk.heard;
     assert.deepEqual(sent, {do: 'set distance', distance: value, number: sent.number});
     desk.answers(sent.number);
     assert.equal(why(), words_);
+    references({distance: value ?? 256});
+    assert.equal(points.value, shown);
   }
   points.value = 'x';
   submit(distance);
   assert.deepEqual([why(), desk.heard], ['x is no distance: write 0.5 or 1, in points, or nothing for one point.', []]);
+  dialog.close();
+  at('limits-button').click();
+  assert.equal(points.value, '1', 'opened anew it has what holds');
   dialog.close();
 });
 

@@ -29,7 +29,7 @@ test('quotes stand best first', () => {
   assert.deepEqual(rows(), ['DLR2 99.25 best to end', 'DLR1 99.5 8 to end', 'DLR3 99 over']);
   assert.equal(state(), '2 of 3 quoted, 1 over');
   assert.equal(document.title, '(1) INV1 desk');
-  assert.equal(card(0).querySelector('tr.best th').textContent, 'DLR2');
+  assert.deepEqual([...card(0).querySelectorAll('tbody tr')].map(row => row.className), ['best', '', 'over'], 'one is marked');
   assert.equal(hit('DLR2').getAttribute('aria-label'), 'buy from DLR2 at 99.25: 2,000,000 Alder 4 2034');
   assert.deepEqual([hit('DLR2').disabled, hit('DLR3').disabled], [false, true]);
   quotes([offered('DLR1', 99.5), offered('DLR2', 99.25)], {side: 'sell'});
@@ -60,7 +60,10 @@ test('two presses hit', () => {
   quotes([offered('DLR1', 99.5), offered('DLR2', 99.25)]);
   hit('DLR2').click();
   assert.equal(told(), 'A quote changed under your press: look again.');
-  settle();
+  clock.pass(499);
+  hit('DLR2').click();
+  assert.deepEqual([armed(), told()], [null, 'A quote changed under your press: look again.'], 'half a second, and not less');
+  clock.pass(1);
   hit('DLR2').click();
   assert.equal(told(), 'Once more: buy 2,000,000 at 99.25 from DLR2');
   assert.equal(armed().getAttribute('aria-label'), 'Confirm: buy from DLR2 at 99.25: 2,000,000 Alder 4 2034');
@@ -128,6 +131,37 @@ test('what becomes of a first press', () => {
   choose();
   quotes([offered('DLR1', 99.5), offered('DLR2', 99.25, {id: 'other', valid: clock.at - 1})]);
   assert.match(told(), /^DLR2 has withdrawn/, 'a quote that is over is no next one');
+  choose();
+  clock.pass(3000);
+  quotes([offered('DLR1', 99.375), offered('DLR2', 99.25)]);
+  assert.ok(armed());
+  clock.pass(1100);
+  assert.equal(armed(), null, 'another\u2019s quote gives the second press no more time');
+});
+
+test('what becomes of a first press where the investor sells', () => {
+  const sells = (...list) => quotes(list, {side: 'sell', deadline: clock.at + 60_000});
+  const choose = () => {
+    sells(offered('DLR1', 99), offered('DLR2', 99.25));
+    clock.skip(600);
+    hit('DLR2').click();
+    assert.equal(told(), 'Once more: sell 2,000,000 at 99.25 to DLR2');
+  };
+  choose();
+  sells(offered('DLR1', 99), offered('DLR2', 99.125));
+  assert.deepEqual([armed(), told()], [null, 'DLR2 went from 99.25 to 99.125, which is worse: your first press is taken back.'], 'a lower bid is worse');
+  choose();
+  sells(offered('DLR1', 99), offered('DLR2', 99.375));
+  assert.equal(told(), 'DLR2 has improved 99.25 to 99.375. Once more: sell 2,000,000 at 99.375 to DLR2');
+  clock.pass(600);
+  armed().click();
+  const [sent] = desk.heard;
+  assert.deepEqual(sent, {do: 'hit', request: 'R1', quote: 'DLR2 99.375', price: 99.375 * 256, number: sent.number}, 'the better price is hit');
+  desk.answers(sent.number);
+  choose();
+  sells(offered('DLR1', 99.5), offered('DLR2', 99.25));
+  assert.equal(told(), 'Once more: sell 2,000,000 at 99.25 to DLR2. NOT THE BEST: DLR1 has 99.5');
+  press(card(0), 'Escape');
 });
 
 test('keys go from quote to quote', () => {

@@ -88,7 +88,7 @@ test('positions of today', () => {
     ['Alder 4 2034', '2,000,000', '0', '+2,000,000', '99.5', '11:50:00'], ['Birch 3 2030', '0', '1,000,000', '\u22121,000,000', '98', '11:55:00']]);
 });
 
-test('earlier days', () => {
+test('earlier days', async () => {
   choose(at('day'), '20261126');
   let [sent] = desk.heard;
   assert.deepEqual(sent, {do: 'day', date: '20261126', find: '', number: sent.number});
@@ -96,7 +96,23 @@ test('earlier days', () => {
   desk.says({number: sent.number, date: '20261126', requests: [asked('R1', {history: []})], last: false});
   desk.says({number: sent.number, date: '20261126', requests: [won('R2', 97, midday)], last: true});
   assert.deepEqual([rows().map(row => cells(row)[7]), words(blotter.querySelector('.bar span:last-child'))], [['No end', 'DONE'], '']);
+  button(blotter, 'Export CSV').click();
+  const [name, lines] = await file();
+  assert.deepEqual([name, lines.length, lines[2].slice(0, 3)], ['INV1-20261126.csv', 4, 'R2,'], 'the file of that day');
   assert.equal(button(rows()[0], 'Again'), undefined);
+  const order = () => rows().map(row => cells(row)[3]);
+  desk.heard;
+  choose(at('day'), '20261125');
+  [sent] = desk.heard;
+  const part = (last, ...sizes) => desk.says({number: sent.number, date: '20261125', requests: sizes.map(size => asked(`S${size}`, {quantity: size, state: 'passed', ended: midday})), last});
+  part(false, 1, 2);
+  part(false, 3);
+  desk.says({number: sent.number, date: '20261125', requests: [], last: true, why: 'The journal is cut.'});
+  assert.equal(words(blotter.querySelector('.bar span:last-child')), 'The journal is cut.');
+  assert.deepEqual(order(), ['3', '2', '1'], 'of one moment the newest first');
+  type(filter, 'alder');
+  assert.deepEqual(order(), ['3', '2', '1'], 'as often as it is drawn');
+  type(filter, '');
   choose(at('day'), 'all');
   assert.deepEqual([desk.heard, words(blotter.querySelector('.bar span:last-child')), rows().length], [[], 'Type a bond, a firm, a quantity, a price or a trade into the filter.', 0]);
   type(filter, 'ald');
@@ -122,7 +138,9 @@ test('earlier days', () => {
 test('an earlier request is asked again', () => {
   button(rows()[1], 'Again').click();
   const ticket = at('ticket').querySelector('form');
-  assert.deepEqual([at('bond').value, at('sell').checked, at('quantity').value], ['Birch 3 2030', true, '1,000,000']);
+  assert.deepEqual([at('bond').value, at('sell').checked, at('buy').checked, at('quantity').value], ['Birch 3 2030', true, false, '1,000,000']);
+  assert.equal(at('deadline').value, '2:10', 'as long as it was asked for then, and not what is left of it');
+  assert.deepEqual([...ticket.querySelectorAll('.picks input')].filter(one => one.checked).map(one => one.value), ['DLR1', 'DLR2', 'DLR3']);
   ticket.dispatchEvent(new window.Event('submit', {bubbles: true, cancelable: true}));
   assert.deepEqual([desk.heard, words(ticket.lastChild)], [[], 'Filled in just now: look at it, and press again.']);
   press(ticket, 'Escape');
@@ -223,6 +241,11 @@ test('the table of what is open', () => {
   assert.ok(table.contains(document.activeElement));
   press(document.body, 'F8');
   assert.deepEqual([seen(table), Boolean(document.activeElement.closest('article.card')), localStorage.getItem('table')], [false, true, 'hidden']);
+  desk.tells([asked('O1', {deadline: clock.at + 60_000})]);
+  clock.at += 1500; // no tick of the page comes
+  press(document.body, 'F8');
+  assert.match(lines()[0], /^0:59/, 'as of now, and not of the last tick');
+  press(document.body, 'F8');
 });
 
 test('what the head says of its numbers', () => {

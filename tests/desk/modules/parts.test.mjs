@@ -128,6 +128,30 @@ test('a yield becomes the nearest price', () => {
   assert.deepEqual([plain.echo(), plain.asked], ['= 99-16', []]);
 });
 
+test('a price outside the band, and one at each end', () => {
+  const hello = dealerHello(), bond = {id: SECOND, name: 'Birch', grid: 32, low: 99 * 256, high: 101 * 256};
+  const {sent, entry, echo, card} = dealerCard({...hello, market: {...hello.market, bonds: [bond]}}, request('R1', {bond: SECOND}));
+  assert.equal(echo(), 'steps of 1/32 from 99 to 101');
+  for (const price of ['98.96875', '101.03125']) {
+    type(entry, price);
+    assert.equal(echo(), 'Outside the bond\u2019s band: 99 to 101.');
+    assert.ok(card.echo.classList.contains('why'));
+    press(entry, 'Enter');
+    clock.pass(1000);
+    press(entry, 'Enter');
+  }
+  assert.deepEqual([entry.value, sent], ['101.03125', []]);
+  press(entry, 'ArrowDown');
+  assert.deepEqual([entry.value, echo()], ['101', '= 101-00']);
+  for (const price of ['99', '101']) {
+    type(entry, price);
+    press(entry, 'Enter');
+    clock.pass(1000);
+    press(entry, 'Enter');
+  }
+  assert.deepEqual(sent.map(one => one.price), [99 * 256, 101 * 256]);
+});
+
 test('whose a request is', () => {
   const claimed = (login, trader) => ({claimed: {login, trader, at: midday}});
   const of = (more = {}, hello = {}) => dealerCard(dealerHello(hello), request('R1', {quotes: [own(99.5)], ...more}));

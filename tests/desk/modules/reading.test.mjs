@@ -85,6 +85,11 @@ test('prices that are read', () => {
   for (const [entry, words] of Object.entries(why)) assert.deepEqual(price.parse(entry, 256), {why: words}, entry);
   assert.deepEqual(price.parse('99-16+', 32), {why: 'Off the grid of 1/32: 99.5 or 99.53125.'});
   assert.deepEqual(price.parse('99.51', 256), {why: 'Off the grid of 1/256: 99.5078125 or 99.51171875.'});
+  const bond = {grid: 64, low: 25_344, high: 25_472}, outside = {why: 'Outside the bond\u2019s band: 99 to 99.5.'};
+  for (const [entry, read] of Object.entries({99: {price: 25_344}, 99.5: {price: 25_472}, 98.984375: outside, '99-16+': outside}))
+    assert.deepEqual(price.parseQuote(entry, bond), read, entry);
+  assert.deepEqual(price.parseQuote('99.01', bond), {why: 'Off the grid of 1/64: 99 or 99.015625.'});
+  assert.deepEqual(price.parseQuote('999.984375', {grid: 64}), {price: 255_996});
 });
 
 test('a line of the desk', () => {
@@ -94,6 +99,9 @@ test('a line of the desk', () => {
   as32nds();
   assert.equal(price.inMode(line), 'DLR1 quotes 99-16+, ann withdraws 100-00, 12:00:00; 3 by 99.3 of 99.5');
   assert.equal(price.inMode('Quote 99.5.'), 'Quote 99-16.');
+  const others = {'Live: 99.5': 'Live: 99-16', 'Withdrawn: 99.515625': 'Withdrawn: 99-16+', 'DLR1 replaces 99.5 by 99.25': 'DLR1 replaces 99-16 by 99-08', 'Done with DLR1 at 99.25': 'Done with DLR1 at 99-08',
+    'Quote 99.5 refused: the exposure would be 2 of 1': 'Quote 99-16 refused: the exposure would be 2 of 1', 'Quote 99.25 never delivered: it is too old': 'Quote 99-08 never delivered: it is too old'};
+  for (const [told, words] of Object.entries(others)) assert.equal(price.inMode(told), words);
   asDecimals();
 });
 

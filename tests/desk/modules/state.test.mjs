@@ -102,6 +102,10 @@ test('the day of a dealer in a bond', () => {
   assert.equal(todayWords(model, {bond: BOND, id: 'R9'}), 'Here today: sold at 99 (12:01 UTC), offered 97 (12:02 UTC). Net +2');
   assert.equal(todayWords(model, {bond: BOND, id: 'R3'}), 'Here today: sold at 99 (12:01 UTC). Net +2', 'a quote that is older than the trade is none');
   assert.equal(todayWords(model, {bond: 'OTHER', id: 'R4'}), 'Here today: no other price of this bond');
+  model.take({t: 'requests', requests: [request('R6', {quotes: [own(94, {state: 'replaced', at: midday + 130_000}), own(93, {state: 'live', at: midday + 140_000}), own(92, {state: 'sent', at: midday + 150_000})]})]});
+  assert.equal(todayWords(model, {bond: BOND, id: 'R9'}), 'Here today: sold at 99 (12:01 UTC), offered 93 (12:02 UTC). Net +2', 'the last one that the venue has taken');
+  model.take({t: 'requests', requests: [request('R6', {quotes: [own(93, {state: 'undelivered', at: midday + 140_000})]})]});
+  assert.equal(todayWords(model, {bond: BOND, id: 'R9'}), 'Here today: sold at 99 (12:01 UTC), offered 97 (12:02 UTC). Net +2', 'one that was never delivered is none');
   model.take({t: 'requests', requests: [done('R5', 'buy', 9, 95, midday + 300_000)]});
   assert.equal(todayWords(model, {bond: BOND, id: 'R9'}), 'Here today: sold at 95 (12:05 UTC). Net \u22127');
 });

@@ -1,7 +1,7 @@
 // An investor's ticket: what it reads back, what it says of each fault, what it sends, and a list that is pasted.
 import assert from 'node:assert/strict';
 import test from 'node:test';
-import {button, clock, document, midday, press, type, window, words} from './stand.mjs';
+import {button, clock, document, load, midday, press, type, window, words} from './stand.mjs';
 import {BOND, SECOND, asked, investorHello} from './samples.mjs';
 import {at, desk, seen} from './whole.mjs';
 
@@ -52,6 +52,10 @@ test('a bond that is completed', () => {
   assert.equal(list.children[1].getAttribute('aria-selected'), 'true');
   press(bond, 'Enter');
   assert.deepEqual([bond.value, list.hidden], ['Alder 4 2034', true]);
+  type(bond, 'b');
+  const down = new window.MouseEvent('mousedown', {bubbles: true, cancelable: true});
+  list.children[0].firstChild.dispatchEvent(down);
+  assert.deepEqual([bond.value, list.hidden, down.defaultPrevented], ['Birch 3 2030', true, true], 'by the mouse, and the keys stay in the field');
   type(bond, '2030 bir');
   assert.deepEqual(options(), [`Birch 3 2030${SECOND}`]);
   press(bond, 'Escape');
@@ -222,6 +226,8 @@ test('a list that can not be asked', () => {
     type(text, lines);
     assert.equal(echo(), words_);
   }
+  type(text, Array(50).fill('birch b 1m').join('\n'));
+  assert.match(echo(), /^50 requests: buy 50,000,000\. /);
   type(text, 'birch b 1m\nalder s 1m');
   desk.says({...investorHello().session, accepted: 1023});
   clock.pass(200);
@@ -246,4 +252,43 @@ test('a list that can not be asked', () => {
   clock.pass(700);
   submit();
   assert.match(desk.heard[0].name, /^List \d\d:\d\d:\d\d$/);
+});
+
+// A ticket by itself, of a page that opens.
+const {Ticket} = await load('ticket.js');
+const {Model} = await load('model.js');
+function opened(hello, ...requests) {
+  const model = new Model();
+  model.take(hello);
+  model.take({t: 'requests', requests});
+  const own = new Ticket(model, {now: () => clock.at, act: () => {}});
+  const chosen = () => [...own.node.querySelectorAll('.picks input')].filter(one => one.checked).map(one => one.value);
+  own.preselect();
+  return {ticket: own, chosen, source: words(own.node.querySelector('.source')), echo: () => words(own.node.querySelector('.echo'))};
+}
+const of = (...names) => names.map(name => ({name, answer: 'none'}));
+
+test('the dealers of a page that opens', () => {
+  localStorage.removeItem('dealers INV1 ann');
+  const first = opened(investorHello({groups}), asked('R1', {trader: 'V2', dealers: of('DLR2')}));
+  assert.deepEqual([first.chosen(), first.source], [['DLR1', 'DLR3'], 'The group rates'], 'a colleague\u2019s request is none of one\u2019s own');
+  const last = opened(investorHello({groups}), asked('R1', {dealers: of('DLR1')}), asked('R2', {dealers: of('DLR2', 'DLR3')}), asked('R3', {trader: 'V2', dealers: of('DLR1')}));
+  assert.deepEqual([last.chosen(), last.source], [['DLR2', 'DLR3'], 'As in your last request']);
+  localStorage.setItem('dealers INV1 ann', '["DLR3", 5, "DLR9"]');
+  const kept = opened(investorHello({groups}));
+  assert.deepEqual([kept.chosen(), kept.source], [['DLR3'], 'As in your last request'], 'of a day before, as this browser knows it');
+  for (const other of ['{', 'null', '{"a": 1}']) {
+    localStorage.setItem('dealers INV1 ann', other);
+    assert.deepEqual(opened(investorHello({groups})).chosen(), ['DLR1', 'DLR3'], other);
+  }
+  assert.deepEqual([opened(investorHello()).chosen(), opened(investorHello()).source], [[], '']);
+});
+
+test('a request goes to eight dealers at most', () => {
+  const market = {...investorHello().market, dealers: Array.from({length: 9}, (_, nth) => `DLR${nth + 1}`)};
+  const {ticket: own, echo: says} = opened(investorHello({market, groups: {big: market.dealers}}));
+  assert.deepEqual([...own.node.querySelectorAll('.chips button')].map(words), ['none', 'big', '\u00d7?'], 'no button chooses every dealer');
+  assert.equal(says(), '9 dealers are chosen: a request has 8 at most.');
+  own.dealers.choose(market.dealers.slice(1));
+  assert.equal(says(), 'Choose a bond, a side, a quantity.');
 });
