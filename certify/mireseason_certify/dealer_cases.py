@@ -52,6 +52,18 @@ def off_grid(stage: Stage) -> None:
     passed(stage, request)
 
 
+@case("Accepts that a quote outside the bond's band is refused, and quotes its end", needs=QUOTES)
+def outside_band(stage: Stage) -> None:
+    request = ask(stage)
+    low, high = request.bond.low, request.bond.high
+    price = stage.draw.outside(request.bond)
+    refused_quote(stage, request, price, ", which is outside the bond's band", "8")
+    stage.goes_on()
+    quote(stage, request, low if price < low else high)
+    stage.goes_on()
+    passed(stage, request)
+
+
 @case("Accepts that a quote after the deadline is refused", needs=QUOTES)
 def late(stage: Stage) -> None:
     request = ask(stage, seconds=SHORT)
@@ -101,15 +113,24 @@ def withdrawn(stage: Stage) -> None:
     passed(stage, request)
 
 
-@case("Withdraws one of two quotes, and the other one stands", needs=WITHDRAWS)
+@case("Withdraws one of two quotes, and the other one stands, twice", needs=WITHDRAWS)
 def withdrawn_one_of_two(stage: Stage) -> None:
+    # Whoever goes by the order of its quotes withdraws another one, the first time or the second.
+    for place in stage.draw.shuffled(range(2)):
+        _withdraw_one(stage, place)
+
+
+def _withdraw_one(stage: Stage, place: int) -> None:
+    """Of two quotes this one goes."""
     requests = [ask(stage), ask(stage)]
     names = [quote(stage, request) for request in requests]
-    stage.task("Withdraw your quote on %s alone." % requests[0].id, "withdraw", quote=names[0])
+    stage.goes_on()
+    own, name = requests[place].id, names[place]
+    stage.task("Withdraw your quote on %s alone." % own, "withdraw", quote=name)
     cancel = stage.desk_sends("a QuoteCancel (35=Z)", is_kind("Z"))
-    if cancel.get(298) != "5" or cancel.get(117) != names[0]:
-        raise Failed("the cancel is not of %s alone: %s" % (names[0], cancel.bars))
-    stage.venue_sends("that it is withdrawn", is_reply("117", names[0], "17"))
+    if cancel.get(298) != "5" or cancel.get(117) != name:
+        raise Failed("the cancel is not of %s alone: %s" % (name, cancel.bars))
+    stage.venue_sends("that it is withdrawn", is_reply("117", name, "17"))
     for request in requests:
         passed(stage, request)
 

@@ -38,7 +38,7 @@ class Draw:
         dealers = [self._played(name) for name in self._names(DEALERS, desk, 3)]
         investors = [self._played(name) for name in self._names(INVESTORS, desk, 2)]
         (dealers if role == "dealer" else investors).append(who)
-        bonds = [Bond(self._bond_id(at), self._random.choice(GRIDS)) for at in range(BONDS)]
+        bonds = [self._bond(at) for at in range(BONDS)]
         self._bonds_left = list(bonds)
         return Cast(who, role, dealers, investors, bonds, EXPOSURE, QUANTITY)
 
@@ -56,6 +56,11 @@ class Draw:
     def off_grid(self, bond: Bond) -> Decimal:
         """A price of at most eight decimals that is no whole number of the grid's steps."""
         return self.price(bond) + Decimal(1) / (bond.grid * 2)
+
+    def outside(self, bond: Bond) -> Decimal:
+        """The price one step below the bond's band, or one above it."""
+        step = Decimal(1) / bond.grid
+        return self._random.choice((bond.low - step, bond.high + step))
 
     def side(self) -> str:
         """Side (54): 1, the investor buys, or 2, it sells."""
@@ -77,6 +82,13 @@ class Draw:
 
     def _trader(self) -> str:
         return "T%02d" % self._random.randrange(100)
+
+    def _bond(self, at: int) -> Bond:
+        """A bond whose band has every price that is drawn, and a point more at each end."""
+        grid = self._random.choice(GRIDS)
+        low = Decimal(self._random.randrange(80 * grid, 89 * grid)) / grid
+        high = Decimal(self._random.randrange(111 * grid, 120 * grid)) / grid
+        return Bond(self._bond_id(at), grid, low, high)
 
     def _bond_id(self, at: int) -> str:
         letters = "".join(self._random.choices(LETTERS, k=4))

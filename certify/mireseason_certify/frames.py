@@ -12,6 +12,7 @@ LONGEST = 1 << 16  # bytes of a frame: what the gateway takes at most
 BEGIN = re.compile(rb"8=FIXT\.1\.1\x019=([0-9]{1,6})\x01")
 LONGEST_BEGIN = len(b"8=FIXT.1.1\x019=123456\x01")
 TRAILER = len(b"10=123\x01")
+NUMBER = re.compile(r"[0-9]{1,9}")
 SESSION_KINDS = frozenset("A012345")  # MsgType (35) of FIX's session
 
 Fields = Sequence[tuple[int, str]]
@@ -40,8 +41,7 @@ class Message:
     @property
     def number(self) -> int:
         """MsgSeqNum (34); 0 where it is none."""
-        text = self.get(34)
-        return int(text) if text.isdigit() and len(text) <= 9 else 0
+        return number_of(self.get(34)) or 0
 
     @property
     def is_again(self) -> bool:
@@ -68,6 +68,11 @@ def field_of(part: bytes) -> tuple[int, str]:
     tag, equals, value = part.partition(b"=")
     text = value.decode("utf-8", "replace")
     return (int(tag), text) if equals and tag.isdigit() and len(tag) <= 9 else (0, text)
+
+
+def number_of(text: str) -> int | None:
+    """A number as the venue reads it, of 1 to 9 digits; None where the text is none."""
+    return int(text) if NUMBER.fullmatch(text) else None
 
 
 def now() -> str:

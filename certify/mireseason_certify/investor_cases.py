@@ -75,15 +75,30 @@ def hit_only(stage: Stage) -> None:
     stage.holds(request.bond, request.change(is_dealer=False))
 
 
-@case("Hits the one of three quotes that it is told to hit", needs=("ask-three", "hit-only"))
+@case(
+    "Hits the one of three quotes that it is told to hit, on each of two requests",
+    needs=("ask-three", "hit-only"),
+)
 def hit_one_of_three(stage: Stage) -> None:
-    request = ask(stage, stage.dealers)
-    price = stage.draw.price(request.bond)
+    # Whoever goes by one place or one price, whichever it is, hits another quote on one of the two. They have one side: where
+    # sides differ, the lowest price is the best of one and the worst of the other.
+    side, each = stage.draw.side(), range(len(stage.dealers))
+    places, ranks = stage.draw.shuffled(each), stage.draw.shuffled(each)
+    for place, rank in list(zip(places, ranks))[:2]:
+        _hit_one(stage, side, place, rank)
+
+
+def _hit_one(stage: Stage, side: str, place: int, rank: int) -> None:
+    """What is to be hit is shown at this place, and its price is the best (0), or worse by so many steps."""
+    request = ask(stage, stage.dealers, side)
+    best = stage.draw.price(request.bond)
+    steps = stage.draw.shuffled([one for one in range(len(stage.dealers)) if one != rank])
+    steps.insert(place, rank)
     offers = [
-        dealer_quotes(stage, dealer, request, worse(request, price, at))
-        for at, dealer in enumerate(stage.dealers)
+        dealer_quotes(stage, dealer, request, worse(request, best, step))
+        for dealer, step in zip(stage.dealers, steps)
     ]
-    hit(stage, request, offers[int(stage.draw.side()) - 1])
+    hit(stage, request, offers[place])
     stage.holds(request.bond, request.change(is_dealer=False))
 
 
@@ -126,17 +141,27 @@ def hit_in_the_race(stage: Stage) -> None:
     passes(stage, request)
 
 
-@case("Hits a quote that stands once another one is gone", needs=("hit-one-of-three",))
+@case("Hits the quote that stands once the other one is gone, twice", needs=("hit-one-of-three",))
 def hit_the_other(stage: Stage) -> None:
-    request = ask(stage, stage.dealers[:2])
+    # Whoever goes by the order in which quotes were shown hits what is gone, the first time or the second; what goes was the
+    # better price, on each.
+    for place in stage.draw.shuffled(range(2)):
+        _hit_the_other(stage, place)
+
+
+def _hit_the_other(stage: Stage, place: int) -> None:
+    """What stands was shown at this place, and is worse by two steps."""
+    dealers = stage.dealers[:2]
+    request = ask(stage, dealers)
     price = stage.draw.price(request.bond)
-    # What goes was shown last and was the better price: neither rule of thumb finds what stands.
-    stays = dealer_quotes(stage, stage.dealers[0], request, worse(request, price, 2))
-    dealer_quotes(stage, stage.dealers[1], request, price)
-    dealer_withdraws(stage, stage.dealers[1])
+    offers = [
+        dealer_quotes(stage, dealer, request, worse(request, price, 2 if at == place else 0))
+        for at, dealer in enumerate(dealers)
+    ]
+    dealer_withdraws(stage, dealers[1 - place])
     text = "Hit the quote that stands on your request %s." % request.id
     stage.task(text, "hit what stands", request=request.id, bond=request.bond.id)
-    name = sent_hit(stage, stays)
+    name = sent_hit(stage, offers[place])
     stage.venue_sends("that it is awarded", is_reply("693", name, "0"))
     stage.holds(request.bond, request.change(is_dealer=False))
 

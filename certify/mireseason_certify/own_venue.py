@@ -8,6 +8,7 @@ import subprocess
 import time
 from collections.abc import Sequence
 from dataclasses import dataclass, field
+from decimal import Decimal
 from pathlib import Path
 
 from .played import Identity
@@ -28,10 +29,13 @@ class NoVenue(Exception):
 
 @dataclass(frozen=True)
 class Bond:
-    """A bond of this venue. Its grid is how many steps a point of its price has: 32, 64, 128 or 256."""
+    """A bond of this venue. Its grid is how many steps a point of its price has: 32, 64, 128 or 256; low and high are
+    the ends of its band."""
 
     id: str
     grid: int
+    low: Decimal = Decimal(80)
+    high: Decimal = Decimal(120)
 
 
 @dataclass(frozen=True)
@@ -152,9 +156,10 @@ class OwnVenue:
         )
 
     def _venue_text(self) -> str:
-        text = "version = 2\n"
+        text = "version = 3\n"
         for bond in self.cast.bonds:
             text += '[[bond]]\nid = "%s"\ngrid = %d\n' % (bond.id, bond.grid)
+            text += 'low = "%s"\nhigh = "%s"\n' % (format(bond.low, "f"), format(bond.high, "f"))
         for who in self.cast.dealers:
             is_desk = who == self.cast.desk
             exposure = self.cast.exposure * (1 if is_desk else 1000)

@@ -11,6 +11,7 @@ from urllib.parse import parse_qs, urlsplit
 
 import jinja2
 
+from .frames import number_of
 from .ports import HOST, Port
 from .telling import Telling
 
@@ -84,16 +85,16 @@ class Answers(BaseHTTPRequestHandler):
     def do_POST(self) -> None:
         if not self._is_asked_here() or not self._is_own_origin():
             return
-        length = self.headers.get("Content-Length", "")
-        if not length.isdigit() or int(length) > MOST_BODY:
+        length = number_of(self.headers.get("Content-Length", ""))
+        if length is None or length > MOST_BODY:
             self._give(413, "text/plain", "the answer is too long\n")
             return
-        values = parse_qs(self.rfile.read(int(length)).decode("utf-8", "replace"))
-        number = values.get("number", [""])[0]
+        values = parse_qs(self.rfile.read(length).decode("utf-8", "replace"))
+        number = number_of(values.get("number", [""])[0])
         is_taken = (
             self.path == "/answer"
-            and number.isdigit()
-            and self.shown.enter(int(number[:9]), values.get("text", [""])[0])
+            and number is not None
+            and self.shown.enter(number, values.get("text", [""])[0])
         )
         if is_taken:
             self.send_response(303)

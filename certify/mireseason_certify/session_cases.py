@@ -9,7 +9,7 @@ from statistics import median
 from typing import Protocol
 
 from .case import Cases
-from .frames import Message, moment_of
+from .frames import Message, moment_of, number_of
 from .own_venue import Bond
 from .relay import By, Fits, Seen
 from .stage import Failed, Stage, is_kind
@@ -143,7 +143,8 @@ class SessionCases:
         stage.until("a message of the venue is lost", stage.relay.has_lost)
         lost = next(one for one in stage.relay.since(place) if one.is_lost).message
         asked = stage.desk_sends("a ResendRequest (35=2)", is_kind("2"))
-        if int(asked.get(7) or 0) > lost.number:
+        begin = number_of(asked.get(7))
+        if begin is None or begin > lost.number:
             raise Failed("it does not ask for %d: %s" % (lost.number, asked.bars))
         stage.venue_sends("it again", lambda one: one.is_again and one.number == lost.number)
         show(stage, act)
@@ -291,8 +292,7 @@ def is_as_printed(stage: Stage, logon: Message) -> None:
     ):
         if logon.get(tag) != value:
             raise Failed("%s (%d) of the Logon is not the one that was printed" % (name, tag))
-    interval = logon.get(108)
-    if not (interval.isdigit() and 1 <= int(interval) <= 300):
+    if not 1 <= (number_of(logon.get(108)) or 0) <= 300:
         raise Failed("HeartBtInt (108) of the Logon is none of 1 to 300: %s" % logon.bars)
 
 

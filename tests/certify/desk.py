@@ -221,6 +221,7 @@ class Desk:
         """A quote (35=S) to an investor."""
         tag = 135 if message.get(54) == "1" else 134
         offer = {"request": message.get(131), "bond": message.get(48), "side": message.get(54)}
+        offer["price"] = message.get(133 if message.get(54) == "1" else 132)
         self.shown[message.get(117)] = {**offer, "quantity": message.get(tag)}
         self.offers[message.get(117)] = self.shown[message.get(117)]
 

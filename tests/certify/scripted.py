@@ -132,28 +132,24 @@ class Played:
 class Script:
     """A stage, and who is on it."""
 
-    def __init__(self, role: str = "dealer") -> None:
+    def __init__(self, role: str = "dealer", seed: int = 1) -> None:
         self.line, self.developer = Line(), Developer()
         self.orders: list[str] = []
         self.dealers = [Played(name) for name in ("ELGIN", "CALDER", "HARLOW")]
         self.investors = [Played("MERLIN")]
-        who = Draw(1).cast(DESK, role)
+        draw = Draw(seed)
+        who = draw.cast(DESK, role)
         venue = SimpleNamespace(cast=who, order=self.order, kill=self.order, start=self.order)
         self.password = who.desk.password
         self.stage = Stage(
             cast(Relay, self.line),
             cast(Any, venue),
-            self.draw(who),
+            draw,
             self.developer,
             cast(list[PlayedFirm], self.dealers),
             cast(list[PlayedFirm], self.investors),
             0.01,
         )
-
-    def draw(self, who: Any) -> Draw:
-        made = Draw(1)
-        made.cast(DESK, who.role)
-        return made
 
     def order(self, *words: str) -> str:
         self.orders.append(" ".join(words))

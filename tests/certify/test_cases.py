@@ -8,7 +8,7 @@ from __future__ import annotations
 import pytest
 from mireseason_certify import session_cases
 from mireseason_certify.dealer_session import QuoteAct
-from mireseason_certify.frames import Message
+from mireseason_certify.frames import Message, message_of
 from mireseason_certify.relay import By, Fits, Seen
 from mireseason_certify.session_cases import SessionCases
 
@@ -44,15 +44,25 @@ def test_a_logon_that_is_another(script: Script, field: str) -> None:
 
 
 @pytest.mark.parametrize(
-    "interval, is_right", [("1", 1), ("300", 1), ("301", 0), ("x", 0), ("", 0)]
+    "interval, is_right",
+    [
+        *(("1", 1), ("300", 1), ("030", 1), ("301", 0), ("x", 0), ("", 0)),
+        *(("\u00b2", 0), ("\u0663\u0660", 0), ("0000000030", 0), ("9" * 5000, 0)),
+    ],
 )
 def test_how_often_it_says_that_it_is_there(script: Script, interval: str, is_right: bool) -> None:
+    """A number as the venue reads it: of 1 to 9 digits of ASCII."""
     logon = script.logon(_108=interval)
     if is_right:
         session_cases.is_as_printed(script.stage, logon)
         return
     with fails("none of 1 to 300"):
         session_cases.is_as_printed(script.stage, logon)
+
+
+@pytest.mark.parametrize("number", ["\u00b2", "x", "", "-1", "0000000001"])
+def test_a_number_that_is_none(number: str) -> None:
+    assert message_of(b"35=0\x0134=%s\x01" % number.encode()).number == 0
 
 
 def test_a_first_logon_has_number_1(script: Script) -> None:
@@ -235,7 +245,13 @@ def test_how_long_an_answer_is_waited_for(script: Script) -> None:
         assert asked.pop() == limit
 
 
-@pytest.mark.parametrize("begin, is_right", [("7", True), ("5", True), ("0", True), ("8", False)])
+@pytest.mark.parametrize(
+    "begin, is_right",
+    [
+        *(("7", True), ("5", True), ("0", True), ("8", False)),
+        *(("x", False), ("", False), ("\u00b2", False), ("-1", False)),
+    ],
+)
 def test_a_gap_that_the_desk_has_to_see(script: Script, begin: str, is_right: bool) -> None:
     """It asks from the lost message on, or from one before it."""
     acts = iter(range(2))

@@ -54,8 +54,8 @@ class Request:
 class Market(Script):
     """The venue, and a desk that is right."""
 
-    def __init__(self) -> None:
-        super().__init__("investor")
+    def __init__(self, seed: int = 1) -> None:
+        super().__init__("investor", seed)
         self.requests: list[Request] = []
         self.positions: dict[str, int] = {}
         self.did: list[tuple[str, dict[str, str]]] = []
@@ -110,7 +110,7 @@ class Market(Script):
         self.line.venue("S", {131: request.id, 117: name, 448: dealer, request.price_tag: price})
 
     def withdraws(self, firm: Firm) -> None:
-        for request in self.requests:
+        for request in [one for one in self.requests if one.is_open]:
             for name in [
                 one for one, (whose, _) in request.quotes.items() if whose == firm.who.name
             ]:
@@ -221,11 +221,11 @@ SHAPES = {
     "unknown-bond": (2, 0, 1),
     "too-much": (2, 0, 1),
     "hit-only": (1, 1, 0),
-    "hit-one-of-three": (1, 1, 0),
+    "hit-one-of-three": (2, 2, 0),
     "hit-replaced": (1, 1, 0),
     "hit-gone": (1, 1, 1),
     "hit-in-the-race": (1, 1, 1),
-    "hit-the-other": (1, 1, 0),
+    "hit-the-other": (2, 2, 0),
     "passed": (1, 0, 1),
     "expired": (1, 0, 0),
     "hit-late": (1, 1, 0),
@@ -253,17 +253,81 @@ def test_which_side_it_asks_for(market: Market) -> None:
 
 
 def test_what_no_rule_of_thumb_finds(market: Market) -> None:
-    """What replaces a quote is worse, and what stands is neither the better price nor the newest."""
+    """What replaces a quote is worse, and what stands beside one that is gone is worse than that was."""
     CASES["hit-replaced"].play(market.stage)
     (replaced,) = market.requests
     assert replaced.is_better(replaced.shown[0][1], replaced.shown[1][1])
     CASES["hit-the-other"].play(market.stage)
-    other = market.requests[1]
-    assert other.is_better(other.shown[1][1], other.shown[0][1])
-    assert list(other.quotes.values()) == other.shown[:1]
-    CASES["hit-one-of-three"].play(market.stage)
-    three = market.requests[2]
-    assert len({price for _, price in three.shown}) == 3
+    for other in market.requests[1:]:
+        (stands,) = other.quotes.values()
+        (gone,) = [one for one in other.shown if one != stands]
+        assert other.is_better(gone[1], stands[1])
+
+
+@pytest.mark.parametrize("place", [0, -1])
+def test_what_stands_is_found_by_no_rule(script: Script, place: int) -> None:
+    """Who hits what was shown first, or last, hits what is gone, whatever is drawn; which comes first is drawn, too."""
+    del script  # whose seconds it has
+    first = set()
+    for seed in range(1, 11):
+        market = Market(seed)
+
+        def hits(act: dict[str, str], of: Market = market) -> None:
+            request = of.of_name(act["request"])
+            ((name, stands),) = request.quotes.items()
+            if len(of.requests) == 1:
+                first.add(request.shown.index(stands))
+            of.hits(request, name if request.shown[place] == stands else "gone")
+
+        market.developer.acts["hit what stands"] = hits
+        with fails("the desk has not sent a hit"):
+            CASES["hit-the-other"].play(market.stage)
+    assert first == {0, 1}
+
+
+Shown = dict[str, Decimal]  # by 117, in the order in which they were shown
+RULES: dict[str, Callable[[Shown], str]] = {
+    "the first": lambda shown: list(shown)[0],
+    "the second": lambda shown: list(shown)[1],
+    "the last": lambda shown: list(shown)[-1],
+    "the lowest": lambda shown: sorted(shown, key=shown.__getitem__)[0],
+    "the middle": lambda shown: sorted(shown, key=shown.__getitem__)[1],
+    "the highest": lambda shown: sorted(shown, key=shown.__getitem__)[-1],
+}
+
+
+@pytest.mark.parametrize("seed", range(1, 11))
+def test_one_of_three_is_found_by_no_rule(script: Script, seed: int) -> None:
+    """Whichever quotes are drawn, and whichever of them is to be hit."""
+    del script  # whose seconds it has
+    for rule, picks in RULES.items():
+        market = Market(seed)
+
+        def hit(act: dict[str, str], of: Market = market) -> None:
+            request = of.of_name(act["request"])
+            of.hits(request, picks({name: price for name, (_, price) in request.quotes.items()}))
+
+        market.developer.acts["hit"] = hit
+        with pytest.raises(Failed, match="has not sent a hit"):
+            CASES["hit-one-of-three"].play(market.stage)
+            pytest.fail("who hits %s passes" % rule)
+
+
+def test_each_of_three_is_to_be_hit(script: Script) -> None:
+    """So no desk has learnt which it is: each place and each price, on either side."""
+    del script  # whose seconds it has
+    places, ranks, sides = set(), set(), set()
+    for seed in range(1, 21):
+        market = Market(seed)
+        CASES["hit-one-of-three"].play(market.stage)
+        for at, (request, act) in enumerate(zip(market.requests, market.told("hit"))):
+            prices = [price for _, price in request.shown]
+            to_hit = request.quotes[act["quote"]][1]
+            assert len(set(prices)) == 3
+            places.add((at, prices.index(to_hit)))
+            ranks.add((at, sorted(prices).index(to_hit)))
+            sides.add(request.side)
+    assert len(places) == len(ranks) == 6 and sides == {"1", "2"}
 
 
 NOTHING = {

@@ -79,13 +79,17 @@ def test_a_request_that_is_another() -> None:
 
 def test_a_quote_that_the_desk_refuses_by_itself(script: Script) -> None:
     """It is noted; and where it sends one, the venue has to refuse that."""
-    script.developer.acts["quote"] = lambda act: script.developer.enter(1, "refused")
+    tasks = script.developer.tasks
+    script.developer.acts["quote"] = lambda act: script.developer.enter(len(tasks), "refused")
     refused_quote(script.stage, BUY, Decimal("99.5"), ", which is none", "8")
     assert script.stage.note == "the desk refuses it by itself"
     assert (
         "Quote 99.5 on your request R1 (the investor buys, XSABCD000001 of 500), which is none."
         in (script.developer.tasks)
     )
+    refused_quote(script.stage, SELL, Decimal("100"), "", "8")
+    words = "Quote 100 on your request R1 (the investor sells, XSABCD000001 of 500)."
+    assert script.developer.tasks[-1] == words
     script.line.desk("S", QUOTE)
     with fails("the venue was to send that it refuses q"):
         refused_quote(script.stage, BUY, Decimal("99.5"), "", "8")
@@ -221,23 +225,28 @@ def withdraws(script: Script, **other: str) -> None:
     script.developer.acts["withdraw"] = act
 
 
-@pytest.mark.parametrize("other, is_right", [({}, 1), ({"_117": "q2"}, 0), ({"_298": "4"}, 0)])
+@pytest.mark.parametrize("place", [0, 1])
+@pytest.mark.parametrize("other", [{}, {"_117": "the other"}, {"_298": "4"}])
 def test_one_quote_of_two_is_withdrawn(
-    script: Script, other: dict[str, str], is_right: bool, monkeypatch: pytest.MonkeyPatch
+    script: Script, other: dict[str, str], place: int, monkeypatch: pytest.MonkeyPatch
 ) -> None:
-    """The first, and it alone."""
+    """The first or the second, and it alone."""
     requests, names = iter([BUY, replace(SELL, id="R2")]), iter(["q1", "q2"])
+    monkeypatch.setattr(script.stage.draw, "shuffled", lambda _: [place])
     monkeypatch.setattr(dealer_cases, "ask", lambda _: next(requests))
     monkeypatch.setattr(dealer_cases, "quote", lambda *_: next(names))
     ended: list[str] = []
     monkeypatch.setattr(dealer_cases, "passed", lambda _, request: ended.append(request.id))
-    withdraws(script, **other)
-    if is_right:
+    withdraws(
+        script,
+        **{tag: value.replace("the other", "q%d" % (2 - place)) for tag, value in other.items()},
+    )
+    if not other:
         dealer_cases.withdrawn_one_of_two(script.stage)
-        assert script.developer.tasks == ["Withdraw your quote on R1 alone."]
+        assert script.developer.tasks == ["Withdraw your quote on R%d alone." % (place + 1)]
         assert ended == ["R1", "R2"]
         return
-    with fails("the cancel is not of q1 alone"):
+    with fails("the cancel is not of q%d alone" % (place + 1)):
         dealer_cases.withdrawn_one_of_two(script.stage)
 
 

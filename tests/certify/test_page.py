@@ -62,6 +62,8 @@ def test_what_it_shows(page: Page, telling: Telling) -> None:
     assert status == 200 and "Enter &lt;your&gt; position." in text
     assert "<script>" not in text and "<b>0</b>" not in text
     assert "default-src 'none'" in headers["Content-Security-Policy"]
+    # Else nobody could tell a page that was cut off.
+    assert headers["Content-Length"] == "%d" % len(text.encode())
     now = json.loads(asked(page, "GET", "/now.json")[2])
     assert now["task"]["act"] == {"do": "position"} and now["task"]["number"] == 1
     assert now["cases"][0]["outcome"] == "failed"
@@ -131,6 +133,8 @@ def test_an_answer(page: Page, telling: Telling) -> None:
     [
         ("number=2&text=1", {}, 409),
         ("number=&text=1", {}, 409),
+        ("number=%C2%B9&text=1", {}, 409),
+        ("number=1&text=1", {"Content-Length": "\u00b9"}, 413),
         ("", {}, 409),
         ("number=1&text=" + "1" * MOST_BODY, {}, 413),
         ("number=1&text=1", {"Origin": "http://elsewhere.example"}, 403),

@@ -123,6 +123,9 @@ def test_what_it_answers(firm: PlayedFirm, gateway: Gateway) -> None:
     said = gateway.hears()
     fields = (said.kind, said.number, said.get(123), said.get(36), said.is_again)
     assert fields == ("4", 1, "Y", "3", True)
+    # 43 and 122 stand in the header, where the venue looks for them.
+    tags = [tag for tag, _ in said.fields]
+    assert tags.index(43) < tags.index(122) < tags.index(123) < tags.index(36)
 
 
 def test_a_gap(firm: PlayedFirm, gateway: Gateway) -> None:

@@ -1,5 +1,6 @@
 """A certification has its ports alone: the venue's, while its gateway is ended and started, the relay's, and the page's."""
 
+import os
 import socket
 import time
 from collections.abc import Iterator
@@ -100,6 +101,24 @@ def test_a_gateway_that_ends_at_once(tmp_path: Path) -> None:
         assert time.monotonic() - began < module.START / 2, "its end is seen"
         with pytest.raises(NoVenue, match="an operator's halt is refused: first0"):
             venue.order("halt")
+
+
+def test_its_passwords_are_for_nobody_else(tmp_path: Path) -> None:
+    program = tmp_path / "gateway"
+    program.write_text("#!/bin/sh\ncat\n")
+    program.chmod(0o755)
+    cast = Draw(1).cast("TESTDESK", "dealer")
+    with closing(OwnVenue(Programs(program, program, ["venue"]), tmp_path, cast)) as venue:
+        umask = os.umask(0)
+        try:
+            venue.write()
+        finally:
+            os.umask(umask)
+    file = tmp_path / "credentials.toml"
+    assert file.stat().st_mode & 0o777 == 0o600
+    text = '[%s]\nusername = "%s"\npassword = "%s"\n'
+    firms = [(one.name, one.name, one.password) for one in (*cast.dealers, *cast.investors)]
+    assert file.read_text() == "".join(text % one for one in firms)
 
 
 def test_ports_that_nobody_has_named() -> None:

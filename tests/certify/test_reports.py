@@ -1,5 +1,6 @@
 """What a run leaves: a report, signed or not, and what makes one invalid."""
 
+import hashlib
 import json
 import os
 import signal
@@ -62,6 +63,23 @@ def test_one_that_holds(
     assert "signed, passed, and in time" in told(report(), key, tmp_path, capsys)
 
 
+@pytest.mark.parametrize("outcome, word", [(PASSED, "passed"), (FAILED, "failed")])
+def test_what_is_signed(outcome: str, word: str, key: Ed25519PrivateKey, tmp_path: Path) -> None:
+    """What a gateway asks of a report: whose it is, as what, what came of it, until when, by which formats; and its sum."""
+    made = report(outcome)
+    made.write(tmp_path, key)
+    data = (tmp_path / "certified-DLR1.json").read_bytes()
+    signature = (tmp_path / "certified-DLR1.signature").read_text()
+    line, signed = signature.removesuffix("\n").rsplit(" ", 1)
+    assert line.split(" ") == [
+        *("mireseason-report", "1", "DLR1", "dealer", word),
+        (TODAY + timedelta(days=10)).strftime("%Y%m%d"),
+        made.versions["formats"],
+        hashlib.sha256(data).hexdigest(),
+    ]
+    key.public_key().verify(bytes.fromhex(signed), line.encode())
+
+
 @pytest.mark.parametrize(
     "made, fault",
     [
@@ -88,6 +106,25 @@ def test_one_that_was_changed(
     path.write_text(path.read_text().replace('"passed": false', '"passed": true'))
     assert verified(path, public_file(key, tmp_path)) == 1
     assert "not signed with this key" in capsys.readouterr().out
+
+
+def test_one_of_another_host(
+    key: Ed25519PrivateKey, tmp_path: Path, capsys: pytest.CaptureFixture[str]
+) -> None:
+    """It is told, as is a signature that is none."""
+    report().write(tmp_path, key)
+    path = tmp_path / "certified-DLR1.json"
+    other = public_file(Ed25519PrivateKey.generate(), tmp_path)
+    assert verified(path, other) == 1
+    assert capsys.readouterr().out == "%s: it is not signed with this key\n" % path
+    signature = path.with_suffix(".signature")
+    line = signature.read_text()
+    for text in (line[:-3], line[:-2] + "x\n", "", line.rpartition(" ")[2]):
+        signature.write_text(text)
+        assert verified(path, public_file(key, tmp_path)) == 1
+        assert capsys.readouterr().out == "%s: it is not signed with this key\n" % path
+    signature.write_text(line)
+    assert verified(path, public_file(key, tmp_path)) == 0
 
 
 def test_formats_that_have_changed(

@@ -62,6 +62,16 @@ def test_other_seeds_have_another_order() -> None:
     assert len({tuple(one.name for one in chosen("dealer", Draw(n), [])) for n in range(5)}) > 1
 
 
+@pytest.mark.parametrize("role, desk", [("dealer", "CALDER"), ("investor", "MERLIN")])
+def test_no_two_firms_have_one_name(role: str, desk: str) -> None:
+    """Whatever is drawn, and though the desk's own name is one of those that are played."""
+    for seed in range(30):
+        cast_ = Draw(seed).cast(desk, role)
+        names = [one.name for one in (*cast_.dealers, *cast_.investors)]
+        assert len(set(names)) == len(names) == 6 and desk in names
+        assert cast_.desk.name == desk and desk in [one.name for one in getattr(cast_, role + "s")]
+
+
 def test_cases_that_are_named() -> None:
     """With all that they need, and the Logon."""
     names = {one.name for one in chosen("dealer", Draw(1), ["won"])}

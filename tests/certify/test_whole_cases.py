@@ -5,6 +5,7 @@
 
 from __future__ import annotations
 
+import re
 from collections.abc import Callable
 from dataclasses import dataclass, field
 from datetime import datetime, timedelta, timezone
@@ -14,6 +15,7 @@ from typing import Any
 import pytest
 from mireseason_certify.case import Case
 from mireseason_certify.dealer_cases import case as dealer_market
+from mireseason_certify.dealer_session import QuoteAct
 from mireseason_certify.frames import time_text
 from mireseason_certify.stage import Failed
 
@@ -65,8 +67,8 @@ class Firm(Played):
 class Market(Script):
     """The venue, and a desk that is right."""
 
-    def __init__(self) -> None:
-        super().__init__()
+    def __init__(self, seed: int = 1) -> None:
+        super().__init__("dealer", seed)
         self.requests: list[Request] = []
         self.positions: dict[str, int] = {}
         self.count, self.is_halted = 0, False
@@ -167,11 +169,11 @@ class Market(Script):
 
     def reason(self, request: Request, price: Decimal) -> str:
         """Why the venue refuses a quote."""
-        grid = next(one.grid for one in self.stage.venue.cast.bonds if one.id == request.bond)
+        bond = next(one for one in self.stage.venue.cast.bonds if one.id == request.bond)
         live = sum(one.quantity for one in self.requests if one.is_open and self.own(one))
         if not request.is_open:
             return "4"
-        if (price * grid) % 1:
+        if (price * bond.grid) % 1 or not bond.low <= price <= bond.high:
             return "8"
         return "3" if live + request.quantity > EXPOSURE and not self.own(request) else ""
 
@@ -223,6 +225,72 @@ def test_a_right_desk_passes(market: Market, name: str) -> None:
     CASES[name].play(market.stage)
     assert market.stage.note == "" and market.stage.open == []
     assert all(not one.is_open for one in market.requests)
+
+
+def test_one_case_behind_the_other(market: Market) -> None:
+    """What was said in a case before is not taken for an answer in this one."""
+    for name, one in CASES.items():
+        market.stage.begins(name, is_first=False)
+        one.play(market.stage)
+    assert all(not one.is_open for one in market.requests)
+
+
+def test_which_side_is_asked(market: Market) -> None:
+    for name in ("quote-offer", "quote-bid"):
+        CASES[name].play(market.stage)
+    assert [one.side for one in market.requests] == ["1", "2"]
+
+
+def test_words_name_the_request_whose_quote_goes(market: Market) -> None:
+    """Who reads them withdraws the same quote as who reads the act."""
+    told = []
+
+    def withdraws(act: dict[str, str]) -> None:
+        (request,) = [one for one in market.requests if act["quote"] in one.quotes]
+        told.append((request.id, market.developer.tasks[-1]))
+        market.withdraw(act)
+
+    market.developer.acts["withdraw"] = withdraws
+    for name in ("withdrawn", "withdrawn-one-of-two", "hit-in-the-race"):
+        market.stage.begins(name, is_first=False)
+        CASES[name].play(market.stage)
+    assert len(told) == 4
+    for own, words in told:
+        assert re.fullmatch("Withdraw your quote on %s( alone)?\\." % own, words)
+
+
+@pytest.mark.parametrize("place", [0, -1])
+def test_one_of_two_is_found_by_no_rule(script: Script, place: int) -> None:
+    """Who withdraws the first of the quotes that stand, or the last, withdraws another one, whatever is drawn."""
+    del script  # whose seconds it has
+    for seed in range(1, 11):
+        market = Market(seed)
+
+        def withdraws(act: dict[str, str], of: Market = market) -> None:
+            standing = [name for one in of.requests for name in one.quotes if one.is_open]
+            of.withdraw({**act, "quote": standing[place]})
+
+        market.developer.acts["withdraw"] = withdraws
+        with fails("the cancel is not of Q[0-9]+ alone"):
+            CASES["withdrawn-one-of-two"].play(market.stage)
+
+
+def test_each_of_two_is_to_be_withdrawn(script: Script) -> None:
+    """Which is the first is drawn."""
+    del script  # whose seconds it has
+    places = set()
+    for seed in range(1, 21):
+        market = Market(seed)
+
+        def withdraws(act: dict[str, str], of: Market = market) -> None:
+            standing = [name for one in of.requests for name in one.quotes if one.is_open]
+            if len(of.requests) == 2:
+                places.add(standing.index(act["quote"]))
+            of.withdraw(act)
+
+        market.developer.acts["withdraw"] = withdraws
+        CASES["withdrawn-one-of-two"].play(market.stage)
+    assert places == {0, 1}
 
 
 # Which case sees that the desk does nothing of what it is told: the others ask for nothing of that kind.
@@ -297,7 +365,7 @@ def test_an_answer_to_what_is_left_alone(market: Market) -> None:
 
 def test_a_case_that_the_desk_refuses_by_itself(market: Market) -> None:
     """What may be refused is noted, and the venue is asked for nothing."""
-    for name in ("nothing-to-cancel", "off-grid", "late", "over-exposure"):
+    for name in ("nothing-to-cancel", "off-grid", "outside-band", "late", "over-exposure"):
         made = Market()
         quote = made.quote
 
@@ -311,3 +379,21 @@ def test_a_case_that_the_desk_refuses_by_itself(market: Market) -> None:
         made.developer.acts |= {"quote": refuses, "cancel all": refuses}
         CASES[name].play(made.stage)
         assert made.stage.note == "the desk refuses it by itself", name
+
+
+def test_a_trade_that_is_told(market: Market) -> None:
+    """What it changes, and which notice tells it."""
+    trade = QuoteAct.trades(market.stage)
+    (request,) = market.requests
+    assert trade.bond.id == request.bond
+    assert trade.change == market.positions[request.bond] != 0
+    assert trade.fits(message("AJ", {131: request.id, 694: "1"}))
+    assert not trade.fits(message("AJ", {131: request.id, 694: "4"}))
+    assert not trade.fits(message("AJ", {131: "other", 694: "1"}))
+
+
+def test_a_trade_while_the_desk_is_away(market: Market) -> None:
+    """Its quote stands, the line is cut, and the desk is not let in again before it was hit."""
+    trade = QuoteAct.trades_away(market.stage)
+    assert market.line.did == ["refuse True", "cut"]
+    assert trade.change == market.positions[market.requests[0].bond] != 0

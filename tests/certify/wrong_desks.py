@@ -165,6 +165,14 @@ class CorrectsPrices(Desk):
         super().quote({**act, "price": str(int(known[act["bond"]]))} if is_off else act)
 
 
+class StaysInTheBand(Desk):
+    """Sends a price of the band in place of one that is outside it."""
+
+    def quote(self, act: Act) -> None:
+        is_outside = "outside the bond's band" in act.get("text", "")
+        super().quote({**act, "price": "100"} if is_outside else act)
+
+
 class ReplacesUnderTheOldName(Desk):
     """A second quote on a request has the QuoteID of the first."""
 
@@ -193,6 +201,14 @@ class WithdrawsTheLast(Desk):
 
     def withdraw(self, act: Act) -> None:
         super().withdraw({**act, "quote": list(self.quotes)[-1]})
+
+
+class WithdrawsTheFirst(Desk):
+    """Cancels the quote that has stood longest."""
+
+    def withdraw(self, act: Act) -> None:
+        standing = [name for name, it in self.quotes.items() if it["state"] == "stands"]
+        super().withdraw({**act, "quote": standing[0]})
 
 
 class WithdrawsOneForAll(Desk):
@@ -344,11 +360,34 @@ class HitsTheFirst(Desk):
         super().hit(shown[0] if shown else quote)
 
 
+class HitsTheBest(Desk):
+    """Hits the best price of those that stand on a request."""
+
+    def hit(self, quote: str) -> None:
+        request = self.offers[quote]["request"] if quote in self.offers else ""
+        offers = {name: it for name, it in self.offers.items() if it["request"] == request}
+
+        def cost(name: str) -> Decimal:
+            price = Decimal(offers[name]["price"])
+            return price if offers[name]["side"] == "1" else -price
+
+        super().hit(min(offers, key=cost, default=quote))
+
+
 class HitsTheLast(Desk):
     """Hits the quote that it was shown last on a request, though its dealer has withdrawn it."""
 
     def stands(self, request: str) -> str:
         return [name for name, it in self.shown.items() if it["request"] == request][-1]
+
+
+class HitsTheFirstShown(Desk):
+    """Hits the quote that it was shown first where it has asked several dealers, though that dealer has withdrawn it."""
+
+    def stands(self, request: str) -> str:
+        if "," not in self.requests[request]["dealers"]:
+            return super().stands(request)
+        return next(name for name, it in self.shown.items() if it["request"] == request)
 
 
 class HitsWhatIsGone(Desk):
@@ -451,10 +490,12 @@ DEALERS = {
     AlwaysOffers: "quote-bid",
     RoundsPrices: "quote-offer",
     CorrectsPrices: "off-grid",
+    StaysInTheBand: "outside-band",
     ReplacesUnderTheOldName: "replaced",
     BooksEachQuoteOfARequest: "replaced",
     WithdrawsAll: "withdrawn",
     WithdrawsTheLast: "withdrawn-one-of-two",
+    WithdrawsTheFirst: "withdrawn-one-of-two",
     WithdrawsOneForAll: "cancelled-all",
     DeclinesByACancel: "declined",
     DeclinesItsQuote: "declined",
@@ -478,7 +519,9 @@ INVESTORS = {
     CapsItsQuantity: "too-much",
     DeadlineThatHasPassed: "ask-to-buy",
     HitsTheFirst: "hit-one-of-three",
+    HitsTheBest: "hit-one-of-three",
     HitsTheLast: "hit-the-other",
+    HitsTheFirstShown: "hit-the-other",
     HitsWhatIsGone: "hit-replaced",
     BooksRefusedHits: "hit-gone",
     BooksAtTheHit: "hit-gone",
