@@ -367,6 +367,23 @@ def test_what_a_test_says_of_a_change(
     assert (place / "VERSION").read_bytes() == was
 
 
+def test_a_test_that_is_gone_keeps_no_other_from_running(place: Path) -> None:
+    """Its parameter has another name by now; pytest would run none of them."""
+    (place / "pyproject.toml").write_text("[tool.pytest.ini_options]\n")
+    (place / "conftest.py").write_text(
+        "def pytest_addoption(parser):\n    parser.addoption('--venue')\n"
+    )
+    words = (
+        "import pytest\n@pytest.mark.parametrize('n', [1, 2])\ndef test_n(n):\n    assert n < 2\n"
+    )
+    (place / "test_x.py").write_text(words)
+    trial = Trial(PARTS[0], Nursery(place, (), None), Passes(), Remembered(), 900.0, None, ())
+    gone, passes, fails = ("test_x.py::test_n[%d]" % number for number in (3, 1, 2))
+    assert trial.first_failed([gone, passes, fails], 60.0) == fails
+    assert trial.first_failed([gone, passes], 60.0) is None
+    assert trial.first_failed([gone], 60.0) is None
+
+
 def test_a_hang_is_counted_apart() -> None:
     change = Change("VERSION", 1, 0, 1, "9.", Kind.BOUND)
     rows = list(table([Tried("audit", change, "", one, "", 0.0) for one in Verdict]))

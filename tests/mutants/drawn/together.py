@@ -24,7 +24,8 @@ from tests.mutants.nursery import Nursery, files_of, write_if_other
 HERE = Path(__file__).resolve().parent
 SETTINGS = (
     "-DCMAKE_BUILD_TYPE=Debug",
-    "-DCMAKE_CXX_FLAGS_DEBUG=-O0",
+    # A file that ccache names shorter than its #line is a header to the compiler, in which no type is a file's own.
+    "-DCMAKE_CXX_FLAGS_DEBUG=-O0 -Wno-subobject-linkage",
     "-DCMAKE_PROJECT_INCLUDE=%s" % (HERE / "together.cmake"),
     "-DDPKG_QUERY=OFF",
     "-DSESSION=model",

@@ -22,6 +22,7 @@ from tests.mutants.nursery import PATIENCE, Nursery
 AT_ONCE = 20  # tests of one run of pytest, so that the first that fails ends it soon
 UNKNOWN = 5.0  # seconds of a file of tests of which nothing is known
 NOTHING_RUN = 5  # pytest's status where its words leave none of the tests
+NOT_FOUND = "ERROR: not found: "  # what it says of a test that is remembered, and has another parameter by now
 SLOW = 10  # times what they took when they were recorded: so long tests may take on a busy machine
 SOON = 30.0  # seconds that tests may take anyway, once it is known what they take here
 LEAST = 300.0  # seconds that they may take anyway: what they share, a fixture of a class, is in the time of one of them alone
@@ -180,6 +181,9 @@ class Trial:
             raise
         if running.returncode in (0, NOTHING_RUN):
             return None
+        there = there_by(told, names)
+        if len(there) < len(names):
+            return self.first_failed(there, limit, anyway) if there else None
         lines = [line for line in told.splitlines() if line.startswith(("FAILED", "ERROR"))]
         return named_in(lines[0]) if lines else names[0]
 
@@ -190,6 +194,12 @@ class Trial:
         if self.part.name == "page":
             own["DESK_PAGES"] = str(self.tree.folder / "desk" / "page")
         return own
+
+
+def there_by(told: str, names: list[str]) -> list[str]:
+    """The tests that pytest has found: where it misses one, it runs none."""
+    missed = [line for line in told.splitlines() if line.startswith(NOT_FOUND)]
+    return [name for name in names if not any(line.endswith("/" + name) for line in missed)]
 
 
 def named_in(line: str) -> str:
