@@ -60,7 +60,9 @@ class Terms:
             with opened.cursor() as cursor:
                 while not self._ends.wait(LOOK):
                     cursor.execute("SELECT term FROM %s.speaker" % self._log.schema)
-                    self.raised.setdefault(cursor.fetchone()[0], time.perf_counter())
+                    found = cursor.fetchone()
+                    if found is not None:
+                        self.raised.setdefault(found[0], time.perf_counter())
 
 
 def stands_by(door: Door) -> int:

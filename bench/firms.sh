@@ -5,9 +5,9 @@
 # what TMPDIR says. Needs what gateway/packages.sh names, PostgreSQL and libpq-dev.
 #
 #     bench/firms.sh [GATEWAY [VENUE WORDS ..]]
-# @figure all that a day accepts (65,536 quotes, 4,096 requests, and a hit of each) from 64 firms, SQLite on a disk, beside one firm's burst at the echo | 4 times, the 99th percentile under 20 ms | load 1 to 3: 10,705 and 14,515 messages a second, 1.9 and 2.6 times (the echo 5,564); 53 and 27 ms. `live --marks` by pipes 57,823 and 70,212. Of a message the firms take 17 us of a processor
-# @figure the same with the log in PostgreSQL and its standby, beside one writer that copies the same batches | 20,000 a second, under 50 ms | load 3: 8,820 and 9,290; 62 and 54 ms; the writer 31,180 and 34,061
-# @figure four venues behind one gateway, beside one, each with 64 firms on the same processors | 1.8 times | load 1 to 3: 1.29 and 1.09 times (19,064 and 17,896 messages a second, beside 14,749 and 16,364)
+# @figure all that a day accepts (65,536 quotes, 4,096 requests, and a hit of each) from 64 firms, SQLite on a disk, beside one firm's burst at the echo | 4 times, the 99th percentile under 20 ms | load 3: 14,329 and 16,555 messages a second, 2.2 and 2.5 times (the echo 6,647); 29 and 24 ms. `live --marks` by pipes 48,512 and 63,183. Of a message the firms take 15 us of a processor
+# @figure the same with the log in PostgreSQL and its standby, beside one writer that copies the same batches | 20,000 a second, under 50 ms | load 3: 8,544 and 8,895; 66 ms both; the writer 30,623 and 28,483
+# @figure four venues behind one gateway, beside one, each with 64 firms on the same processors | 1.8 times | load 3 to 5: 1.26 times, twice (17,320 and 17,045 messages a second, beside 13,699 and 13,554)
 set -eu
 here=$(cd "$(dirname "$0")" && pwd)
 root=$(cd "$here/.." && pwd)

@@ -7,7 +7,7 @@
 #     bench/gateway.sh [GATEWAY [VENUE WORDS ..]]
 #
 # The venue `-` is gateway_venue.cpp, which does nothing but answer: the gateway's own part.
-# @figure a quote from a stock initiator to its 297=0 through gateway, log (SQLite) and venue (or a stand-in that answers at once), beside a bare QuickFIX echo with an fdatasync, in five pairs that take turns: the median; the 99th percentile | 1.15 times; 1.5 times | load 0.5: 1.08 times (0.94 to 1.23; 0.33 ms and 0.30); 1.13 times (0.40 to 1.30). Beside other work on the disk (the echo's 99th percentile 15 ms) 2.19 and 2.50; before, on an idle machine, 1.47 and 5.3
+# @figure a quote from a stock initiator to its 297=0 through gateway, log (SQLite) and venue (or a stand-in that answers at once), beside a bare QuickFIX echo with an fdatasync, in five pairs that take turns: the median; the 99th percentile | 1.15 times; 1.5 times | load 19 falling to 10: 1.50 times (1.01 to 1.75; 0.34 ms and 0.22); 1.24 times (0.77 to 8.84). On another evening, load 0.5: 1.08 (0.94 to 1.23) and 1.13. The gateway of before form 6 of the log, in the same minutes: 1.17 (1.00 to 2.27) and 2.44 (0.79 to 3.57)
 set -eu
 here=$(cd "$(dirname "$0")" && pwd)
 root=$(cd "$here/.." && pwd)

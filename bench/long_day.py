@@ -11,7 +11,7 @@ and started: the seconds from its process to the answer of the first Logon, and 
 day alone by `replay --live`, and by `live` as the gateway runs it. Takes two minutes on an idle machine.
 """
 
-# @figure a gateway's start on a day of 300,000 entries, from its process to the first Logon answered, beside `replay --live` of it; the gateway's memory with 128 sessions as the day grows | twice; flat | load 50: 14.0 and 15.2 s, 2.9 times the replay's 5.0; of a processor 7.6 s the gateway's, 2.6 the venue's, beside 2.6; 58 MB at most. With 128 sessions 82 MB after 50,000 entries, 97 after 200,000, 102 after 300,000 (the venue 34, 123, 180). On 100,000 entries at load 3 to 9: 5.2 and 3.8 s, the replay 0.94
+# @figure a gateway's start on a day of 300,000 entries, from its process to the first Logon answered, beside `replay --live` of it; the gateway's memory with 128 sessions as the day grows | twice; flat | on 100,000 entries, load 6: 1.82 s (three starts, one of them behind a SIGKILL), 1.84 times the replay's 0.99; of a processor 2.8 s the gateway's, 0.8 the venue's; 50 MB at most. On 300,000, before that, at load 50: 14.0 and 15.2 s, 2.9 times the replay's 5.0. With 128 sessions 65 MB after 50,000 entries, 70 after 100,000, 76 after 150,000 (the venue 35, 65, 93)
 
 import argparse
 import os

@@ -4,7 +4,7 @@
 # libpq-dev.
 #
 #     bench/standby.sh [GATEWAY [VENUE WORDS ..]]
-# @figure the same with the log in PostgreSQL and one synchronous standby on this machine, beside a bare INSERT with its commit there: the median | 1.3 times | load 3 and 4: 3.0 times (2.8 to 3.0; 1.29 ms and 0.44) and 3.4 times
+# @figure the same with the log in PostgreSQL and one synchronous standby on this machine, beside a bare INSERT with its commit there: the median | 1.3 times | load 3 to 6: 3.25 times (3.05 to 3.55; 1.69 ms and 0.50)
 set -eu
 here=$(cd "$(dirname "$0")" && pwd)
 root=$(cd "$here/.." && pwd)
