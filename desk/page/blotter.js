@@ -2,7 +2,7 @@
 import {h, arrange, set, show, whole} from './dom.js';
 import {aligned, decimal, inMode, mode, text, thirtySeconds} from './price.js';
 import {amount, clock, parseAmount} from './amounts.js';
-import {csv, save} from './csv.js';
+import {csv, money, save} from './csv.js';
 import {hasTraded, isOpen, isOver, ranked} from './model.js';
 import {Days, dayWords} from './days.js';
 import {Positions} from './positions.js';
@@ -161,7 +161,7 @@ export class Blotter {
   hasHelp() { return this.model.hello.market.bonds.some(bond => bond.priced); }
   helpCells(request) {
     const {settles, accrued, amounts} = request;
-    return [settles ?? '', this.yield(request) ?? '', accrued ?? '', amounts?.principal ?? '', amounts?.accrued ?? '', amounts?.total ?? '',
+    return [settles ?? '', this.yield(request) ?? '', accrued ?? '', money(amounts?.principal), money(amounts?.accrued), money(amounts?.total),
       settles ? this.model.bond(request.bond).currency ?? '' : ''];
   }
   // Prices are decimals, whatever the page shows; `price` is that of a trade, so that it can be summed.

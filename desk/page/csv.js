@@ -9,6 +9,9 @@ function cell(value) {
   return /[",;\t\r\n]/.test(safe) ? `"${safe.replaceAll('"', '""')}"` : safe;
 }
 
+// Money, always with two decimals. Below zero it stays a number, where a text would get an apostrophe.
+export const money = amount => amount === undefined ? '' : {toString: () => amount.toFixed(2)};
+
 export const csv = rows => rows.map(row => row.map(cell).join(',')).join('\r\n') + '\r\n';
 
 export function save(name, text, type = 'text/csv') {

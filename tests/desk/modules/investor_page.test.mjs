@@ -69,7 +69,7 @@ test('the file of the blotter', async () => {
   const [name, lines] = await file();
   assert.equal(name, 'INV1-20261127.csv');
   assert.equal(lines[0], 'request,asked_utc,ended_utc,side,quantity,bond,bond_name,price,counterparty,result,trader,trade,cover,note,help_settles,help_yield,help_accrued_of_100,help_principal,help_accrued,help_total,help_currency');
-  assert.equal(lines[2], `R2,2026-11-27T11:59:50.000Z,2026-11-27T11:55:00.000Z,Sell,1000000,${SECOND},Birch 3 2030,98,DLR1,DONE,V1,TR2,,no cover,2026-12-01,4.5,1.25,980000,12500,992500,EUR`);
+  assert.equal(lines[2], `R2,2026-11-27T11:59:50.000Z,2026-11-27T11:55:00.000Z,Sell,1000000,${SECOND},Birch 3 2030,98,DLR1,DONE,V1,TR2,,no cover,2026-12-01,4.5,1.25,980000.00,12500.00,992500.00,EUR`);
   assert.equal(lines[5], `R1,2026-11-27T11:59:50.000Z,2026-11-27T11:50:00.000Z,Buy,2000000,${BOND},Alder 4 2034,99.5,DLR1,DONE,V1,TR1,99.75,"cover 99.75, DLR2",,4.5,,,,,`);
   assert.match(lines[6], /,Refused,V1,,,Quote 99\.5 is none,/);
   assert.equal(words(document.querySelector('.said[role=status]')), 'INV1-20261127.csv: 6 requests');

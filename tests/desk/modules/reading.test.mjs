@@ -5,7 +5,7 @@ import {load} from './stand.mjs';
 
 const amounts = await load('amounts.js');
 const price = await load('price.js');
-const {csv} = await load('csv.js');
+const {csv, money} = await load('csv.js');
 const {parseYield, percent, accruedWords, helpWords} = await load('worked_out.js');
 
 test('quantities that are read', () => {
@@ -125,5 +125,6 @@ test('a file for a spreadsheet', () => {
   const begins = {'=1': "'=1", '+1': "'+1", '-1': "'-1", '@x': "'@x", 'a;=1': '"a;\'=1"', 'a|-1': "a|'-1", '\uff1d1': "'\uff1d1", 'a=1': 'a=1', 'a-b': 'a-b'};
   for (const [value, cell] of Object.entries(begins)) assert.equal(csv([[value]]), `${cell}\r\n`);
   assert.equal(csv([[-1]]), '-1\r\n');
+  assert.equal(csv([[1980997.6, 0, -12.5, undefined].map(money)]), '1980997.60,0.00,-12.50,\r\n');
   assert.equal(csv([['a\n=1', 'a\tb']]), '"a\n=1","a\tb"\r\n');
 });
