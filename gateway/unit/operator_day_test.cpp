@@ -300,21 +300,32 @@ TEST_CASE("who is logged on, and from where") {
     CHECK(market.has_state("\"firms\": 4, \"logged_on\": 0, "));
 }
 
-// Outside of the log's database, less than a second behind its entries; here a minute, since a
-// machine may be busy. Connections have seals of their own.
+// Whether something becomes true within a minute: a machine may be busy.
+template <class Condition> bool comes_true(const Condition &condition) {
+    const auto latest = std::chrono::steady_clock::now() + std::chrono::minutes(1);
+    bool is_true = condition();
+    while (!is_true && std::chrono::steady_clock::now() < latest) {
+        std::this_thread::sleep_for(std::chrono::milliseconds(10));
+        is_true = condition();
+    }
+    return is_true;
+}
+
+// Outside of the log's database, less than a second behind its entries. The venue answers in its
+// own time, so the last quote is waited for first: in the log a firm's messages to the venue are
+// numbered from 1. Connections have seals of their own.
 TEST_CASE("up to which entry the log is signed") {
     Market market;
     for (int count = 0; count < 5; ++count) {
         CHECK(denial_of_quote(market) == "");
     }
-    const auto latest = std::chrono::steady_clock::now() + std::chrono::minutes(1);
-    const std::string last = fmt::format("\"signed_entry\": {},", market.entries().size());
-    bool is_signed = false;
-    while (!is_signed && std::chrono::steady_clock::now() < latest) {
-        is_signed = market.asks({"status"}, true).find(last) != std::string::npos;
-    }
-    CHECK(is_signed);
-    CHECK(market.has_state(fmt::format("\"entries\": {},", market.entries().size())));
+    REQUIRE(comes_true([&] { return has_line(market.lines(), "|35=S|49=DLR1|56=VENUE|34=5|"); }));
+    const std::size_t last = market.entries().size();
+    CHECK(comes_true([&] {
+        return market.asks({"status"}, true).find(fmt::format("\"signed_entry\": {},", last)) !=
+               std::string::npos;
+    }));
+    CHECK(market.has_state(fmt::format("\"entries\": {},", last)));
 }
 
 // ---------------------------------------------------------------- the day's end
