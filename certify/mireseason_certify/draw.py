@@ -31,6 +31,7 @@ class Draw:
     def __post_init__(self) -> None:
         self._random = random.Random(self.seed)
         self._bonds_left: list[Bond] = []
+        self._names_had: set[str] = set()
 
     def cast(self, desk: str, role: str) -> Cast:
         """The firms and bonds of the venue. The desk has the name that the developer gives it."""
@@ -68,7 +69,10 @@ class Draw:
 
     def name(self, head: str) -> str:
         """A name that no message has had: a word and six digits."""
-        return "%s-%06d" % (head, self._random.randrange(1_000_000))
+        while (name := "%s-%06d" % (head, self._random.randrange(1_000_000))) in self._names_had:
+            pass
+        self._names_had.add(name)
+        return name
 
     def shuffled(self, items: Sequence[Item]) -> list[Item]:
         """The same, in another order."""

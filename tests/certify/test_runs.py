@@ -72,6 +72,13 @@ def test_no_two_firms_have_one_name(role: str, desk: str) -> None:
         assert cast_.desk.name == desk and desk in [one.name for one in getattr(cast_, role + "s")]
 
 
+def test_no_two_messages_have_one_name() -> None:
+    """Of so many by chance, of a million, some would."""
+    draw = Draw(1)
+    names = [draw.name("ask") for _ in range(5000)]
+    assert len(set(names)) == len(names)
+
+
 def test_cases_that_are_named() -> None:
     """With all that they need, and the Logon."""
     names = {one.name for one in chosen("dealer", Draw(1), ["won"])}
