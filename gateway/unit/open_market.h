@@ -97,6 +97,17 @@ inline std::string line_without_moment(const Entry &entry) {
     return at == std::string::npos ? line : line.erase(at, entry.moment.size() + 1);
 }
 
+// Whether something becomes true within a minute: a machine may be busy.
+template <class Condition> bool comes_true(const Condition &condition) {
+    const auto latest = std::chrono::steady_clock::now() + std::chrono::minutes(1);
+    bool is_true = condition();
+    while (!is_true && std::chrono::steady_clock::now() < latest) {
+        std::this_thread::sleep_for(std::chrono::milliseconds(10));
+        is_true = condition();
+    }
+    return is_true;
+}
+
 // It runs until it is ended.
 class Market final : public AdminScene {
   public:
@@ -227,13 +238,7 @@ class Market final : public AdminScene {
     int exit_status() { return gateway_->exit_status(); }
     // Whether the metrics say this within a minute.
     bool comes_to_count(const std::string &text) const {
-        const auto latest = std::chrono::steady_clock::now() + std::chrono::minutes(1);
-        bool has_come = false;
-        while (!has_come && std::chrono::steady_clock::now() < latest) {
-            has_come = metrics_.text().find(text) != std::string::npos;
-            std::this_thread::sleep_for(std::chrono::milliseconds(10));
-        }
-        return has_come;
+        return comes_true([&] { return metrics_.text().find(text) != std::string::npos; });
     }
     // How often this was told, of lines that begin with it; once it has ended.
     std::size_t told(const std::string &begin) const {
