@@ -3,6 +3,9 @@
 const whole = new Intl.NumberFormat('en-US'); // once: what a tick of fifty cards would take longest for
 export const amount = quantity => whole.format(quantity);
 
+// How many there are, of what a plain s makes many: 1 line, 1,024 lines.
+export const counted = (number, name) => `${amount(number)} ${name}${number === 1 ? '' : 's'}`;
+
 // Of a currency, with two places.
 const twoPlaces = new Intl.NumberFormat('en-US', {minimumFractionDigits: 2, maximumFractionDigits: 2});
 export const money = value => twoPlaces.format(value);

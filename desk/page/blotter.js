@@ -1,7 +1,7 @@
 // The day's requests: first what is open, then what ended last, or in the order of a column.
 import {h, arrange, set, show, whole} from './dom.js';
 import {aligned, decimal, inMode, mode, text, thirtySeconds} from './price.js';
-import {amount, clock, parseAmount} from './amounts.js';
+import {amount, clock, counted, parseAmount} from './amounts.js';
 import {csv, money, save} from './csv.js';
 import {hasTraded, isOpen, isOver, ranked} from './model.js';
 import {Days, dayWords} from './days.js';
@@ -117,7 +117,7 @@ export class Blotter {
     this.positions.draw(this.days.isToday());
     arrange(this.list, chosen.slice(0, this.shown).map(request => this.row(request)));
     show(this.more, chosen.length > this.shown);
-    set(this.more, `Show ${Math.min(page, chosen.length - this.shown)} more of ${chosen.length}`);
+    set(this.more, `Show ${Math.min(page, chosen.length - this.shown)} more of ${amount(chosen.length)}`);
     set(this.sums, this.sum(chosen));
   }
   // Whether the filter or the choice of results hides some.
@@ -125,8 +125,8 @@ export class Blotter {
   sum(chosen) {
     const done = chosen.filter(hasTraded), isDealer = this.model.isDealer();
     const of = side => done.filter(one => one.side === side).reduce((sum, one) => sum + one.quantity, 0);
-    const all = this.days.requests().length, part = this.isPart() ? `${chosen.length} of ${all}` : chosen.length;
-    return `${part} ${all === 1 ? 'request' : 'requests'}, ${done.length} done: bought ${amount(of(isDealer ? 'sell' : 'buy'))}, sold ${amount(of(isDealer ? 'buy' : 'sell'))}`;
+    const all = counted(this.days.requests().length, 'request'), part = this.isPart() ? `${amount(chosen.length)} of ${all}` : all;
+    return `${part}, ${amount(done.length)} done: bought ${amount(of(isDealer ? 'sell' : 'buy'))}, sold ${amount(of(isDealer ? 'buy' : 'sell'))}`;
   }
   row(request) {
     const key = `${request.day ?? ''} ${request.id}`, before = this.rows.get(key);
@@ -177,6 +177,6 @@ export class Blotter {
     const day = this.days.isToday() ? date : this.days.day === 'all' ? 'earlier' : this.days.day.replaceAll('-', '');
     const file = `${firm}-${day}${this.isPart() ? '-filtered' : ''}.csv`;
     save(file, csv([head, ...rows]));
-    this.acts.tell(`${file}: ${rows.length} ${rows.length === 1 ? 'request' : 'requests'}`);
+    this.acts.tell(`${file}: ${counted(rows.length, 'request')}`);
   }
 }

@@ -1,6 +1,6 @@
 // The cards of lists: each list that was asked at once has one card, with the state of each of its lines, and its CSV.
 import {h, arrange, set, show} from './dom.js';
-import {amount, clock, span} from './amounts.js';
+import {amount, clock, counted, span} from './amounts.js';
 import {csv, save} from './csv.js';
 import {hasTraded, isOpen, isOver, ranked} from './model.js';
 import {decimal, text} from './price.js';
@@ -59,7 +59,7 @@ class ListCard {
     states.forEach((state, at) => this.drawLine(this.lines[at], list.lines[at], state));
     const count = kind => states.filter(state => state.kind === kind).length, waits = count('waiting'), open = count('open');
     set(this.title, list.name);
-    set(this.sums, `${list.lines.length} lines by ${list.trader}, ${clock(list.made)} UTC: ${[[waits, 'waiting'], [open, 'open'], [count('done'), 'done'], [count('over'), 'ended without a trade']]
+    set(this.sums, `${counted(list.lines.length, 'line')} by ${list.trader}, ${clock(list.made)} UTC: ${[[waits, 'waiting'], [open, 'open'], [count('done'), 'done'], [count('over'), 'ended without a trade']]
       .filter(([number]) => number).map(part => part.join(' ')).join(', ')}`);
     show(this.stop, waits > 0 && this.model.mayAct());
     show(this.close, !waits && !open);
@@ -107,6 +107,6 @@ class ListCard {
     });
     const file = `${firm}-${date}-${this.list.name.replaceAll(/[^\w.-]+/g, '_')}.csv`;
     save(file, csv([head, ...rows]));
-    this.acts.tell(`${file}: ${rows.length} ${rows.length === 1 ? 'line' : 'lines'}`);
+    this.acts.tell(`${file}: ${counted(rows.length, 'line')}`);
   }
 }

@@ -1,6 +1,6 @@
 // The part of the ticket for a pasted list of many requests. It checks each line before anything is asked.
 import {h, set, show} from './dom.js';
-import {amount, clock, spanWords} from './amounts.js';
+import {amount, clock, counted, spanWords} from './amounts.js';
 import {doubt, readList} from './list_text.js';
 import {isOpen} from './model.js';
 
@@ -42,14 +42,14 @@ export class PastedList {
     if (!lines.length) return [{at: 'lines', what: 'lines', why: 'Paste a line for each request: a bond, a side and a quantity.'}];
     if (lines.length > mostLines) return [{at: 'lines', isWrong: true, why: `${lines.length} lines: a list has ${mostLines} at most.`}];
     if (wrong >= 0) return [{at: 'lines', isWrong: true, why: `Line ${wrong + 1}: ${lines[wrong].why}`}];
-    return lines.length > left ? [{at: 'lines', isWrong: true, why: `${lines.length} lines, and ${amount(left)} requests are left of the day.`}] : [];
+    return lines.length > left ? [{at: 'lines', isWrong: true, why: `${counted(lines.length, 'line')}, and ${counted(left, 'request')} ${left === 1 ? 'is' : 'are'} left of the day.`}] : [];
   }
   sums() {
     const of = side => this.lines.filter(line => line.side === side).reduce((sum, line) => sum + line.quantity, 0);
     return [['buy', of('buy')], ['sell', of('sell')]].filter(([, sum]) => sum).map(([side, sum]) => `${side} ${amount(sum)}`).join(' and ');
   }
   summary(seconds) {
-    return `${this.lines.length} ${this.lines.length === 1 ? 'request' : 'requests'}: ${this.sums()}. Answers within ${spanWords(seconds)} ` +
+    return `${counted(this.lines.length, 'request')}: ${this.sums()}. Answers within ${spanWords(seconds)} ` +
       'of each request, asked one after the other as the limits allow';
   }
   command(seconds, dealers, moment) {

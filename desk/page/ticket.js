@@ -1,6 +1,6 @@
 // The form for a new request of an investor.
 import {h, set, show} from './dom.js';
-import {amount, clock, parseAmount, parseSpan, span, spanWords, whyNoAmount} from './amounts.js';
+import {amount, clock, counted, parseAmount, parseSpan, span, spanWords, whyNoAmount} from './amounts.js';
 import {BondField} from './bond_field.js';
 import {DealerField, most as mostDealers} from './dealer_field.js';
 import {FieldFaults} from './field_faults.js';
@@ -155,7 +155,7 @@ export class Ticket {
     const wrong = faults.find(fault => fault.isWrong && !this.faultsOf.tells(fault)); // while it is typed
     set(this.read, wrong ? wrong.why : faults.length ? this.missing(faults, values) : this.summary(values));
     this.read.classList.toggle('why', Boolean(wrong));
-    const count = this.list.lines.length, requests = this.isMany() && count ? ` for ${count} ${count === 1 ? 'request' : 'requests'}` : '';
+    const count = this.list.lines.length, requests = this.isMany() && count ? ` for ${counted(count, 'request')}` : '';
     set(this.button, dealers.length === 0 ? 'Ask' : `Ask ${dealers.length} ${dealers.length === 1 ? 'dealer' : 'dealers'}${requests}`);
   }
   missing(faults, {quantity}) {
@@ -227,7 +227,7 @@ export class Ticket {
     const terms = JSON.stringify([command.lines, seconds, dealers]), since = moment - (this.first?.terms === terms ? this.first.at : -Infinity);
     if (since > twinFor) {
       this.first = {terms, at: moment};
-      return set(this.why, `Once more: ask ${dealers.length} ${dealers.length === 1 ? 'dealer' : 'dealers'} to ${this.list.sums()}, in ${command.lines.length} requests.`);
+      return set(this.why, `Once more: ask ${counted(dealers.length, 'dealer')} to ${this.list.sums()}, in ${counted(command.lines.length, 'request')}.`);
     }
     if (since < twinAfter) return;
     this.first = null;

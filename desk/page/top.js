@@ -54,12 +54,12 @@ export class Top {
 // Of what the venue lets the firm have at one time.
 function used({session, hello: {market: {role, limits}}}) {
   return role === 'dealer' ? `Exposure ${amount(session.exposure)} of ${amount(limits.exposure)} (${Math.round(100 * session.exposure / limits.exposure)} %)`
-    : `Requests open ${session.open} of ${limits.open}`;
+    : `Requests open ${amount(session.open)} of ${amount(limits.open)}`;
 }
 
 function usage(model) {
   const {session, hello: {market: {limits}}} = model;
-  const today = model.isDealer() ? `quotes today ${session.accepted} of ${amount(limits.quotes)}` : `today ${session.accepted} of ${amount(limits.requests)}`;
+  const today = model.isDealer() ? `quotes today ${amount(session.accepted)} of ${amount(limits.quotes)}` : `today ${amount(session.accepted)} of ${amount(limits.requests)}`;
   const skew = Math.abs(session.clock) > apart ? ` \u00b7 the venue\u2019s clock is ${(session.clock / 1000).toFixed(1)} s apart` : '';
   return `${used(model)} \u00b7 ${today}${skew}`;
 }

@@ -68,6 +68,10 @@ test('a hundred rows at first', () => {
   assert.deepEqual([rows().length, words(more)], [100, 'Show 4 more of 104']);
   more.click();
   assert.deepEqual([rows().length, seen(more)], [104, false]);
+  desk.tells(Array.from({length: 1000}, (_, nth) => ended(`H${nth}`, 'passed', {bond: SECOND})));
+  clock.pass(60);
+  const counts = () => [words(at('blotter').querySelector('.sums')).split(':')[0], words(more)];
+  assert.deepEqual(counts(), ['1,104 requests, 2 done', 'Show 100 more of 1,104']);
 });
 
 test('what the head says of its numbers', () => {

@@ -24,6 +24,8 @@ test('the head', () => {
     ['DLR1 ann (T1), dealer', '\u25cf Venue connected', 'Exposure 3,000,000 of 60,000,000 (5 %) \u00b7 quotes today 7 of 4,096']);
   assert.deepEqual([words(at('banner')), seen(at('banner')), words(head.querySelector('.clock'))], ['A trial.', true, '12:00:00 UTC']);
   assert.match(words(at('keys')), /F9 cancel all/);
+  session({accepted: 1234});
+  assert.match(counts(), /quotes today 1,234 of 4,096$/, 'thousands are parted on both sides of it');
   session({clock: -1501});
   assert.match(counts(), / \u00b7 the venue\u2019s clock is -1\.5 s apart$/);
   session({clock: 1500});

@@ -46,7 +46,7 @@ test('the blotter and the table', () => {
 
 test('a list', () => {
   desk.says({t: 'lists', lists: [{id: 'L1', name: 'mine', trader: 'V1', made: midday, lines: [{bond: SECOND, side: 'buy', quantity: 1e6, request: '', state: 'waiting', why: ''}]}]});
-  assert.deepEqual(reads(at('lists')), ['mine', 'Stop', '?', 'CSV', '1 lines by V1, 12:00:00 UTC: 1 waiting', 'Line', 'Side', 'Quantity', 'Bond', 'State', 'Price', 'Dealer', '1', 'BUY', '1,000,000', 'Birch 3 2030', 'waiting']);
+  assert.deepEqual(reads(at('lists')), ['mine', 'Stop', '?', 'CSV', '1 line by V1, 12:00:00 UTC: 1 waiting', 'Line', 'Side', 'Quantity', 'Bond', 'State', 'Price', 'Dealer', '1', 'BUY', '1,000,000', 'Birch 3 2030', 'waiting']);
 });
 
 test('help', () => {

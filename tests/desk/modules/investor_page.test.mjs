@@ -251,6 +251,9 @@ test('the table of what is open', () => {
 test('what the head says of its numbers', () => {
   assert.deepEqual([words(document.querySelector('.counts')), document.querySelector('.counts').title],
     ['Requests open 0 of 64 \u00b7 today 0 of 1,024', 'Of the firm: requests that are open, and those that the venue accepted today.']);
+  desk.says({...investorHello().session, accepted: 1024});
+  assert.equal(words(document.querySelector('.counts')), 'Requests open 0 of 64 \u00b7 today 1,024 of 1,024');
+  desk.says(investorHello().session);
 });
 
 test('requests that are not in sight', () => {

@@ -231,7 +231,12 @@ test('a list that can not be asked', () => {
   type(text, 'birch b 1m\nalder s 1m');
   desk.says({...investorHello().session, accepted: 1023});
   clock.pass(200);
-  assert.equal(echo(), '2 lines, and 1 requests are left of the day.');
+  assert.equal(echo(), '2 lines, and 1 request is left of the day.');
+  type(text, 'birch b 1m');
+  desk.says({...investorHello().session, accepted: 1024});
+  clock.pass(200);
+  assert.equal(echo(), '1 line, and 0 requests are left of the day.');
+  type(text, 'birch b 1m\nalder s 1m');
   desk.says({...investorHello().session, accepted: 1022});
   clock.pass(200);
   assert.match(echo(), /^2 requests: buy 1,000,000 and sell 1,000,000/);
@@ -240,7 +245,7 @@ test('a list that can not be asked', () => {
   assert.match(echo(), /^1 request: buy 1,000,000\. /);
   clock.pass(700);
   submit();
-  assert.deepEqual([desk.heard, why()], [[], 'Once more: ask 2 dealers to buy 1,000,000, in 1 requests.'], 'other lines are asked about anew');
+  assert.deepEqual([desk.heard, why()], [[], 'Once more: ask 2 dealers to buy 1,000,000, in 1 request.'], 'other lines are asked about anew');
   press(text, 'Escape');
   assert.deepEqual([why(), text.value], ['', 'birch b 1m']);
   clock.pass(700);
