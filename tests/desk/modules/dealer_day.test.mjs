@@ -111,14 +111,17 @@ test('a desk that goes and comes back', async () => {
   assert.equal(words(at('top').querySelector('.light')), '\u25cb No connection to the desk: trying');
   assert.match(words(at('alarm')), /Withdraw and Cancel all can\u2019t be sent: the desk does not answer\. To cancel them now, call the venue\u2019s operator\.$/);
   assert.equal(at('cancelall').getAttribute('aria-disabled'), 'true');
+  const withdraws = () => cards().slice(0, 2).map(one => button(one, 'Withdraw').getAttribute('aria-disabled'));
+  clock.pass(500);
+  assert.deepEqual(withdraws(), ['true', 'true'], 'a withdrawal can\u2019t be sent, and its button looks so');
   press(document.body, 'F9');
   assert.equal(said(), 'No connection to the desk: nothing was sent.');
-  clock.pass(1000);
+  clock.pass(500);
   Socket.last.onopen();
   desk.says(dealerHello());
   desk.says(dealerHello().session);
   desk.tells([live('L1', 99, {deadline: clock.at + 600_000}), live('L2', 98, {deadline: clock.at + 600_000})], true);
-  assert.deepEqual([document.activeElement, at('cancelall').getAttribute('aria-disabled')], [entry(), null], 'the keys are where they were');
+  assert.deepEqual([document.activeElement, at('cancelall').getAttribute('aria-disabled'), ...withdraws()], [entry(), null, null, null], 'the keys are where they were');
   assert.equal(location.reloads, undefined);
 });
 

@@ -285,12 +285,18 @@ test('limits of the firm', () => {
     references({distance: value ?? 256});
     assert.equal(points.value, shown);
   }
+  points.value = '0.50';
+  submit(distance);
+  references({distance: 128});
+  assert.equal(points.value, '0.50', 'until the desk has answered somebody types');
+  desk.answers(desk.heard[0].number);
+  assert.equal(points.value, '0.5', 'what it has taken is written as everybody has it');
   points.value = 'x';
   submit(distance);
   assert.deepEqual([why(), desk.heard], ['x is no distance: write 0.5 or 1, in points, or nothing for one point.', []]);
   dialog.close();
   at('limits-button').click();
-  assert.equal(points.value, '1', 'opened anew it has what holds');
+  assert.equal(points.value, '0.5', 'opened anew it has what holds');
   dialog.close();
 });
 

@@ -215,6 +215,8 @@ test('the table of what is open', () => {
   clock.pass(200);
   assert.ok(seen(table) && document.body.classList.contains('tables'));
   assert.deepEqual(lines(), ['0:50|SELL|3,000,000|Birch 3 2030|97|5.000|3/3', '1:40|BUY|1,000,000|Alder 4 2034|99||3/3'], 'what ends first stands first');
+  const none = () => [...table.querySelectorAll('p')].filter(seen).map(words);
+  assert.deepEqual(none(), []);
   const [first, second] = table.querySelectorAll('button.line');
   assert.deepEqual([document.activeElement, first.tabIndex, second.tabIndex], [first, 0, -1]);
   assert.equal(first.getAttribute('aria-label'), 'SELL 3,000,000 Birch 3 2030 of V1, best 97 of DLR1');
@@ -245,7 +247,11 @@ test('the table of what is open', () => {
   clock.at += 1500; // no tick of the page comes
   press(document.body, 'F8');
   assert.match(lines()[0], /^0:59/, 'as of now, and not of the last tick');
-  press(document.body, 'F8');
+  document.activeElement.blur();
+  desk.tells([asked('O1', {state: 'passed', ended: clock.at})]);
+  clock.pass(200);
+  assert.deepEqual([lines(), none()], [[], ['No request is open.']]);
+  at('table-button').click();
 });
 
 test('what the head says of its numbers', () => {

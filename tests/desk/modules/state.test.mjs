@@ -142,7 +142,7 @@ test('a price that is far off asks for a word', () => {
   assert.equal(question(model, 99.5).why, '2.5 points from your firm\u2019s live quote, 97');
   assert.equal(question(model, 99, {id: 'R3'}), null, 'its own live quote is no mark');
   const at = milliseconds => ({t: 'references', references: {[BOND]: {price: 95 * 256, at: midday - milliseconds}}, distance: null});
-  const ages = {30_000: '0:30 old', 60_000: '1 min old', 7_140_000: '119 min old', 7_200_000: '2 h old'};
+  const ages = {30_000: '0:30 old', 60_000: '1 min old', 119_999: '1 min old', 7_140_000: '119 min old', 7_200_000: '2 h old', 10_799_999: '2 h old'};
   for (const [age, words] of Object.entries(ages)) {
     model.take(at(Number(age)));
     assert.equal(question(model, 98).why, `3 points from the reference 95, ${words}`);

@@ -57,9 +57,9 @@ test('a bond that is completed', () => {
   list.children[0].firstChild.dispatchEvent(down);
   assert.deepEqual([bond.value, list.hidden, down.defaultPrevented], ['Birch 3 2030', true, true], 'by the mouse, and the keys stay in the field');
   type(bond, '2030 bir');
-  assert.deepEqual(options(), [`Birch 3 2030${SECOND}`]);
+  assert.deepEqual([options(), list.hidden, bond.getAttribute('aria-expanded')], [[`Birch 3 2030${SECOND}`], false, 'true'], 'one is a list, too');
   press(bond, 'Escape');
-  assert.deepEqual([list.hidden, bond.value], [true, '2030 bir']);
+  assert.deepEqual([list.hidden, bond.getAttribute('aria-expanded'), bond.value], [true, 'false', '2030 bir']);
   press(bond, 'ArrowDown');
   assert.equal(list.hidden, false);
   bond.dispatchEvent(new window.FocusEvent('blur'));
