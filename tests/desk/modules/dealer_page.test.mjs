@@ -114,15 +114,16 @@ test('help', () => {
 
 test('which request is next', () => {
   gone('R1', 'R4');
-  desk.tells([request('A', {deadline: clock.at + 50_000}), request('B', {deadline: clock.at + 40_000}), live('C', 99.5, {deadline: clock.at + 30_000})]);
+  desk.tells([request('A', {deadline: clock.at + 50_000}), request('B', {deadline: clock.at + 40_000}), live('C', 99.5, {deadline: clock.at + 30_000}),
+    request('D', {deadline: clock.at + 60_000})]);
   document.activeElement.blur();
   const next = () => { press(document.body, 'F2'); return cards().findIndex(one => one.contains(document.activeElement)); };
   const of = id => cards().findIndex(one => one.contains(entries.get(id)));
-  const entries = new Map(['A', 'B', 'C'].map((id, nth) => [id, cards()[nth].querySelector('.entry')]));
-  assert.deepEqual([next(), next(), next()], [of('B'), of('A'), of('B')], 'those without a quote, round');
-  desk.tells([live('A', 99, {deadline: clock.at + 50_000}), live('B', 98, {deadline: clock.at + 40_000})]);
+  const entries = new Map(['A', 'B', 'C', 'D'].map((id, nth) => [id, cards()[nth].querySelector('.entry')]));
+  assert.deepEqual([next(), next(), next(), next()], [of('B'), of('A'), of('D'), of('B')], 'those without a quote, round');
+  desk.tells([live('A', 99, {deadline: clock.at + 50_000}), live('B', 98, {deadline: clock.at + 40_000}), live('D', 97, {deadline: clock.at + 60_000})]);
   assert.equal(next(), of('C'), 'where none wants one, of those that are open');
-  gone('A', 'B', 'C');
+  gone('A', 'B', 'C', 'D');
   press(document.body, 'F2');
   assert.equal(said(), 'No request is open.');
 });
@@ -135,6 +136,12 @@ test('no card moves under a press', () => {
   assert.deepEqual(places(), ['1', '2', '3']);
   desk.tells([size('P2', 2, {state: 'passed', ended: clock.at})]);
   assert.deepEqual(places(), ['1', '2', '3'], 'what has ended stays for a while');
+  const [, second] = at('cards').children;
+  assert.equal(second.style.minHeight, '20px', 'as high as it was');
+  boxes.set(second, {left: 0, top: 0, width: 100, height: 30});
+  desk.tells([size('P2', 2, {state: 'passed', ended: clock.at})]);
+  assert.equal(second.style.minHeight, '20px', 'whatever is told of it afterwards');
+  boxes.delete(second);
   clock.skip(44_900);
   assert.deepEqual(places(), ['1', '2', '3']);
   clock.pass(200);
@@ -312,7 +319,9 @@ test('who leaves is told of live quotes', async () => {
   clock.skip(8001);
   out();
   assert.equal(said(), words_, 'the question stands for a while');
-  clock.pass(700);
+  clock.pass(599);
+  assert.ok(!out());
+  clock.pass(1);
   out();
   await rest();
   assert.ok(desk.socket.isClosed);

@@ -1,7 +1,7 @@
 // An investor's page around its cards: the blotter and its file, positions, lists, earlier days and the ticket of a trade.
 import assert from 'node:assert/strict';
 import test from 'node:test';
-import {boxes, button, choose, clock, document, midday, press, type, window, words} from './stand.mjs';
+import {answers, boxes, button, choose, clock, document, midday, press, rest, type, window, words} from './stand.mjs';
 import {BOND, SECOND, asked, investorHello, offered} from './samples.mjs';
 import {at, cards, desk, seen} from './whole.mjs';
 
@@ -275,4 +275,12 @@ test('news for a screen reader', () => {
   assert.deepEqual([...at('news').children].map(words), ['New request: BUY 2,000,000 Alder 4 2034 of V2']);
   for (const id of '34567') desk.tells([asked(`S${id}`, {trader: 'V2', quantity: Number(id)})]);
   assert.deepEqual([at('news').children.length, words(at('news').firstChild)], [5, 'New request: BUY 3 Alder 4 2034 of V2']);
+});
+
+test('an investor leaves by one press', async () => {
+  answers['/logout'] = {};
+  const before = words(document.querySelector('.said[role=status]'));
+  at('logout').click();
+  await rest();
+  assert.deepEqual([words(document.querySelector('.said[role=status]')), desk.socket.isClosed, location.reloads], [before, true, 1], 'nothing of an investor\u2019s stays live');
 });

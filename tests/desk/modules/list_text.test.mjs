@@ -14,7 +14,7 @@ const birch = [SECOND, 'buy', 1e6, ''];
 
 test('lines that are read', () => {
   for (const text of ['birch b 1m', 'b birch 1m', '1m birch b', 'birch,buy,1m', 'Birch 3 2030\tBUY\t1,000,000', 'buy;1m;birch', '1,000,000 birch buy', 'b, 1m, birch',
-    '"birch"\t"b"\t"1m"', `${SECOND} b 1m`, 'birch 3 2030 B 1mm', '  birch b 1m  ', '1000k\tbirch\tb', 'birch 1m b'])
+    '"birch"\t"b"\t"1m"', `${SECOND} b 1m`, 'birch 3 2030 B 1mm', '  birch b 1m  ', '1000k\tbirch\tb', 'birch 1m b', 'b birch 3 2030 1m', 'birch 3 2030 1m b'])
     assert.deepEqual(one(text), birch, text);
   assert.deepEqual(one('birch s 1m'), [SECOND, 'sell', 1e6, '']);
   assert.deepEqual(one(`${BOND} sell 2m`), [BOND, 'sell', 2e6, '']);

@@ -198,7 +198,8 @@ const lineRows = () => [...ticket.querySelectorAll('.checked tbody tr')].map(row
 
 test('a list that is pasted', () => {
   button(ticket, 'Paste a list').click();
-  assert.deepEqual([document.activeElement, at('many').getAttribute('aria-pressed')], [text, 'true']);
+  const isWide = () => document.body.classList.contains('lists'); // the column that the ticket stands in
+  assert.deepEqual([document.activeElement, at('many').getAttribute('aria-pressed'), isWide()], [text, 'true', true]);
   assert.equal(echo(), 'Choose lines.');
   type(text, `Bond\tSide\tQuantity\n${BOND}\tbuy\t2m\nbirch, sell, 1,000,000\nb birch 500k\n`);
   assert.deepEqual(lineRows(), ['1|BUY|2,000,000|Alder 4 2034Look: the same is open already', '2|SELL|1,000,000|Birch 3 2030', '3|BUY|500,000|Birch 3 2030']);
@@ -216,7 +217,7 @@ test('a list that is pasted', () => {
   assert.deepEqual(sent, {do: 'ask list', name: 'mine', seconds: 120, dealers: ['DLR1', 'DLR3'], number: sent.number,
     lines: [{bond: BOND, side: 'buy', quantity: 2e6}, {bond: SECOND, side: 'sell', quantity: 1e6}, {bond: SECOND, side: 'buy', quantity: 5e5}]});
   desk.answers(sent.number);
-  assert.deepEqual([at('many').getAttribute('aria-pressed'), text.value, at('list-name').value], ['false', '', '']);
+  assert.deepEqual([at('many').getAttribute('aria-pressed'), text.value, at('list-name').value, isWide()], ['false', '', '', false]);
 });
 
 test('a list that can not be asked', () => {
