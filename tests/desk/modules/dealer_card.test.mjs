@@ -22,6 +22,7 @@ test('what a card says of its request', () => {
   assert.equal(document.title, '(1) DLR1 desk');
   assert.equal(at('icon').getAttribute('href'), 'icon-1.svg');
   assert.equal(document.activeElement, entry(), 'the keys go where the work begins');
+  assert.deepEqual(card(0).scrolled, {block: 'nearest'});
 });
 
 test('a price that is read back', () => {

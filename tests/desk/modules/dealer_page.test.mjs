@@ -160,6 +160,47 @@ test('no card moves under a press', () => {
   gone('P1', 'P3');
 });
 
+test('a card that has ended makes room where there is none', () => {
+  const size = (quantity, more = {}) => request(`S${quantity}`, {quantity, deadline: clock.at + 600_000, ...more});
+  const ends = (quantity, ago) => size(quantity, {state: 'passed', ended: clock.at - ago});
+  const order = () => [...at('cards').children].map(one => words(one.querySelector('.what')).split(' ')[0]).join('');
+  const stands = (node, top) => boxes.set(node, {left: 0, top, width: 100, height: 9});
+  desk.tells([size(1), size(2), size(3)]);
+  desk.tells([ends(1, 1000), ends(2, 2000)]);
+  const [first, second] = at('cards').children;
+  boxes.set(at('body'), {left: 0, top: 0, width: 100, height: 10});
+  stands(first, 0);
+  stands(second, 0);
+  desk.tells([size(4)]);
+  assert.deepEqual([order(), at('cards').children[1].style.minHeight], ['1432', '9px'], 'the one that ended first, and nothing below it moves up');
+  second.focus();
+  desk.tells([size(5)]);
+  assert.equal(order(), '54321', 'none that has the keys');
+  second.blur();
+  stands(second, 50);
+  desk.tells([size(6)]);
+  assert.equal(order(), '543261', 'one that is on the screen');
+  stands(first, 50);
+  desk.tells([size(7)]);
+  assert.equal(order(), '5437612', 'or else the one that ended first');
+  boxes.clear();
+  gone('S1', 'S2', 'S3', 'S4', 'S5', 'S6', 'S7');
+});
+
+test('what tells that somebody is there', () => {
+  const told = () => desk.socket.sent.splice(0).filter(one => one.here).length;
+  told();
+  const acts = {key: () => press(document.body, 'x'), pointerdown: () => document.body.dispatchEvent(new window.Event('pointerdown', {bubbles: true})),
+    wheel: () => document.body.dispatchEvent(new window.Event('wheel', {bubbles: true}))};
+  for (const [name, act] of Object.entries(acts)) {
+    clock.skip(20_000);
+    act();
+    assert.equal(told(), 1, name);
+    act();
+    assert.equal(told(), 0, 'not each time');
+  }
+});
+
 test('a press behind a move does nothing', () => {
   desk.tells([request('G1', {deadline: clock.at + 600_000})]);
   const mine = cards().find(one => one.dataset.state === 'open'), decline = button(mine, 'Decline'), entry = mine.querySelector('.entry');

@@ -170,7 +170,7 @@ test('keys go from quote to quote', () => {
   document.body.focus();
   document.activeElement.blur();
   press(document.body, 'F3');
-  assert.equal(document.activeElement, hit('DLR2'), 'F3 goes to the best');
+  assert.deepEqual([document.activeElement === hit('DLR2'), card(0).scrolled], [true, {block: 'nearest'}], 'F3 goes to the best');
   press(document.activeElement, 'ArrowDown');
   assert.equal(document.activeElement, hit('DLR1'));
   press(document.activeElement, 'ArrowUp');

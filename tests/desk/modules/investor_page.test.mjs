@@ -14,7 +14,8 @@ const quoted = ['DLR1', 'DLR2', 'DLR3'].map(name => ({name, answer: 'quoted'}));
 const won = (id, price, ended, more = {}) => asked(id, {state: 'done', ended, trade: `T${id}`, award: {dealer: 'DLR1', price: price * 256, yield: 4.5}, cover: {price: 99.75 * 256, dealer: 'DLR2'}, dealers: quoted, ...more});
 const day = [won('R1', 99.5, midday - 600_000), won('R2', 98, midday - 300_000, {side: 'sell', bond: SECOND, quantity: 1e6, cover: null, settles: '2026-12-01', accrued: 1.25, amounts: {principal: 980_000, accrued: 12_500, total: 992_500}}),
   asked('R3', {state: 'expired', ended: midday - 500_000, trader: 'V2', quotes: [offered('DLR3', 99.25)], dealers: quoted}), asked('R4', {state: 'passed', ended: midday - 400_000}),
-  asked('R5', {state: 'refused', ended: midday - 700_000, told: {refusal: true, text: 'Quote 99.5 is none', at: midday}}), asked('R6', {made: midday - 20_000, quotes: [offered('DLR1', 99)], dealers: [{name: 'DLR1', answer: 'quoted'}, {name: 'DLR2', answer: 'none'}]})];
+  asked('R5', {state: 'refused', ended: midday - 700_000, told: {refusal: true, text: 'Quote 99.5 is none', at: midday},
+    history: [{at: midday - 700_000, trader: 'V1', text: 'Asked', refusal: false}, {at: midday - 699_000, trader: '', text: 'Quote 99.5 is none', refusal: true}]}), asked('R6', {made: midday - 20_000, quotes: [offered('DLR1', 99)], dealers: [{name: 'DLR1', answer: 'quoted'}, {name: 'DLR2', answer: 'none'}]})];
 await desk.open(investorHello({days: ['20261126', '20261125']}), ...day);
 const blotter = at('blotter'), filter = at('filter');
 const rows = () => [...blotter.querySelectorAll('.blotter tbody tr')];
@@ -23,7 +24,7 @@ const notes = () => rows().map(row => words(row.querySelector('summary')));
 const sums = () => words(blotter.querySelector('.sums'));
 
 test('the requests of the day', () => {
-  clock.pass(60);
+  clock.pass(50);
   assert.deepEqual(rows().map(cells), [
     ['11:59:40', '', 'Buy', '2,000,000', 'Alder 4 2034', '', '', 'Open', 'V1'], ['11:59:50', '11:55:00', 'Sell', '1,000,000', 'Birch 3 2030', '98', 'DLR1', 'DONE', 'V1'],
     ['11:59:50', '11:53:20', 'Buy', '2,000,000', 'Alder 4 2034', '', '', 'Passed', 'V1'], ['11:59:50', '11:51:40', 'Buy', '2,000,000', 'Alder 4 2034', '', '', 'Expired', 'V2'],
@@ -31,6 +32,17 @@ test('the requests of the day', () => {
   assert.deepEqual(notes(), ['1 of 2 quoted', 'no cover', '3 asked', 'best 99.25, DLR3', 'cover 99.75, DLR2', 'Quote 99.5 is none']);
   assert.equal(sums(), '6 requests, 2 done: bought 2,000,000, sold 1,000,000');
   assert.match(words(rows()[1]), /Trade TR2.*As a help: settles 2026-12-01, accrued 1\.25 of 100, the buyer pays 992,500\.00 EUR, yield 4\.500 %/);
+  assert.deepEqual(rows().map(row => row.className.trim()), ['', 'traded ended', 'ended', 'ended', 'traded ended', 'ended']);
+  assert.match(words(at('keys')), /^F2 ticket/);
+});
+
+test('the history of a request', () => {
+  const history = () => rows()[5].querySelector('details'), lines = () => [...history().querySelectorAll('div')].map(one => [words(one), one.className]);
+  assert.deepEqual(lines(), [['11:48:20 V1 Asked', ''], ['11:48:21 Quote 99.5 is none', 'why']]);
+  history().open = true;
+  press(document.body, 'F4');
+  assert.deepEqual([history().open, lines()[1][0], cells(rows()[4])[5]], [true, '11:48:21 Quote 99-16 is none', '99-16'], 'it stays open where its row is another');
+  press(document.body, 'F4');
 });
 
 test('what a filter lets through', () => {
@@ -129,7 +141,7 @@ test('earlier days', async () => {
   assert.equal(rows().length, 0, 'of the answers the last one alone counts');
   [sent] = desk.heard;
   desk.says({number: sent.number, date: '20261125', requests: [asked('R9', {history: []})], last: true});
-  assert.equal(cells(rows()[0])[0], '2026-11-25 11:59:50');
+  assert.deepEqual([cells(rows()[0])[0], rows()[0].className.trim()], ['2026-11-25 11:59:50', 'dated']);
   choose(at('day'), 'today');
   type(filter, '');
   assert.deepEqual([words(blotter.querySelector('h2')), rows().length], ['Today', 6]);
@@ -173,6 +185,9 @@ test('a list that was asked at once', async () => {
   clock.pass(200);
   assert.deepEqual(lines(), ['1|BUY|1,000,000|Alder 4 2034|1:00, 3/3 quoted|99.25|DLR1', '2|SELL|1,000,000|Alder 4 2034|DONE|98|DLR1', '3|BUY|1,000,000|Alder 4 2034|waiting||',
     '4|BUY|1,000,000|Alder 4 2034|Stopped.||', '5|BUY|1,000,000|Alder 4 2034|expired|97|DLR3']);
+  const parts = [...mine.querySelectorAll('tbody tr')].map(row => [row.className, row.dataset.side, row.querySelector('button').disabled]);
+  assert.deepEqual(parts, [['open', 'buy', false], ['done', 'sell', false], ['waiting', 'buy', true], ['over', 'buy', true], ['over', 'buy', false]]);
+  assert.equal(mine.querySelectorAll('tbody button')[1].getAttribute('aria-label'), 'To line 2: SELL 1,000,000 Alder 4 2034');
   assert.equal(words(mine.querySelector('p')), '5 lines by V1, 12:00:00 UTC: 1 waiting, 1 open, 1 done, 2 ended without a trade');
   assert.ok(seen(button(mine, 'Stop')) && !button(mine, 'Close'));
   const {trader} = investorHello();
@@ -224,6 +239,9 @@ test('the table of what is open', () => {
     assert.ok(press(document.activeElement, key).defaultPrevented);
     assert.equal(document.activeElement, to, key);
   }
+  press(document.body, 'F4');
+  assert.match(lines()[0], /\|97-00\|/);
+  press(document.body, 'F4');
   press(first, 'ArrowDown', {ctrlKey: true});
   assert.equal(document.activeElement, first);
   assert.equal(table.querySelector('tr.soon'), null);
@@ -235,6 +253,7 @@ test('the table of what is open', () => {
   desk.tells([asked('O2', {side: 'sell', quantity: 3e6, bond: SECOND, state: 'expired', ended: clock.at, deadline: clock.at + 50_000})]);
   clock.pass(200);
   assert.match(lines()[0], /^ended\|SELL/, 'a line under the keys stays');
+  assert.deepEqual([...table.querySelectorAll('tr.quiet')].map(row => words(row.children[0])), ['ended']);
   second.click();
   assert.ok(document.activeElement.closest('article.card'));
   clock.pass(200);
@@ -251,6 +270,25 @@ test('the table of what is open', () => {
   desk.tells([asked('O1', {state: 'passed', ended: clock.at})]);
   clock.pass(200);
   assert.deepEqual([lines(), none()], [[], ['No request is open.']]);
+  at('table-button').click();
+});
+
+test('keys in a long table', () => {
+  const table = at('table'), keys = () => [...table.querySelectorAll('button.line')];
+  const many = (more = {}) => Array.from({length: 12}, (_, nth) => asked(`K${nth}`, {list: 'L9', deadline: clock.at + 60_000 + nth, ...more}));
+  desk.tells(many());
+  at('table-button').click();
+  for (const [key, to] of [['Home', 0], ['PageDown', 10], ['PageDown', 11], ['PageUp', 1], ['PageUp', 0]]) {
+    press(document.activeElement, key);
+    assert.deepEqual([keys().indexOf(document.activeElement), keys().filter(one => one.tabIndex === 0)], [to, [document.activeElement]], key);
+  }
+  desk.says(investorHello({days: ['20261126', '20261125']}));
+  desk.says(investorHello().session);
+  assert.equal(document.activeElement, document.body);
+  desk.tells(many(), true);
+  assert.equal(document.activeElement, keys()[0], 'the keys are in the table where the desk comes back');
+  document.activeElement.blur();
+  desk.tells(many({state: 'passed', ended: clock.at}));
   at('table-button').click();
 });
 

@@ -29,6 +29,7 @@ function fill(values = {}) {
 test('what is missing', () => {
   assert.deepEqual([boxes(), words(ticket.querySelector('.source'))], [['DLR2'], 'As in your last request']);
   assert.equal(document.activeElement, bond, 'the keys go where the work begins');
+  assert.deepEqual([document.body.className, seen(at('ticket'))], ['investor asks', true]);
   assert.equal(echo(), 'Choose a bond, a side, a quantity.');
   type(quantity, '2m');
   assert.equal(echo(), 'Choose a bond, a side. The quantity is 2,000,000.');
@@ -193,6 +194,20 @@ test('dealers and groups', () => {
   assert.equal(button(ticket, 'two'), undefined);
 });
 
+test('a ticket that is folded', () => {
+  const fold = button(ticket, 'New request'), is = () => [ticket.classList.contains('folded'), fold.getAttribute('aria-expanded')];
+  assert.deepEqual(is(), [false, 'true']);
+  fold.click();
+  assert.deepEqual(is(), [true, 'false']);
+  press(document.body, 'F2');
+  assert.deepEqual([...is(), document.activeElement === bond], [false, 'true', true]);
+  at('many').click();
+  document.activeElement.blur();
+  press(document.body, 'F2');
+  assert.equal(document.activeElement, text, 'to the lines of a list');
+  at('many').click();
+});
+
 const text = at('lines');
 const lineRows = () => [...ticket.querySelectorAll('.checked tbody tr')].map(row => [...row.children].map(words).join('|'));
 
@@ -288,6 +303,30 @@ test('the dealers of a page that opens', () => {
     assert.deepEqual(opened(investorHello({groups})).chosen(), ['DLR1', 'DLR3'], other);
   }
   assert.deepEqual([opened(investorHello()).chosen(), opened(investorHello()).source], [[], '']);
+});
+
+const {unsent} = await load('link.js');
+
+test('what an earlier request fills in', () => {
+  const {ticket: own} = opened(investorHello()), sent = [];
+  own.link.act = (command, tell) => { sent.push(command.do); tell(sent.length === 1 ? unsent : 'No.'); };
+  document.body.append(own.node);
+  own.fold(true);
+  own.choose(true);
+  own.fill(asked('R1', {dealers: of('DLR2')}));
+  assert.deepEqual([own.isMany(), own.node.className, own.node.scrolled, document.activeElement === own.button], [false, 'ticket', {block: 'nearest'}, true]);
+  clock.pass(699);
+  own.ask();
+  assert.deepEqual([sent, words(own.why)], [[], 'Filled in just now: look at it, and press again.']);
+  clock.pass(1);
+  own.ask();
+  assert.deepEqual([sent, words(own.why), own.button.disabled], [['ask'], unsent, false]);
+  own.begin();
+  assert.equal(words(own.why), '', 'the desk is there again');
+  own.ask();
+  own.begin();
+  assert.equal(words(own.why), 'No.', 'what it has refused stays');
+  own.node.remove();
 });
 
 test('a request goes to eight dealers at most', () => {
