@@ -5,11 +5,16 @@
 #include "base/private_file.h"
 #include "check.h"
 #include "common/password.h"
+#include "config/address_range.h"
 #include "config/certified_firms.h"
 #include "firms/authenticator.h"
 #include "test_keys.h"
 
+#include <chrono>
 #include <filesystem>
+#include <map>
+#include <string>
+#include <vector>
 
 #include <fmt/format.h>
 
@@ -92,6 +97,66 @@ TEST_CASE("who is let in") {
     CHECK(firms.renew(without) == std::vector<std::string>{"F"});
     CHECK(judged("F", "fred", "right") == Refusal::not_certified);
     CHECK(judged("G", "gail", "other") == Refusal::none);
+}
+
+// In this order: a name of nobody, no credentials, an address, 553, 554, the last day, and the name
+// in a certificate.
+TEST_CASE("who is not let in") {
+    Config config;
+    config.firms = {day, {"F", "G", "H", "N"}};
+    config.engine.client_certificates = true;
+    config.credentials["F"] = {"fred", new_hash("right"), "", day};
+    config.credentials["F"].addresses = {*address_range_of("192.0.2.0/24")};
+    config.credentials["G"] = {"gail", new_hash("other"), "", "20261126"};
+    config.credentials["G"].addresses = {*address_range_of("198.51.100.0/24")};
+    config.credentials["X"] = {"xena", new_hash("none"), ""};
+    Authenticator firms(config);
+    const auto judged = [&](const char *firm, const char *name, const char *password,
+                            const char *certificate, const char *address) {
+        return firms.judge({firm, name, password, true, certificate, address});
+    };
+    CHECK(judged("X", "xena", "none", "X", "192.0.2.1") == Refusal::unknown_name);
+    CHECK(judged("N", "nobody", "", "N", "192.0.2.1") == Refusal::no_access);
+    CHECK(judged("F", "gail", "wrong", "G", "192.0.3.1") == Refusal::wrong_address);
+    CHECK(judged("F", "gail", "wrong", "G", "192.0.2.1") == Refusal::wrong_name);
+    CHECK(judged("F", "fred", "other", "G", "192.0.2.1") == Refusal::wrong_password);
+    CHECK(judged("G", "gail", "other", "G", "198.51.100.1") == Refusal::no_longer);
+    CHECK(judged("F", "fred", "right", "G", "192.0.2.1") == Refusal::wrong_certificate);
+    CHECK(firms.wrong_of("192.0.2.1") == 5);
+    CHECK(judged("F", "fred", "right", "F", "192.0.2.2") == Refusal::none);
+    CHECK(firms.wrong_of("192.0.2.2") == 0);
+    using Time = std::chrono::steady_clock::time_point;
+    CHECK(firms.judges_from("192.0.2.2") < Time::max());
+    CHECK(firms.judges_from("198.51.100.1") < Time::max());
+    CHECK(firms.judges_from("203.0.113.1") == Time::max());
+}
+
+// By other credentials those go that are not the same in them, or whose time is over.
+TEST_CASE("who goes once credentials are read again") {
+    Config config;
+    config.firms = {day, {"A", "B", "C", "D", "E"}};
+    for (const std::string &firm : config.firms.names) {
+        config.credentials[firm] = {"user", "$6$salt$hash", ""};
+    }
+    Authenticator firms(config);
+    CHECK(firms.readings() == 0);
+    auto others = config.credentials;
+    others.erase("A");
+    others["B"].username = "other";
+    others["C"].password_hash = "$6$salt$other";
+    others["D"].ends = "20261126";
+    others["E"].ends = day;
+    CHECK(firms.renew(others) == std::vector<std::string>{"A", "B", "C", "D"});
+    CHECK(firms.readings() == 1);
+    CHECK(firms.renew(others) == std::vector<std::string>{"D"});
+    others["E"].addresses = {*address_range_of("192.0.2.0/24")};
+    for (const char *firm : {"B", "C", "D"}) {
+        others.erase(firm);
+    }
+    firms.renew(others);
+    using Time = std::chrono::steady_clock::time_point;
+    CHECK(firms.judges_from("192.0.2.9") < Time::max());
+    CHECK(firms.judges_from("192.0.3.9") == Time::max());
 }
 
 // Whoever lacks a report waits as one with a wrong password does, so that nobody learns that a
