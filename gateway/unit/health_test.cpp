@@ -4,19 +4,25 @@
 #include <doctest/doctest.h>
 
 #include "check.h"
+#include "health/certificate_end.h"
 #include "health/disk_reserve.h"
 #include "health/metrics.h"
 #include "health/silence.h"
 #include "health/status.h"
 #include "service/day_copying.h"
 
+#include <cstdio>
 #include <future>
 #include <memory>
 #include <sstream>
 #include <string>
 #include <vector>
 
+#include <openssl/evp.h>
+#include <openssl/pem.h>
+#include <openssl/x509.h>
 #include <spdlog/sinks/ostream_sink.h>
+#include <sys/stat.h>
 
 namespace gateway::tests {
 
@@ -185,6 +191,48 @@ TEST_CASE("days are copied one after the other") {
     CHECK(second.get_future().wait_for(60s) == std::future_status::ready);
     CHECK(copying.ends_within(60s));
 }
+
+// ---------------------------------------------------------------- certificates
+
+template <typename Type> using Owned = std::unique_ptr<Type, void (*)(Type *)>;
+
+// Puts a certificate behind what the file has, which ends in so many seconds.
+void add_certificate(const std::filesystem::path &file, long seconds) {
+    const Owned<EVP_PKEY> key(EVP_PKEY_Q_keygen(nullptr, nullptr, "ED25519"), EVP_PKEY_free);
+    const Owned<X509> own(X509_new(), X509_free);
+    X509_set_version(own.get(), X509_VERSION_3);
+    X509_gmtime_adj(X509_getm_notBefore(own.get()), 0);
+    X509_gmtime_adj(X509_getm_notAfter(own.get()), seconds);
+    X509_set_pubkey(own.get(), key.get());
+    REQUIRE(X509_sign(own.get(), key.get(), nullptr) > 0);
+    const std::unique_ptr<FILE, int (*)(FILE *)> to(std::fopen(file.c_str(), "a"), std::fclose);
+    REQUIRE(PEM_write_X509(to.get(), own.get()) == 1);
+}
+
+// Of a chain the first to end.
+TEST_CASE("when certificates end") {
+    const Scratch folder("certificates");
+    const auto file = folder.path() / "chain.pem";
+    const auto ends_in = [&file](std::chrono::seconds time) {
+        const auto end = end_of_certificates(file);
+        REQUIRE(end);
+        const auto off = *end - (std::chrono::system_clock::now() + time);
+        return off < 60s && off > -60s;
+    };
+    CHECK_FALSE(end_of_certificates(file));
+    add_certificate(file, 7200);
+    CHECK(ends_in(7200s));
+    add_certificate(file, 3600);
+    CHECK(ends_in(3600s));
+    add_certificate(file, 10800);
+    CHECK(ends_in(3600s));
+    CHECK_FALSE(end_of_certificates(folder.path()));
+    const auto pipe = folder.path() / "pipe";
+    REQUIRE(::mkfifo(pipe.c_str(), 0600) == 0);
+    CHECK_FALSE(end_of_certificates(pipe)); // it waits for nobody
+}
+
+// ---------------------------------------------------------------- numbers
 
 // What a number says, by its name and its labels; empty where there is none.
 std::string said_by(const Metrics &metrics, const std::string &name) {
