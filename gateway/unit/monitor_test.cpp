@@ -77,14 +77,15 @@ struct Watched {
     }
 
     // All bytes of an answer, with the line feeds alone.
-    std::string asked(const std::string &method, const std::string &path) const {
+    std::string asked(const std::string &method, const std::string &path,
+                      const std::string &body = "") const {
         const Descriptor socket(::socket(AF_INET, SOCK_STREAM | SOCK_CLOEXEC, 0));
         sockaddr_in place = place_of(port);
         check(::connect(socket.number(), reinterpret_cast<sockaddr *>(&place), sizeof place) == 0,
               "the port is closed");
-        const std::string words =
-            fmt::format("{} {} HTTP/1.1\r\nHost: 127.0.0.1:{}\r\nConnection: close\r\n\r\n", method,
-                        path, port);
+        const std::string words = fmt::format("{} {} HTTP/1.1\r\nHost: 127.0.0.1:{}\r\nConnection: "
+                                              "close\r\nContent-Length: {}\r\n\r\n{}",
+                                              method, path, port, body.size(), body);
         check(::send(socket.number(), words.data(), words.size(), 0) ==
                   static_cast<ssize_t>(words.size()),
               "nothing is asked");
@@ -114,6 +115,9 @@ TEST_CASE("pages and numbers") {
     CHECK(short_of(watched.asked("GET", "/none")) ==
           "404 text/plain; charset=utf-8 nothing is here\n");
     CHECK(short_of(watched.asked("GET", "/page.js")).starts_with("200 text/javascript"));
+    // It takes nothing: how much of it is read has an end.
+    CHECK(watched.asked("POST", "/none", std::string(1024, 'x')).substr(9, 3) != "413");
+    CHECK(watched.asked("POST", "/none", std::string(1025, 'x')).substr(9, 3) == "413");
 }
 
 TEST_CASE("a condition is a line, and a status") {
