@@ -405,12 +405,13 @@ class Commands(LogCase):
 
     def test_pair_of_two_files(self) -> None:
         """Messages that the program frames are moved, named anew and left out as others are; what
-        is no frame stays.
+        is no frame stays, and so does whatever the dealer itself sent.
         """
         day, sent = self.place / "day.live", self.place / "sent.txt"
         text = (ROOT / "examples" / "live" / "auction.lines").read_bytes()
         hits = [line for line in text.splitlines(keepends=True) if line.startswith(b"say INV1")]
         more = b"in DLR2 09:00:30 8=FIXT.1.1|9=5|35=S|117=x|131=R1|133=99|10=000|\n"
+        more += b"say DLR1 T1 09:00:30 AJ 693=x|694=1|117=\xff\n"
         for quote, count in ((b"Q2", 1), (b"Q1", 0)):
             day.write_bytes(text.replace(hits[1], more + hits[1].replace(b"Q2", quote)))
             with day.open("rb") as file:

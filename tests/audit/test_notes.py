@@ -1,11 +1,14 @@
 """What operators did, how the clock was and who speaks: by the lines of entries that the venue ignores, as the page has them."""
 
+import json
 from collections.abc import Iterator
 from typing import cast
 
 import pytest
 from mireseason_audit.log import Log
 from mireseason_audit.notes import (
+    ACTS,
+    CLOCK_NOTES,
     Act,
     ClockNote,
     acts,
@@ -17,6 +20,7 @@ from mireseason_audit.notes import (
     voiding_acts,
 )
 from mireseason_audit.records import Entry
+from mireseason_audit.tables import Form, table_text
 
 AT = "10:14:02.118"
 TRADES = ("20261125-FJORD-ALPHA-1", "20261125-FJORD-ALPHA-2")
@@ -90,6 +94,15 @@ def test_samples_of_the_clock() -> None:
         ClockNote(2, AT, "unsynchronised", 16_000_000),
         ClockNote(3, AT, "set", -1500),
     ]
+
+
+def test_the_tables_of_both() -> None:
+    """Each value stands below its own name."""
+    acted = table_text(ACTS, [Act(4, AT, "bob(0)", "resume INV1", "both asked")], Form.JSON)
+    words = {"who": "bob(0)", "act": "resume INV1", "because": "both asked"}
+    assert json.loads(acted) == [{"place": 4, "moment": AT, **words}]
+    noted = table_text(CLOCK_NOTES, [ClockNote(3, AT, "set", -1500)], Form.JSON)
+    assert json.loads(noted) == [{"place": 3, "moment": AT, "state": "set", "microseconds": -1500}]
 
 
 def test_what_samples_come_to() -> None:

@@ -8,7 +8,7 @@ from functools import partial
 from pathlib import Path
 from unittest import mock
 
-from mireseason_audit import pair_command, work
+from mireseason_audit import pair_command, reading, work
 from mireseason_audit.bonds import Bond, bonds_of
 from mireseason_audit.dictionary import read_dictionary
 from mireseason_audit.facts import quantity_in
@@ -34,7 +34,7 @@ from mireseason_audit.records import Sent, configured
 from mireseason_audit.second_day import moved_fields
 from mireseason_audit.story import seconds
 from mireseason_audit.templates import date_text, quantity_text
-from mireseason_audit.timeline import broken, gap_text
+from mireseason_audit.timeline import broken, gap_text, words_lines
 from mireseason_audit.venue import Venue
 
 from tests.audit.common import ROOT, folder
@@ -319,6 +319,17 @@ class Words(unittest.TestCase):
             for text in ("<fix>", "<fix><fields><field number='x'/></fields></fix>"):
                 path.write_text(text)
                 self.assertRaises(Unreadable, read_dictionary, path)
+
+    def test_a_price_in_32nds_has_its_decimal_below(self) -> None:
+        """Beside the quote's name, which stands there alone where the price is a decimal already."""
+        for price, in_32nds, shown, below in (
+            ("99.515625", True, "99-16+", "99.515625 · a1"),
+            ("99.515625", False, "99.515625", "a1"),
+            ("99.51", True, "99.51", "a1"),
+        ):
+            words = reading.Words(reading.Shape.QUOTE, "quotes", Price(price), "a1")
+            expected = [("said", "quotes " + shown), ("decimal", below)]
+            self.assertEqual(words_lines(words, "said", 40, in_32nds), expected)
 
     def test_texts_of_the_drawing(self) -> None:
         self.assertEqual(broken("a bb ccc dddd", 6), ["a bb", "ccc", "dddd"])

@@ -240,6 +240,17 @@ def test_the_command(tmp_path: Path) -> None:
     assert ran.stderr.decode() == (tmp_path / "told").read_text()
 
 
+def test_a_contradiction_is_in_the_status(tmp_path: Path) -> None:
+    """All lines are kept, and whoever looks at the status alone knows that one contradicts another."""
+    day = today_text()
+    lines = in_a_row(2, day, "LDN")
+    lines.append(signed(2, signature_of(lines[0]), day, "LDN", more="\nx"))
+    assert received(tmp_path, b"".join(lines[:2])).returncode == 0
+    ran = received(tmp_path, lines[2])
+    assert ran.returncode == 1 and b"checkpoint 2 came otherwise before" in ran.stderr
+    assert (tmp_path / ("LDN-%s.checkpoints" % day)).read_bytes() == b"".join(lines)
+
+
 def test_a_disk_without_room(tmp_path: Path) -> None:
     """It ends, and leaves whole lines."""
     day = today_text()

@@ -104,6 +104,24 @@ class Chains(unittest.TestCase):
         foreign = entry(2, "09:00:02.000", b"clock 09:00:02.000", bytes(32))
         self.assertEqual(len(self.found(first, second, foreign)), 1)
 
+    def test_the_numbers_of_a_session(self) -> None:
+        """Each is above all before it, and the first that is not is told; the greatest is remembered."""
+        for numbers, told in (
+            ((5, 6, 9), []),
+            ((5, 5), ["number 5 of DLR1's session comes after 5"]),
+            ((5, 9, 7, 8), ["number 7 of DLR1's session comes after 9"]),
+        ):
+            rows = [entry(0, "09:00:00.000", b"", bytes(32))]
+            for place, number in enumerate(numbers, 1):
+                moment = "09:00:%02d.000" % place
+                line = b"hex DLR1 %s 00" % moment.encode()
+                rows.append(entry(place, moment, line, rows[-1].hash, firm="DLR1", number=number))
+            reader = ChainReader(has_chain=True, has_door=True)
+            for one in rows:
+                reader.take(one)
+            self.assertEqual([finding.text for finding in reader.found.findings], told)
+            self.assertEqual(reader.found.numbers["DLR1"], (max(numbers), len(numbers)))
+
     def test_lines_that_no_gateway_writes(self) -> None:
         """Each is of the row's firm and moment, and follows on the entry before it."""
         first = entry(0, "09:00:00.000", b"", bytes(32))

@@ -14,7 +14,7 @@ from mireseason_audit import streams, venue
 from mireseason_audit.faults import Unreadable
 from mireseason_audit.parents import bound_to
 from mireseason_audit.progress import Progress
-from mireseason_audit.venue import Run, Venue
+from mireseason_audit.venue import Conversation, Run, Venue
 from mireseason_audit.work import Job, Plan, plan_of, run_jobs
 
 from tests.audit.common import folder
@@ -187,6 +187,14 @@ class Feeding(unittest.TestCase):
         with Venue(("cat",)).run([], self.file) as run:
             lines = list(run.lines())
         self.assertEqual(lines, b"".join(self.parts).splitlines())
+
+    def test_a_program_that_is_asked_line_by_line(self) -> None:
+        """Whoever has closed it has left nothing of it behind, not even what waits for a look at its status."""
+        script = 'echo $$ >"$0"; while read -r line; do echo "ALPHA $line"; echo done 1; done'
+        with Conversation(Venue(("sh", "-c", script, str(self.out)))) as asked:
+            self.assertEqual(asked.say(b"35=8|"), [("ALPHA", b"35=8\x01")])
+        number = int(self.out.read_text())
+        self.assertRaises(ProcessLookupError, os.kill, number, 0)
 
     def test_faults(self) -> None:
         with self.assertRaisesRegex(Unreadable, "status 3"):

@@ -88,7 +88,10 @@ def test_what_a_session_carried_then(day: Day) -> None:
             for firm in FIRMS:
                 then = [at for at, row in enumerate(rows[firm]) if row.sent is not None]
                 then = [at for at in then if placed[firm][rows[firm][at].sent or 0] <= place]
-                assert list(shown.outgoing(firm)) == rows[firm][: max(then, default=-1) + 1]
+                carried = rows[firm][: max(then, default=-1) + 1]
+                assert list(shown.outgoing(firm)) == carried
+                own = [row for row in carried if row.sent is None]
+                assert list(shown.own_messages(firm)) == own
     assert any(row.sent is None for firm in FIRMS for row in rows[firm])
 
 

@@ -111,8 +111,10 @@ def test_what_was_refused_is_that_of_the_sheet(stored: Exported, sheet: Sheet) -
 
 
 def test_what_each_message_says_of_itself(stored: Exported) -> None:
-    """Its number and its type. A cancel of all quotes is about the request of its first answer."""
-    rows, cancels = stored.table("messages"), 0
+    """Its number and its type; its bond, where it is about no request of the day. A cancel of all quotes is about the request of
+    its first answer.
+    """
+    rows, cancels, bonds = stored.table("messages"), 0, Counter[str]()
     for row in rows:
         fields = dict(field.split("=", 1) for field in row["text"].strip("|").split("|"))
         assert (row["number"], row["type"]) == (fields["34"], fields["35"]), row
@@ -121,7 +123,10 @@ def test_what_each_message_says_of_itself(stored: Exported) -> None:
         if row["what"] == "cancel" and len(told) > 1:
             cancels += told[0] != told[-1]
             assert row["request"] == told[0]
-    assert cancels > 0
+        if not row["request"]:
+            assert row["bond"] == fields.get("48", ""), row
+            bonds[row["way"]] += row["bond"] != ""
+    assert cancels > 0 and bonds["came"] > 0 and bonds["sent"] > 0
 
 
 def test_why_a_hit_is_refused(stored: Exported) -> None:

@@ -61,16 +61,20 @@ def test_the_figures_of_the_whole_stored_day(by_audit: Figures) -> None:
 
 
 def test_face_value_is_counted_by_bond_without_currencies(by_audit: Figures, sheet: Sheet) -> None:
-    expected: Counter[str] = Counter()
-    for one in sheet.requests:
-        expected[one.bond] += one.quantity
     day = {unit: row for (group, _, unit), row in by_audit.amounts.items() if group == "day"}
-    assert {unit: row[0] for unit, row in day.items()} == expected
-    traded: Counter[str] = Counter()
+    assert day == face_value(sheet)
+    assert sum(row[2] for row in day.values()) == 21
+
+
+def face_value(sheet: Sheet) -> dict[str, tuple[int, int, int]]:
+    """Of each bond what was asked for, what of it was traded, and in how many trades."""
+    asked, traded, trades = Counter[str](), Counter[str](), Counter[str]()
+    for one in sheet.requests:
+        asked[one.bond] += one.quantity
     for trade in sheet.trades:
         traded[trade.request.bond] += trade.request.quantity
-    assert {unit: row[1] for unit, row in day.items()} == traded
-    assert sum(row[2] for row in day.values()) == 21
+        trades[trade.request.bond] += 1
+    return {bond: (asked[bond], traded[bond], trades[bond]) for bond in asked}
 
 
 def test_refusals_by_reason(by_audit: Figures, sheet: Sheet) -> None:
@@ -153,11 +157,13 @@ def test_a_changed_log_has_no_figures(run: Audit, short_log: Path, tmp_path: Pat
     assert "Dealers" not in ran.out
 
 
-def test_for_a_person(run: Audit) -> None:
+def test_for_a_person(run: Audit, sheet: Sheet) -> None:
     ran = run("stats", STORED)
     assert ran.status == 0
     lines = [line.split() for line in ran.out.splitlines()]
     assert ["DELTA", "27", "27", "20", "5", "2", "15841", "27957", "29270"] in lines
+    for bond, row in face_value(sheet).items():
+        assert ["day", DATE, bond, *map("{:,}".format, row)] in lines, bond
     assert max(map(len, ran.out.splitlines())) <= 120
 
 
