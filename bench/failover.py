@@ -9,7 +9,7 @@ that speaks is killed, three times unless --times says otherwise, and started ag
 raised the term, and from then to the answer of the first Logon. The term is looked at every two milliseconds.
 """
 
-# @figure a failover on a day of 300,000 entries in PostgreSQL with its standby: from the SIGKILL to the raised term, and from there to the first Logon answered | 2 s from the raised term | load 5: 0.04 s to the raised term, 0.07 s from there
+# @figure a failover on a day of 300,000 entries in PostgreSQL with its standby: from the SIGKILL to the raised term, and from there to the first Logon answered | 2 s from the raised term | load 5: 0.06 s to the raised term (0.04 to 0.06), 0.07 s from there (0.06 to 0.11)
 
 import argparse
 import contextlib

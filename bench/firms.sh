@@ -5,9 +5,9 @@
 # what TMPDIR says. Needs what gateway/packages.sh names, PostgreSQL and libpq-dev.
 #
 #     bench/firms.sh [GATEWAY [VENUE WORDS ..]]
-# @figure all that a day accepts (65,536 quotes, 4,096 requests, and a hit of each) from 64 firms, SQLite on a disk, beside one firm's burst at the echo | 4 times, the 99th percentile under 20 ms | load 3: 14,329 and 16,555 messages a second, 2.2 and 2.5 times (the echo 6,647); 29 and 24 ms. `live --marks` by pipes 48,512 and 63,183. Of a message the firms take 15 us of a processor
-# @figure the same with the log in PostgreSQL and its standby, beside one writer that copies the same batches | 20,000 a second, under 50 ms | load 3: 8,544 and 8,895; 66 ms both; the writer 30,623 and 28,483
-# @figure four venues behind one gateway, beside one, each with 64 firms on the same processors | 1.8 times | load 3 to 5: 1.26 times, twice (17,320 and 17,045 messages a second, beside 13,699 and 13,554)
+# @figure all that a day accepts (65,536 quotes, 4,096 requests, and a hit of each) from 64 firms, SQLite on a disk, beside one firm's burst at the echo | 4 times, the 99th percentile under 20 ms | load 7: 15,625 and 16,481 messages a second, 2.5 and 2.7 times (the echo 6,146); 24 ms both. `live --marks` by pipes 64,647 and 63,838. Of a message the firms take 15 us of a processor
+# @figure the same with the log in PostgreSQL and its standby, beside one writer that copies the same batches | 20,000 a second, under 50 ms | load 6: 9,225 and 9,402; 55 and 53 ms; the writer 35,257 and 35,893
+# @figure four venues behind one gateway, beside one, each with 64 firms on the same processors | 1.8 times | load 5 to 7: 1.27 and 1.78 times (19,146 and 29,789 messages a second, beside 15,081 and 16,724); on another evening 1.26, twice
 set -eu
 here=$(cd "$(dirname "$0")" && pwd)
 root=$(cd "$here/.." && pwd)

@@ -7,7 +7,7 @@
 #     bench/gateway.sh [GATEWAY [VENUE WORDS ..]]
 #
 # The venue `-` is gateway_venue.cpp, which does nothing but answer: the gateway's own part.
-# @figure a quote from a stock initiator to its 297=0 through gateway, log (SQLite) and venue (or a stand-in that answers at once), beside a bare QuickFIX echo with an fdatasync, in five pairs that take turns: the median; the 99th percentile | 1.15 times; 1.5 times | load 19 falling to 10: 1.50 times (1.01 to 1.75; 0.34 ms and 0.22); 1.24 times (0.77 to 8.84). On another evening, load 0.5: 1.08 (0.94 to 1.23) and 1.13. The gateway of before form 6 of the log, in the same minutes: 1.17 (1.00 to 2.27) and 2.44 (0.79 to 3.57)
+# @figure a quote from a stock initiator to its 297=0 through gateway, log (SQLite) and venue (or a stand-in that answers at once), beside a bare QuickFIX echo with an fdatasync, in five pairs that take turns: the median; the 99th percentile | 1.15 times; 1.5 times | load 20 falling to 10: 1.37 times (1.23 to 1.47; 0.32 ms and 0.23); 1.36 times (1.08 to 2.24). On two other evenings 1.50 (1.01 to 1.75) and 1.24, 1.08 (0.94 to 1.23) and 1.13. The gateway of before form 6 of the log, in the minutes of the 1.50: 1.17 (1.00 to 2.27) and 2.44 (0.79 to 3.57)
 set -eu
 here=$(cd "$(dirname "$0")" && pwd)
 root=$(cd "$here/.." && pwd)

@@ -11,7 +11,7 @@ and started: the seconds from its process to the answer of the first Logon, and 
 day alone by `replay --live`, and by `live` as the gateway runs it. Takes two minutes on an idle machine.
 """
 
-# @figure a gateway's start on a day of 300,000 entries, from its process to the first Logon answered, beside `replay --live` of it; the gateway's memory with 128 sessions as the day grows | twice; flat | on 100,000 entries, load 6: 1.82 s (three starts, one of them behind a SIGKILL), 1.84 times the replay's 0.99; of a processor 2.8 s the gateway's, 0.8 the venue's; 50 MB at most. On 300,000, before that, at load 50: 14.0 and 15.2 s, 2.9 times the replay's 5.0. With 128 sessions 65 MB after 50,000 entries, 70 after 100,000, 76 after 150,000 (the venue 35, 65, 93)
+# @figure a gateway's start on a day of 300,000 entries, from its process to the first Logon answered, beside `replay --live` of it; the gateway's memory with 128 sessions as the day grows | twice; flat | load 5: 2.47 s (2.31 to 2.73; three starts, one of them behind a SIGKILL), 1.52 times the replay's 1.63; of a processor 3.9 s the gateway's, 1.7 the venue's; 52 MB at most. With 128 sessions 77, 81, 81, 85, 88 and 88 MB after each 50,000 entries (the venue 35 to 182, the log 37 to 221), played beside other work
 
 import argparse
 import os

@@ -9,7 +9,7 @@ what one of its first half takes, of `replay`, of `replay --live` on the same me
 Takes a few seconds.
 """
 
-# @figure bytes a frame that comes or is sent, on a day of as many requests as a venue may have: of `replay`; of `replay --live` and `live` on the same messages | 350 of `replay`; 250 of `live` | 361; 414; 342 ([where they go](#bytes-a-frame)). On a day of 100 MB with many lines at fault 233 of `replay --live` and 179 of `live`
+# @figure bytes a frame that comes or is sent, on a day of as many requests as a venue may have: of `replay`; of `replay --live` and `live` on the same messages | 350 of `replay`; 250 of `live` | 362; 413; 347 ([where they go](#bytes-a-frame)). On a day of 100 MB with many lines at fault 233 of `replay --live` and 179 of `live`
 
 import os
 import subprocess

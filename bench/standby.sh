@@ -4,7 +4,7 @@
 # libpq-dev.
 #
 #     bench/standby.sh [GATEWAY [VENUE WORDS ..]]
-# @figure the same with the log in PostgreSQL and one synchronous standby on this machine, beside a bare INSERT with its commit there: the median | 1.3 times | load 3 to 6: 3.25 times (3.05 to 3.55; 1.69 ms and 0.50)
+# @figure the same with the log in PostgreSQL and one synchronous standby on this machine, beside a bare INSERT with its commit there: the median | 1.3 times | load 10 falling to 7: 2.62 times (2.57 to 2.90; 1.19 ms and 0.45)
 set -eu
 here=$(cd "$(dirname "$0")" && pwd)
 root=$(cd "$here/.." && pwd)
