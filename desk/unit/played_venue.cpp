@@ -41,18 +41,21 @@ PlayedVenue::PlayedVenue() : listener_(::socket(AF_INET, SOCK_STREAM | SOCK_CLOE
 }
 
 desk::Message PlayedVenue::let_in() {
-    wait_for(listener_);
-    line_ = gateway::Descriptor(::accept4(listener_.number(), nullptr, nullptr, SOCK_CLOEXEC));
-    bytes_.clear();
     const int before = heard_;
-    desk::Message logon = read();
-    REQUIRE(logon.type() == "A");
-    firm_ = logon.get(49);
+    std::optional<desk::Message> logon;
+    while (!logon || has_ended()) {
+        wait_for(listener_);
+        line_ = gateway::Descriptor(::accept4(listener_.number(), nullptr, nullptr, SOCK_CLOEXEC));
+        bytes_.clear();
+        logon = next();
+    }
+    REQUIRE(logon->type() == "A");
+    firm_ = logon->get(49);
     write("A", "98=0|108=10|1137=9|");
     if (heard_ > before + 1) {
         write("2", "7=" + std::to_string(before + 1) + "|16=0|");
     }
-    return logon;
+    return *logon;
 }
 
 desk::Message PlayedVenue::hear() {
@@ -84,6 +87,17 @@ void PlayedVenue::say(const std::string &type, const std::string &fields) {
 }
 
 desk::Message PlayedVenue::read() {
+    const std::optional<desk::Message> message = next();
+    REQUIRE(message);
+    return *message;
+}
+
+bool PlayedVenue::has_ended() const {
+    char byte = 0;
+    return ::recv(line_.number(), &byte, 1, MSG_PEEK | MSG_DONTWAIT) == 0;
+}
+
+std::optional<desk::Message> PlayedVenue::next() {
     for (;;) {
         const std::size_t body = bytes_.find(end_of_body);
         if (body != std::string::npos && bytes_.size() >= body + after_body) {
@@ -95,7 +109,9 @@ desk::Message PlayedVenue::read() {
         wait_for(line_);
         char part[4096];
         const ssize_t size = ::recv(line_.number(), part, sizeof part, 0);
-        REQUIRE(size > 0);
+        if (size <= 0) {
+            return std::nullopt;
+        }
         bytes_.append(part, static_cast<std::size_t>(size));
     }
 }

@@ -6,6 +6,7 @@
 #include "message.h"
 
 #include <chrono>
+#include <optional>
 #include <string>
 
 namespace desk_tests {
@@ -17,6 +18,7 @@ class PlayedVenue {
     int port() const { return port_; }
 
     // Waits for the desk to connect, lets it in, and asks for what it has missed; the desk's Logon.
+    // A connection that the desk has given up, before this took it, is none.
     desk::Message let_in();
     // The next message of the desk's that is none of the session itself.
     desk::Message hear();
@@ -30,6 +32,9 @@ class PlayedVenue {
   private:
     void wait_for(const gateway::Descriptor &one);
     desk::Message read();
+    // Nothing where the line has ended.
+    std::optional<desk::Message> next();
+    bool has_ended() const;
     void write(const std::string &type, const std::string &fields);
 
     gateway::Descriptor listener_;
