@@ -7,6 +7,7 @@
 #include <algorithm>
 #include <chrono>
 #include <fstream>
+#include <thread>
 
 #include <fcntl.h>
 #include <unistd.h>
@@ -43,6 +44,16 @@ Market market_of(Role role) {
         market.limits = {0, 0, 5'000'000, 1024, 8};
     }
     return market;
+}
+
+// A venue's day ends at midnight in UTC, and what is asked for a minute is refused behind that:
+// where less than two minutes are left of this day, the next one is waited for.
+void wait_for_room_of_day() {
+    const auto end = std::chrono::floor<std::chrono::days>(now()) + std::chrono::days(1);
+    const bool has_room = end - now() >= std::chrono::minutes(2);
+    while (!has_room && now() < end) {
+        std::this_thread::sleep_for(std::chrono::milliseconds(10));
+    }
 }
 
 } // namespace
@@ -103,6 +114,7 @@ std::vector<json> PlayedSocket::all(const std::string &type) const {
 
 House::House(Role role, const std::function<void(Config &)> &change)
     : config(config_of(role, folder.file("data"))), events(config.firm) {
+    wait_for_room_of_day();
     std::filesystem::create_directory(config.data);
     config.fix.addresses = {{"127.0.0.1", venue.port()}};
     change(config);

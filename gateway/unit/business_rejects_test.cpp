@@ -6,6 +6,7 @@
 #include "check.h"
 #include "common/frame.h"
 #include "firms/business_rejects.h"
+#include "room_of_day.h"
 #include "test_keys.h"
 
 #include <algorithm>
@@ -101,6 +102,7 @@ constexpr const char *a_quote = "35=S|117=q1|131=R1|48=BONDA|22=4|133=99.5|";
 constexpr const char *a_hit = "35=AJ|693=h1|694=1|131=R1|117=Q1|";
 
 Config config_of(const std::filesystem::path &folder, std::uint64_t reserve) {
+    wait_for_room_of_day();
     Config config;
     config.configuration = "version = 1\n";
     config.firms = {today(), {"DLR1", "INV1"}};
@@ -113,6 +115,7 @@ Config config_of(const std::filesystem::path &folder, std::uint64_t reserve) {
 
 // It opens at 8, closes at 16 and ends at 17.
 TradingDay hours_of_today() {
+    wait_for_room_of_day();
     const SystemSeconds midnight = midnight_of(today());
     return {today(), midnight + 8h, midnight + 16h, midnight + 17h};
 }

@@ -8,6 +8,7 @@
 #include "log/checkpoint_file.h"
 #include "operator/admin_command.h"
 #include "operator/admin_words.h"
+#include "room_of_day.h"
 #include "test_keys.h"
 
 #include <chrono>
@@ -118,6 +119,7 @@ class Market final : public AdminScene {
         std::optional<TradingDay> hours = std::nullopt)
         : hours_(std::move(hours)) {
         std::signal(SIGPIPE, SIG_IGN);
+        wait_for_room_of_day();
         std::ofstream(folder_.path() / "venue.sh") << venue_text;
         for (const std::string &venue : venues) {
             configs_.push_back(config_of(folder_.path(), venue));

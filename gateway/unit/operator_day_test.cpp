@@ -403,6 +403,7 @@ TEST_CASE("a day goes on where its gateway ends") {
 }
 
 TEST_CASE("a day ends at its hour") {
+    wait_for_room_of_day();
     const SystemSeconds midnight = midnight_of(today());
     const auto now = std::chrono::floor<std::chrono::seconds>(std::chrono::system_clock::now());
     Market market(
