@@ -16,7 +16,7 @@ from mireseason_certify.relay import By, Relay
 
 from tests.gateway.wait import LONG
 
-LIMIT = 10.0  # seconds
+LIMIT = LONG
 MANY = 20
 FIRST = written("0", "DLR1", 1, [(112, "one")])
 SECOND = written("0", "DLR1", 2, [(112, "two")])
@@ -184,15 +184,15 @@ def test_how_long_a_desk_waits_before_it_logs_on(ends: Ends) -> None:
     ends.desk.sendall(logon)
     wait_for(lambda: ends.relay.count() == 1)
     assert ends.relay.pauses(0) == []
-    ends.relay.cut()
     began = time.monotonic()
+    ends.relay.cut()
     with socket.create_connection((HOST, ends.relay.port), LIMIT) as again:
         again.sendall(FIRST)
         time.sleep(0.1)
         again.sendall(logon)
         wait_for(lambda: ends.relay.count() == 3)
         (pause,) = ends.relay.pauses(0)
-        assert 0.1 <= pause <= time.monotonic() - began + 1.0
+        assert 0.1 <= pause <= time.monotonic() - began
         assert ends.relay.pauses(1) == [pause] and ends.relay.pauses(3) == []
 
 
