@@ -6,8 +6,10 @@ import os
 import signal
 import subprocess
 import sys
+from collections.abc import Callable
 from dataclasses import replace
 from datetime import date, timedelta
+from functools import partial
 from pathlib import Path
 
 import pytest
@@ -26,14 +28,15 @@ from mireseason_certify.run import FAILED, PASSED, Outcome
 from tests.harness.options import ROOT
 
 COMMAND = [sys.executable, str(ROOT / "certify" / "mireseason-certify")]
-TODAY = date.today()
 
 
 def report(outcome: str = PASSED, days: int = 10, is_whole: bool = True) -> Report:
+    """One of today, which holds for so many days."""
+    today = date.today()
     outcomes = [Outcome("logon", "Logs on <b>&", outcome, "", 1.0, ["desk 8=FIXT.1.1|<i>|"])]
     versions = {"formats": formats_of(ROOT / "fix")}
-    until = (TODAY + timedelta(days=days)).isoformat()
-    return Report("DLR1", "dealer", 7, TODAY.isoformat(), until, is_whole, versions, outcomes, {})
+    until = (today + timedelta(days=days)).isoformat()
+    return Report("DLR1", "dealer", 7, today.isoformat(), until, is_whole, versions, outcomes, {})
 
 
 @pytest.fixture
@@ -73,7 +76,7 @@ def test_what_is_signed(outcome: str, word: str, key: Ed25519PrivateKey, tmp_pat
     line, signed = signature.removesuffix("\n").rsplit(" ", 1)
     assert line.split(" ") == [
         *("mireseason-report", "1", "DLR1", "dealer", word),
-        (TODAY + timedelta(days=10)).strftime("%Y%m%d"),
+        (date.fromisoformat(made.date) + timedelta(days=10)).strftime("%Y%m%d"),
         made.versions["formats"],
         hashlib.sha256(data).hexdigest(),
     ]
@@ -83,19 +86,19 @@ def test_what_is_signed(outcome: str, word: str, key: Ed25519PrivateKey, tmp_pat
 @pytest.mark.parametrize(
     "made, fault",
     [
-        (report(outcome=FAILED), "not every case has passed"),
-        (report(is_whole=False), "not every case has passed"),
-        (report(days=-1), "it held until"),
+        (partial(report, outcome=FAILED), "not every case has passed"),
+        (partial(report, is_whole=False), "not every case has passed"),
+        (partial(report, days=-1), "it held until"),
     ],
 )
 def test_one_that_does_not_hold(
-    made: Report,
+    made: Callable[[], Report],
     fault: str,
     key: Ed25519PrivateKey,
     tmp_path: Path,
     capsys: pytest.CaptureFixture[str],
 ) -> None:
-    assert fault in told(made, key, tmp_path, capsys)
+    assert fault in told(made(), key, tmp_path, capsys)
 
 
 def test_one_that_was_changed(

@@ -210,7 +210,9 @@ def test_a_change_for_tomorrow(stage_of_log: Stage) -> None:
     assert b"BONDB0000002" not in stage.door.ledger().entries[0].line
 
 
-YESTERDAY = (datetime.now(timezone.utc) - timedelta(days=1)).strftime("%Y%m%d")
+def is_of_yesterday(file: Path) -> None:
+    yesterday = datetime.now(timezone.utc) - timedelta(days=1)
+    file.write_text('date = "%s"\n%s' % (yesterday.strftime("%Y%m%d"), VENUE))
 
 
 def becomes_a_folder(file: Path) -> None:
@@ -221,7 +223,7 @@ def becomes_a_folder(file: Path) -> None:
 FILES_OF_TOMORROW: dict[str, Callable[[Path], object]] = {
     "missing": Path.unlink,
     "a folder": becomes_a_folder,
-    "of yesterday": lambda file: file.write_text('date = "%s"\n%s' % (YESTERDAY, VENUE)),
+    "of yesterday": is_of_yesterday,
     "without a firm": lambda file: file.write_text(VENUE.replace("INV1", "INV9")),
 }
 
