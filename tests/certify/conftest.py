@@ -8,6 +8,7 @@ from mireseason_certify import stage
 from mireseason_certify.own_venue import Programs
 
 from tests.certify.scripted import Script
+from tests.gateway.midnight import wait_for_room
 from tests.harness.build import built
 from tests.harness.options import Form
 
@@ -18,6 +19,13 @@ def programs(gateway_program: Path, venue: tuple[str, ...]) -> Programs:
     admin = gateway_program.with_name("mireseason-admin")
     assert admin.exists(), "there is no %s beside the gateway" % admin
     return Programs(gateway_program.resolve(), admin.resolve(), venue)
+
+
+@pytest.fixture(autouse=True)
+def day(request: pytest.FixtureRequest) -> None:
+    """A certification is of one day: with a gateway none begins where too little of it is left."""
+    if "gateway_program" in request.fixturenames:
+        wait_for_room(request.node.name)
 
 
 @pytest.fixture
