@@ -84,6 +84,8 @@ test('a deadline that is near', () => {
   assert.deepEqual([look([model.requests.get('R1')], 0), look([request('R9')], 5)], [[], []]);
   take([request('R1', {quantity: 7})]);
   assert.deepEqual(look([model.requests.get('R1')], 5), [], 'once, whatever changes');
+  begin(dealerHello(), request('R1'));
+  assert.deepEqual(look([model.requests.get('R1')], 1), ['0:01 left: OFFER 2,000,000 Alder 4 2034 for INV1'], 'to its end');
   begin(investorHello(), asked('R2', {trader: 'V2'}));
   assert.deepEqual(look([model.requests.get('R2')], 5000), []);
 });

@@ -59,7 +59,7 @@ test('a quote whose validity runs out', () => {
 test('two presses hit', () => {
   quotes([offered('DLR1', 99.5), offered('DLR2', 99.25)]);
   hit('DLR2').click();
-  assert.equal(told(), 'A quote changed under your press: look again.');
+  assert.deepEqual([told(), state()], ['A quote changed under your press: look again.', ''], 'in the place of what has been answered');
   clock.pass(499);
   hit('DLR2').click();
   assert.deepEqual([armed(), told()], [null, 'A quote changed under your press: look again.'], 'half a second, and not less');
