@@ -4,19 +4,20 @@ speaks for."""
 from __future__ import annotations
 
 from dataclasses import replace
+from datetime import datetime, timezone
 from decimal import Decimal
 
 import pytest
-from mireseason_certify import dealer_cases, dealer_session, investor_session
+from mireseason_certify import dealer_acts, dealer_cases, dealer_session, investor_session
 from mireseason_certify.dealer_acts import check_quote, quoted, refused_quote, worse
 from mireseason_certify.dealer_session import QuoteAct
-from mireseason_certify.frames import Message
+from mireseason_certify.frames import Message, time_text
 from mireseason_certify.investor_acts import check_request, hit, refused_hit
 from mireseason_certify.investor_session import HitAct
 from mireseason_certify.own_venue import Bond
 from mireseason_certify.stage import Request, is_kind, is_reply, same_price
 
-from tests.certify.scripted import DESK, Script, fails, message
+from tests.certify.scripted import DESK, Played, Script, fails, message
 
 BOND = Bond("XSABCD000001", 32)
 BUY, SELL = (Request("R1", "own", BOND, side, 500) for side in "12")
@@ -26,6 +27,12 @@ def test_a_price_however_it_is_written() -> None:
     for text in ("99.5", "99.50", "0099.5", "9.95E1"):
         assert same_price(text, Decimal("99.5"))
     assert not any(same_price(text, Decimal("99.5")) for text in ("99.51", "", "x", "99,5"))
+
+
+def test_a_moment_however_fine_it_is() -> None:
+    """A UTCTimestamp has milliseconds, and is no later than the moment."""
+    moment = datetime(2026, 11, 25, 9, 0, 10, 41_999, tzinfo=timezone.utc)
+    assert time_text(moment) == "20261125-09:00:10.041"
 
 
 def test_what_a_trade_changes() -> None:
@@ -191,10 +198,20 @@ def test_what_a_case_begins_and_ends_with(script: Script) -> None:
     script.stage.closed("a")
     script.stage.ends()
     assert script.line.did == ["forget_losses", "refuse False", "pause False", "let_go"]
-    assert [(kind, fields[131], fields[694]) for kind, fields in investor.sent] == [
-        ("AJ", "b", "6")
-    ]
+    ((kind, fields),) = investor.sent
+    assert (kind, sorted(fields), fields[131], fields[694]) == ("AJ", [131, 693, 694], "b", "6")
     assert script.stage.open == [] and script.developer.now()["task"] is None
+
+
+def test_who_asked_takes_the_offer(script: Script) -> None:
+    """Of several investors nobody else was shown it."""
+    asked, other = script.investors[0], Played("OTHER")
+    script.stage.investors = [asked, other]  # type: ignore[list-item]
+    script.stage.open = [(asked, "own")]  # type: ignore[list-item]
+    dealer_acts.hit(script.stage, BUY, message("S", {117: "Q1"}))
+    ((kind, fields),) = asked.sent
+    assert (kind, fields[117], fields[694], other.sent) == ("AJ", "Q1", "1", [])
+    assert script.stage.open == []
 
 
 def test_a_venue_that_is_killed(script: Script) -> None:

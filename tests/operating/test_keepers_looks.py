@@ -462,7 +462,9 @@ def test_what_a_copy_is_checked_by(copied: Copied) -> None:
 def test_what_stands_in_a_copy(
     copied: Copied, monkeypatch: pytest.MonkeyPatch, is_the_days: bool
 ) -> None:
-    """The log, its configuration, what gateways have sent, what the audit says, and the program if it is that of entry 0."""
+    """The log, its configuration, what gateways have sent, what the audit says, and the program if it is that of entry 0. What a
+    reader leaves beside the log does not stay.
+    """
     (copied.place / "received").mkdir()
     (copied.place / "received" / "day-20261126.checkpoints").write_text("sent")
     text = copied.stood.file.read_text()
@@ -473,6 +475,8 @@ def test_what_stands_in_a_copy(
     monkeypatch.setattr(copying, "first_line", lambda file: head)
     folder = copied.place / "copies" / "20261126"
     copied.copies.begin(copied.log, SECOND, folder)
+    for end in ("-wal", "-shm"):
+        (copying.part_of(folder) / (SECOND + ".db" + end)).touch()
     made = copied.copies.finish(SECOND, "", "20261126", folder)
     assert made == DayCopy(is_the_days, "verdict: it is good")
     there = {path.name: path for path in folder.iterdir()}
@@ -493,7 +497,9 @@ ENTRY_0 = b"venue -\nprogram -\n%%\nversion = 3\n"
 
 @pytest.mark.parametrize("status", [0, 1, 2])
 def test_which_copy_is_sealed(copied: Copied, monkeypatch: pytest.MonkeyPatch, status: int) -> None:
-    """One in which the audit finds nothing: not one of which it does not know whether it is as it should be (2)."""
+    """One in which the audit finds nothing: not one of which it does not know whether it is as it should be (2), and none of
+    another day or another venue.
+    """
     monkeypatch.setattr(copying, "first_line", lambda file: ENTRY_0)
     copied.audits("verdict: so it is", status)
     folder = copied.place / "copies" / "20261126"
@@ -503,6 +509,7 @@ def test_which_copy_is_sealed(copied: Copied, monkeypatch: pytest.MonkeyPatch, s
     last = (copied.place / "words").read_text().split()
     is_sealed = last == ["seal", str(log), "--key", str(copied.place / "seal.pem")]
     assert is_sealed == (status == 0) and last[0] == ("seal" if is_sealed else "check")
+    assert is_sealed or last[4:8] == ["--date", "20261126", "--venue-name", "-"]
 
 
 def test_a_copy_that_can_not_be_sealed(copied: Copied, monkeypatch: pytest.MonkeyPatch) -> None:

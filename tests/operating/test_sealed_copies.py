@@ -353,6 +353,16 @@ def test_no_room(kept: Place, monkeypatch: pytest.MonkeyPatch) -> None:
     kept.is_refused("there is no room for")
 
 
+def test_what_is_taken_is_on_disk(kept: Place, monkeypatch: pytest.MonkeyPatch) -> None:
+    """The log and its checkpoint: the gateway may remove its own once they are here."""
+    did: list[Path] = []
+    to = kept.folder / "taken"
+    to.mkdir()
+    monkeypatch.setattr(given_copies, "on_disk", did.append)
+    given_copies.GivenCopy(kept.given, kept.log.name).take(to)
+    assert sorted(did) == [to / (DATE + ".checkpoint"), to / (DATE + ".db")]
+
+
 def test_a_file_that_grows(place: Path, monkeypatch: pytest.MonkeyPatch) -> None:
     """No more of it is read than there was room for when it was looked at."""
     file, text, room = place / "x.db", b"x" * 1000, os.statvfs
