@@ -288,17 +288,20 @@ TEST_CASE("a log that has nothing to commit says that it is there") {
     DayClock clock(today());
     Metrics metrics;
     EntryFeed feed(0);
-    Log log(database, feed, clock, metrics, Log::Start{}, [](const std::string &) {});
     const auto begin = std::chrono::steady_clock::now();
-    while (database.seen < 2 && std::chrono::steady_clock::now() - begin < 60s) {
-        std::this_thread::sleep_for(1ms);
+    Log log(database, feed, clock, metrics, Log::Start{}, [](const std::string &) {});
+    int naps = 0; // as long as a look of the log's thread: a busy machine is late for both
+    while (database.seen < 2 && naps < 3000) {
+        std::this_thread::sleep_for(20ms);
+        ++naps;
     }
     const auto took = std::chrono::steady_clock::now() - begin;
     check(took > 1900ms, "it says so too often");
-    check(took < 10s, "it says so too rarely");
+    check(naps < 500, "it says so too rarely");
     same(1, database.rested.load(), "how often it rests");
     log.wait(log.append_note("act", "x"));
-    while (database.rested < 2 && std::chrono::steady_clock::now() - begin < 60s) {
+    const auto latest = std::chrono::steady_clock::now() + 60s;
+    while (database.rested < 2 && std::chrono::steady_clock::now() < latest) {
         std::this_thread::sleep_for(1ms);
     }
     same(2, database.rested.load(), "and behind a commit");

@@ -508,18 +508,19 @@ void in_time(const fs::path &folder) {
     Log log(*database, feed, clock, metrics, std::move(begin), [](const std::string &) {});
     const auto signer = guard.signer(log);
     const CheckpointFile file(place.folder() / "checkpoints", guard.sealer());
+    auto begun = std::chrono::steady_clock::now();
     for (std::uint32_t number = 10; number < 13; ++number) {
+        begun = std::chrono::steady_clock::now();
         log.wait(log.append_message("F", came(number), "x"));
         const std::uint32_t last = log.last_place();
-        const auto begun = std::chrono::steady_clock::now();
         while (file.read()->at.place < last) {
             check(std::chrono::steady_clock::now() - begun < 30s, "it is kept late");
             std::this_thread::sleep_for(5ms);
         }
     }
-    // And each five seconds where nothing comes: so it shows that the log is written.
+    // And each five seconds where nothing comes: so it shows that the log is written. The last one
+    // came behind the last message.
     const std::uint32_t last = file.read()->number;
-    const auto begun = std::chrono::steady_clock::now();
     while (file.read()->number == last) {
         check(std::chrono::steady_clock::now() - begun < 60s, "an idle log is not signed");
         std::this_thread::sleep_for(5ms);
