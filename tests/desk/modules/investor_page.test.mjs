@@ -317,8 +317,9 @@ test('news for a screen reader', () => {
 
 test('an investor leaves by one press', async () => {
   answers['/logout'] = {};
+  desk.tells([asked('X1', {deadline: clock.at + 60_000, quotes: [offered('DLR1', 99)], dealers: quoted})]);
   const before = words(document.querySelector('.said[role=status]'));
   at('logout').click();
   await rest();
-  assert.deepEqual([words(document.querySelector('.said[role=status]')), desk.socket.isClosed, location.reloads], [before, true, 1], 'nothing of an investor\u2019s stays live');
+  assert.deepEqual([words(document.querySelector('.said[role=status]')), desk.socket.isClosed, location.reloads], [before, true, 1], 'the dealers\u2019 quotes are none of its own');
 });

@@ -215,7 +215,10 @@ test('a list that is pasted', () => {
   button(ticket, 'Paste a list').click();
   const isWide = () => document.body.classList.contains('lists'); // the column that the ticket stands in
   assert.deepEqual([document.activeElement, at('many').getAttribute('aria-pressed'), isWide()], [text, 'true', true]);
-  assert.equal(echo(), 'Choose lines.');
+  const isShown = () => seen(ticket.querySelector('.checked tbody'));
+  assert.deepEqual([echo(), isShown()], ['Choose lines.', false]);
+  type(text, 'birch b 1m');
+  assert.deepEqual([lineRows(), isShown()], [['1|BUY|1,000,000|Birch 3 2030'], true], 'one line is a list, too');
   type(text, `Bond\tSide\tQuantity\n${BOND}\tbuy\t2m\nbirch, sell, 1,000,000\nb birch 500k\n`);
   assert.deepEqual(lineRows(), ['1|BUY|2,000,000|Alder 4 2034Look: the same is open already', '2|SELL|1,000,000|Birch 3 2030', '3|BUY|500,000|Birch 3 2030']);
   assert.equal(echo(), '3 requests: buy 2,500,000 and sell 1,000,000. Answers within 2 min of each request, asked one after the other as the limits allow');
