@@ -1,7 +1,7 @@
 // Parts of the page by themselves: the login, what is out of sight, what the desk works out of a price, and claims.
 import assert from 'node:assert/strict';
 import test from 'node:test';
-import {boxes, button, clock, document, load, midday, press, rest, type, window, words} from './stand.mjs';
+import {boxes, button, clock, document, isSeen, load, midday, press, rest, type, window, words} from './stand.mjs';
 import {SECOND, dealerHello, own, request} from './samples.mjs';
 
 const {Login} = await load('login.js');
@@ -9,6 +9,7 @@ const {Elsewhere} = await load('elsewhere.js');
 const {WorkedOut} = await load('worked_out.js');
 const {DealerCard} = await load('dealer_card.js');
 const {Model} = await load('model.js');
+const {Sorting} = await load('sorting.js');
 const dom = await load('dom.js');
 
 test('a login', async () => {
@@ -155,7 +156,7 @@ test('a price outside the band, and one at each end', () => {
 test('whose a request is', () => {
   const claimed = (login, trader) => ({claimed: {login, trader, at: midday}});
   const of = (more = {}, hello = {}) => dealerCard(dealerHello(hello), request('R1', {quotes: [own(99.5)], ...more}));
-  const shown = ({card}) => ['Claim', 'Release', 'Hand over'].filter(name => button(card.node, name));
+  const shown = ({card}) => [...['Claim', 'Release', 'Hand over'].filter(name => button(card.node, name)), ...(isSeen(card.claim.whom) ? ['to'] : [])];
   const free = of();
   assert.deepEqual(shown(free), ['Claim']);
   button(free.card.node, 'Claim').click();
@@ -163,7 +164,7 @@ test('whose a request is', () => {
   assert.deepEqual(shown(of({}, {traders: [{login: 'ann', trader: 'T1'}]})), [], 'to nobody one need tell it');
   assert.deepEqual(shown(of({declined: true, ...claimed('ann', 'T1')})), []);
   const mine = of(claimed('ann', 'T1'));
-  assert.deepEqual([shown(mine), words(mine.card.claim.words), words(mine.card.claim.whom)], [['Release', 'Hand over'], 'Yours, 12:00 UTC', 'to tom (T2)']);
+  assert.deepEqual([shown(mine), words(mine.card.claim.words), words(mine.card.claim.whom)], [['Release', 'Hand over', 'to'], 'Yours, 12:00 UTC', 'to tom (T2)']);
   button(mine.card.node, 'Hand over').click();
   button(mine.card.node, 'Release').click();
   assert.deepEqual(mine.sent, [{do: 'hand over', to: 'tom', request: 'R1'}, {do: 'release', request: 'R1'}]);
@@ -180,6 +181,16 @@ test('whose a request is', () => {
   clock.pass(600);
   press(theirs.entry, 'Enter');
   assert.equal(theirs.sent[0].do, 'quote', 'nobody is kept from it');
+});
+
+test('rows of which some have no value', () => {
+  const column = {name: 'Size', of: row => row, isNumber: true}, sorting = new Sorting([column], () => {});
+  const sorted = () => sorting.sort([1, 0, 3, null, 2]);
+  assert.deepEqual(sorted(), [1, 0, 3, null, 2], 'in their own order');
+  sorting.press(column);
+  assert.deepEqual(sorted(), [3, 2, 1, 0, null]);
+  sorting.press(column);
+  assert.deepEqual(sorted(), [1, 2, 3, 0, null], 'either way what has none stands last');
 });
 
 test('what stands right is not touched', () => {
