@@ -99,7 +99,8 @@ class Market(Script):
             return
         request = self.of_name(fields[131].removesuffix(" of " + dealer))
         if kind == "AG":
-            self.line.venue("AI", {131: request.id, 297: "11"})
+            if fields.get(658) == "10":  # the venue takes no decline without it
+                self.line.venue("AI", {131: request.id, 297: "11"})
             return
         for other in [one for one, (whose, _) in request.quotes.items() if whose == dealer]:
             del request.quotes[other]
