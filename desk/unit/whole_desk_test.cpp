@@ -3,6 +3,7 @@
 
 #include "house.h"
 
+#include <cstdlib>
 #include <fstream>
 
 #include <nlohmann/json.hpp>
@@ -62,9 +63,9 @@ std::string live(House &house, const std::string &login, const std::string &requ
     return id;
 }
 
-bool is_soon(std::optional<Moment> moment, std::chrono::seconds within) {
-    return moment && *moment <= now() + within &&
-           *moment > now() + within - std::chrono::minutes(1);
+// Whether it is so far from a moment of the command, which was given at `begun` or later.
+bool is_from(std::optional<Moment> moment, Moment begun, std::chrono::seconds within) {
+    return moment && *moment >= begun + within && *moment <= now() + within;
 }
 
 void put(const std::string &path, const std::string &text) {
@@ -119,15 +120,18 @@ TEST_CASE("a dealer's traders: from the logon to each message, and what the page
         CHECK(page.last("changes").at("changes").at(0).at("id") == "R1");
         CHECK(house.act("tom", quote_of("R1", 25'472)) ==
               "Wait: the quote of T1 is not answered yet.");
+        const Moment begun = now();
         const Message bid = sent(house, "tom", quote_of("R2", 99 * 256, "", 60));
         CHECK(bid.get(tag::sender_sub_id) == "T4");
         CHECK(bid.get(tag::bid) == "99");
         CHECK_FALSE(bid.has(tag::offer));
-        CHECK(is_soon(bid.moment(tag::valid_until), std::chrono::seconds(60)));
+        CHECK(is_from(bid.moment(tag::valid_until), begun, std::chrono::seconds(60)));
         CHECK(bid.get(tag::quote_id) != quote.get(tag::quote_id));
         house.show("R3");
         const Message longest = sent(house, "tom", quote_of("R3", 99 * 256, "", 86'400));
-        CHECK(is_soon(longest.moment(tag::valid_until), std::chrono::minutes(10)));
+        REQUIRE(longest.moment(tag::valid_until));
+        CHECK(house.request("R3").at("deadline") ==
+              milliseconds_of(*longest.moment(tag::valid_until)));
     }
     SUBCASE("a withdrawal, a decline and a cancel of all") {
         const std::string id = live(house, "tess", "R1", 25'472);
@@ -178,8 +182,9 @@ TEST_CASE("a dealer's traders: from the logon to each message, and what the page
                           {"quantity", 1'999'999},
                           {"exposure", nullptr}};
         CHECK(house.act("ada", limits) == "");
-        CHECK(house.act("tess", quote_of("R1", 25'472)) ==
-              "The quantity is above the 1,999,999 that your desk allows you.");
+        const std::string above = "The quantity is above the 1,999,999 that your desk allows you.";
+        CHECK(house.act("tess", quote_of("R1", 25'472)) == above);
+        CHECK(house.act(house.program(), quote_of("R1", 25'472)) == above);
         CHECK(house.act(
                   "ada",
                   {{"do", "set limits"}, {"login", "nobody"}, {"quantity", 1}, {"exposure", 1}}) ==
@@ -249,6 +254,18 @@ TEST_CASE("a dealer's traders: from the logon to each message, and what the page
         CHECK(page.last("programs").at("programs").at(0).at("isStopped") == false);
         CHECK(house.act(program, of_request("decline", "R1")) == "");
         CHECK(house.venue.hear().type() == "AG");
+        for (const json &command :
+             {json{{"do", "cancel all"}}, json{{"do", "stop program"}, {"name", "P1"}},
+              json{{"do", "release program"}, {"name", "P1"}}, of_request("release", "R1"),
+              json{{"do", "hand over"}, {"request", "R1"}, {"to", "tom"}},
+              json{{"do", "set distance"}, {"distance", 1}},
+              json{{"do", "set limits"}, {"login", "tom"}, {"quantity", 1}, {"exposure", 1}}}) {
+            CAPTURE(command.dump());
+            CHECK(house.act(program, command) == "A program may not do this.");
+        }
+        CHECK(house.act(program, {{"do", "set reference"}, {"bond", alder}, {"price", 1}}) ==
+              "Only the firm's admin may do this."); // as the trader whose rights it has
+        CHECK(page.last("programs").at("programs").at(0).at("isStopped") == false);
     }
     SUBCASE("what traders tell each other of a request") {
         CHECK(house.act("tess", of_request("claim", "R1")) == "");
@@ -266,8 +283,11 @@ TEST_CASE("a dealer's traders: from the logon to each message, and what the page
     }
     SUBCASE("a connection that is lost: what binds is not sent, a cancel waits for its return") {
         const std::string id = live(house, "tess", "R1", 25'472);
+        const std::int64_t begun = milliseconds_of(now());
+        CHECK(page.last("session").at("since") <= begun);
         house.lose();
         CHECK(page.last("session").at("on") == false);
+        CHECK(page.last("session").at("since") >= begun);
         CHECK(house.act("tess", quote_of("R2", 99 * 256)) == not_connected);
         CHECK(house.act("tess", of_request("decline", "R2")) == not_connected);
         CHECK(house.act("tess", of_request("withdraw", "R1")) == "");
@@ -308,6 +328,7 @@ TEST_CASE("an investor's traders: a request, a hit, a pass, a group and a list")
     };
 
     SUBCASE("a request and its hit") {
+        const Moment begun = now();
         const Message request = ask("tess", ask_of(alder, 5'000'000));
         const std::string id = request.get(tag::quote_req_id);
         CHECK(request.type() == "R");
@@ -318,7 +339,7 @@ TEST_CASE("an investor's traders: a request, a hit, a pass, a group and a list")
         CHECK(request.get(tag::side) == "2");
         CHECK(request.get(tag::order_qty) == "5000000");
         CHECK(request.all(tag::party) == std::vector<std::string>{"DLR2", "DLR1"});
-        CHECK(is_soon(request.moment(tag::expire_time), std::chrono::seconds(60)));
+        CHECK(is_from(request.moment(tag::expire_time), begun, std::chrono::seconds(60)));
         show(id, "Q1", "99.5");
         const json hit{{"do", "hit"}, {"request", id}, {"quote", "Q1"}, {"price", 25'472}};
         json other = hit;
@@ -359,6 +380,7 @@ TEST_CASE("an investor's traders: a request, a hit, a pass, a group and a list")
         "a list is asked at the pace of the firm's limits, and a line that can't be is refused") {
         std::vector<json> lines(10, line_of(alder, 5));
         lines[1] = line_of(cedar, 9);
+        lines[2]["side"] = "sell";
         CHECK(house.act("tess", list_of("Monday", {line_of("none", 5)})) ==
               "Line 1: Choose a bond.");
         CHECK(house.act("tess", list_of("Monday", lines)) == "");
@@ -368,6 +390,7 @@ TEST_CASE("an investor's traders: a request, a hit, a pass, a group and a list")
         CHECK(list.at("lines").size() == 10);
         CHECK(list.at("lines").at(0).at("state") == "waiting");
         std::vector<Message> asked;
+        const Moment begun = now();
         house.site->tick();
         house.until([&] {
             return page.last("lists").at("lists").at(0).at("lines").at(4).at("state") == "sent";
@@ -381,6 +404,13 @@ TEST_CASE("an investor's traders: a request, a hit, a pass, a group and a list")
         CHECK(asked[1].get(tag::security_id) == cedar);
         CHECK(asked[1].get(tag::order_qty) == "9");
         CHECK(asked[1].get(tag::side) == "1");
+        CHECK(asked[2].get(tag::side) == "2");
+        for (const Message &one : asked) {
+            CHECK(one.type() == "R");
+            CHECK(one.get(tag::sender_sub_id) == "T1");
+            CHECK(one.all(tag::party) == std::vector<std::string>{"DLR1"});
+            CHECK(is_from(one.moment(tag::expire_time), begun, std::chrono::seconds(60)));
+        }
         CHECK(asked[4].get(tag::quote_req_id) == id + "-4");
         CHECK(house.request(id + "-1").at("list") == json{{"id", id}, {"line", 1}});
         house.until([&] { // eight requests of a firm are open at once
@@ -441,6 +471,8 @@ TEST_CASE("what the desk answers of earlier days and of prices") {
         terms.dated = std::chrono::year(2020) / 1 / 15;
         terms.maturity = std::chrono::year(2060) / 1 / 15;
         config.bonds[alder] = terms;
+        config.bonds["coarse"] = terms;
+        config.market.bonds.push_back({"coarse", "Coarse 5 2060", 32, {}});
         Journal journal(config.data + "/journal-" + long_ago, [](const Entry &) {});
         for (int number = 1; number <= 40; ++number) {
             journal.write(entry(Entry::Kind::received, 1000 + number,
@@ -501,6 +533,17 @@ TEST_CASE("what the desk answers of earlier days and of prices") {
     CHECK(priced.at("amounts").at("principal") == 1'000'000);
     CHECK(priced.at("currency") == "USD");
     CHECK(price({{"yield", 5}}).at("price").get<int>() == doctest::Approx(25'600).epsilon(0.01));
+    int finer = 0; // yields whose nearest price is on no grid of 32
+    for (int basis_point = 0; basis_point < 10; ++basis_point) {
+        const json yield{{"yield", 4.8 + 0.01 * basis_point}};
+        json coarse = yield;
+        coarse["bond"] = "coarse";
+        const int fine = price(yield).at("price"), rounded = price(coarse).at("price");
+        CHECK(rounded % 8 == 0);
+        CHECK(std::abs(rounded - fine) <= 4);
+        finer += fine % 8 != 0;
+    }
+    CHECK(finer > 0);
     CHECK(price({{"yield", -19}}).at("why") == "No price of the venue has this yield.");
     CHECK(price({{"price", 25'600}, {"bond", cedar}}).at("why") ==
           "The desk has no data of this bond.");
@@ -572,6 +615,76 @@ TEST_CASE("a start goes on with the day that the journal has, and stops what was
     // A program that was stopped had the name that is a trader's by now.
     CHECK(house.act(page, of_request("pass", "A1")) ==
           "Wait: the request of T1 is not answered yet.");
+}
+
+// What the venue did not read before the connection was lost, it asks for when the firm is back.
+TEST_CASE("what binds an investor is not delivered late, and a pass is") {
+    constexpr std::chrono::seconds within{3};
+    House house(Role::investor, [&](Config &config) { config.deliver_within = within; });
+    house.connect();
+    std::vector<std::string> ids;
+    for (int count = 0; count < 2; ++count) {
+        ids.push_back(sent(house, "tess", ask_of(alder, 5)).get(tag::quote_req_id));
+        house.venue.say("AI", "131=" + ids.back() + "|297=0|");
+        house.venue.say("S", "131=" + ids.back() + "|117=Q" + ids.back() + "|55=[N/A]|48=" + alder +
+                                 "|22=4|54=2|132=99|537=1|453=1|448=DLR2|447=D|452=35|");
+        house.until([&] { return !house.request(ids.back()).at("quotes").empty(); });
+    }
+    CHECK(house.act(
+              "tess",
+              {{"do", "hit"}, {"request", ids[0]}, {"quote", "Q" + ids[0]}, {"price", 25'344}}) ==
+          "");
+    CHECK(house.act("tess", of_request("pass", ids[1])) == "");
+    CHECK(house.act("tom", ask_of(cedar, 7)) == "");
+    const std::string asked = house.own->requests().back().at("requests").back().at("id");
+    house.lose();
+    const Moment lost = now();
+    house.until([&] { return now() > lost + within; });
+    house.connect();
+    const Message pass = house.venue.hear();
+    CHECK(pass.type() == "AJ");
+    CHECK(pass.get(tag::response_type) == "6");
+    CHECK(pass.get(tag::quote_req_id) == ids[1]);
+    CHECK(pass.get(tag::poss_dup) == "Y");
+    house.until([&] { return house.request(asked).at("state") == "undelivered"; });
+    const std::string late =
+        "never delivered: the connection or the disk stalled, and it is too old";
+    CHECK(house.request(asked).at("told").at("text") == "Request " + late);
+    CHECK(house.request(ids[0]).at("told").at("text") == "Hit " + late);
+    CHECK(house.request(ids[0]).at("pending").empty());
+    CHECK(house.request(ids[0]).at("state") == "open");
+    CHECK(house.request(ids[1]).at("pending").size() == 1);
+    CHECK(sent(house, "tess", ask_of(alder, 9)).get(tag::order_qty) == "9");
+}
+
+TEST_CASE("what binds a dealer is not delivered late, and what takes back or declines is") {
+    constexpr std::chrono::seconds within{3};
+    House house(Role::dealer, [&](Config &config) { config.deliver_within = within; });
+    house.connect();
+    for (const std::string request : {"R1", "R2", "R3", "R4"}) {
+        house.show(request);
+    }
+    const std::string id = live(house, "tess", "R1", 25'472);
+    CHECK(house.act("tess", quote_of("R2", 25'472)) == "");
+    CHECK(house.act("tess", of_request("withdraw", "R1")) == "");
+    CHECK(house.act("tess", of_request("decline", "R3")) == "");
+    CHECK(house.act("tess", {{"do", "cancel all"}}) == "");
+    house.lose();
+    const Moment lost = now();
+    house.until([&] { return now() > lost + within; });
+    house.connect();
+    const Message withdrawal = house.venue.hear();
+    CHECK(withdrawal.type() == "Z");
+    CHECK(withdrawal.get(tag::quote_id) == id);
+    CHECK(house.venue.hear().type() == "AG");
+    const Message cancel = house.venue.hear();
+    CHECK(cancel.type() == "Z");
+    CHECK(cancel.get(tag::cancel_type) == "4");
+    house.until(
+        [&] { return house.request("R2").at("quotes").at(0).at("state") == "undelivered"; });
+    CHECK(house.request("R2").at("told").at("text") ==
+          "Quote 99.5 never delivered: the connection or the disk stalled, and it is too old");
+    CHECK(sent(house, "tess", quote_of("R4", 25'472)).get(tag::quote_req_id) == "R4");
 }
 
 TEST_CASE("while nothing answers at the venue's address a page is told why") {
