@@ -297,6 +297,8 @@ TEST_CASE("each fault of the configuration names its key") {
     put(path, good);
     const Config config = read_config(path);
     CHECK(config.market.bonds[0].grid == 128);
+    CHECK(config.market.limits.quantity == 5'000'000);
+    CHECK(config.market.limits.requests == 10);
     CHECK(config.market.limits.open == 2);
     CHECK(config.fix.password == "fix-password");
     CHECK(config.traders[0].may_act);

@@ -195,6 +195,7 @@ TEST_CASE("settings of a desk: each key, its bounds and its faults") {
           Row{"one:9878", "one:", "'one:' is no HOST:PORT"},
           Row{"one:9878", "one:65536", "'one:65536' is no HOST:PORT"},
           Row{"one:9878", "one:123456", "is no HOST:PORT"},
+          Row{"one:9878", "one:009878", "'one:009878' is no HOST:PORT"},
           Row{"one:9878", "one:-1", "is no HOST:PORT"},
           Row{"[\"one:9878\", \"two:1\"]", "5", "'addresses' is missing, or no list of texts"},
           Row{"\"two:1\"", "5", "'addresses' has something that is no text"},
