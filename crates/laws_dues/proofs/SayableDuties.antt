@@ -1,17 +1,14 @@
 -- Duties that can make nothing due that due text can't say.
-use Rattle.std.proofs.Common.{◌≡◌, ◌<◌, ◌≤◌, ℕ, Bool, true, false, ◌&&◌, ◌-◌, List, [], ◌∷◌, ◌++◌, length, map}
-use Rattle.std.proofs.Common.{option_map, option_to_list, Option, Some, None, Result, Ok, Err}
+use Rattle.std.proofs.Common.{◌≡◌, ◌<◌, ◌≤◌, ℕ, Bool, true, false, ◌-◌, List, [], ◌∷◌, ◌++◌, length, map}
+use Rattle.std.proofs.Common.{option_map, option_to_list, Option, Some, None}
 use Rattle.std.proofs.Common.{if◌then◌else◌, IsTrue, sym, ◌∙◌, ap, subst, arith, zero, suc}
 use Rattle.std.specs.List.{AllByRecursion}
 use Rattle.std.specs.Prelude.{slice_get}
 use Rattle.std.proofs.lemmas.List.Elements.{recursion_from_All}
 use Rattle.std.proofs.lemmas.Option.{same_Some}
 use Rattle.market_terms.specs.declared.asks.Ask.{Ask}
-use Rattle.market_terms.specs.declared.closes.HitRefusal.{HitRefusal}
 use Rattle.market_terms.specs.declared.duties.Duty.{Duty}
 use Rattle.market_terms.specs.declared.duties.Duty.TheVariants as duty
-use Rattle.market_terms.specs.declared.rooms.Offer.{Offer}
-use Rattle.market_terms.specs.declared.rooms.ResponseRef.{ResponseRef}
 use Rattle.market_terms.specs.declared.rooms.RoomRef.{RoomRef}
 use Rattle.quote_word.specs.declared.settled.Settled.{Settled}
 use Rattle.venue_rows.specs.Rows.{Configuration, KeepsLimits, firm_names, investor_numbered}
@@ -20,21 +17,16 @@ use Rattle.venue_rows.specs.declared.dealer_rows.DealerRow.{DealerRow}
 use Rattle.venue_rows.specs.declared.investor_rows.InvestorRow.{InvestorRow}
 use Rattle.dealer_desk.specs.DealerFacts.{DealerBook, quotes_accepted}
 use Rattle.dealer_desk.specs.DealerOutput.{goes_through, is_withdrawn, post_of, room_of}
-use Rattle.dealer_desk.specs.DealerOutput.{unpost_dropped, verdict_duty}
-use Rattle.dealer_desk.specs.declared.standing.StandingQuote.{StandingQuote}
+use Rattle.dealer_desk.specs.DealerOutput.{verdict_duty}
 use Rattle.dealer_desk.specs.declared.verdicts.DealerVerdict.{DealerVerdict}
 use Rattle.dealer_desk.specs.declared.verdicts.DealerVerdict.TheVariants as verdict
 use Rattle.investor_desk.specs.InvestorOutput as investor_output
 use Rattle.investor_desk.specs.InvestorRules.{InvestorMarket}
 use Rattle.investor_desk.specs.declared.verdicts.InvestorVerdict.{InvestorVerdict}
 use Rattle.investor_desk.specs.declared.verdicts.InvestorVerdict.TheVariants as answer
-use Rattle.request_room.specs.RoomFacts.{RoomFact, hears, is_open, is_vacant, takes_quotes}
-use Rattle.request_room.specs.Book.{expired, may_expire, may_unpost, passed}
-use Rattle.request_room.specs.declared.ends.End.{End}
-use Rattle.venue_steps.specs.RoomSteps.{duties_of_decline, duties_of_expire, duties_of_open}
-use Rattle.venue_steps.specs.RoomSteps.{duties_of_pass, duties_of_post, duties_of_unpost}
-use Rattle.venue_steps.specs.RoomSteps.{hit_duties, shown_then_ready, told_in, told_to_each}
-use Rattle.venue_steps.specs.RoomSteps.{where_follows}
+use Rattle.request_room.specs.RoomFacts.{RoomFact, is_vacant}
+use Rattle.venue_steps.specs.RoomSteps.{duties_of_open}
+use Rattle.venue_steps.specs.RoomSteps.{shown_then_ready}
 use Rattle.step_replay.specs.EachLemmas.{every_both}
 use Rattle.step_replay.specs.Lists.{Every}
 use Rattle.step_replay.specs.PlaceLemmas.{behind_dealers, numbered_at}
@@ -90,10 +82,6 @@ module _ (config : Configuration) where
 
   -- Choices.
 
-  follows_fit : (b : Bool) (left : Duty) → DutyFits left → AllFit (where_follows b left)
-  follows_fit true left fits = (fits, tt)
-  follows_fit false left fits = tt
-
   either_fit : (b : Bool) (one other : List Duty) → AllFit one → AllFit other
       → AllFit (if b then one else other)
   either_fit true one other first second = first
@@ -126,51 +114,6 @@ module _ (config : Configuration) where
       (every_both DutyFits (map (λ dealer. duty.Show dealer room ask moment) dealers)
       (duty.Ready room moment ∷ []) (shows_fit room ask moment named has dealers) (tt, tt)) tt
 
-  pub post_fit : (facts : List RoomFact) (room : RoomRef) (dealer : ℕ) (offer : Offer) (moment : ℕ)
-      → AllFit (duties_of_post facts room dealer offer moment)
-  post_fit facts room dealer offer moment =
-      follows_fit (hears facts dealer && takes_quotes facts) (duty.Relay room offer moment) tt
-
-  pub taken_fit : (facts : List RoomFact) (room : RoomRef) (dealer word moment : ℕ)
-      → AllFit (duties_of_unpost facts room dealer word moment)
-  taken_fit facts room dealer word moment =
-      follows_fit (hears facts dealer && may_unpost facts dealer word)
-      (duty.Gone room word moment) tt
-
-  pub declined_fit : (facts : List RoomFact) (room : RoomRef) (dealer moment : ℕ)
-      → AllFit (duties_of_decline facts room dealer moment)
-  declined_fit facts room dealer moment =
-      follows_fit (hears facts dealer && takes_quotes facts) (duty.Declined room moment) tt
-
-  tells_fit : (room : RoomRef) (end : End) (dealers : List ℕ) (moment : ℕ)
-      → AllFit (told_to_each room end dealers moment)
-  tells_fit room end [] moment = tt
-  tells_fit room end (dealer ∷ dealers) moment = (tt, tells_fit room end dealers moment)
-
-  told_fit : (facts : List RoomFact) (room : RoomRef) (end : End) (moment : ℕ)
-      → AllFit (told_in facts room end moment)
-  told_fit facts room end moment = tells_fit room end _ moment
-
-  pub hit_fit : (facts : List RoomFact) (room : RoomRef) (response : ResponseRef) (moment : ℕ)
-      (outcome : Result End HitRefusal) → AllFit (hit_duties facts room response moment outcome)
-  hit_fit facts room response moment (Ok award) = (tt, told_fit facts room award moment)
-  hit_fit facts room response moment (Err refused) = (tt, tt)
-
-  pub pass_fit : (facts : List RoomFact) (room : RoomRef) (response : ResponseRef) (moment : ℕ)
-      → AllFit (duties_of_pass facts room response moment)
-  pass_fit facts room response moment = (
-    tt,
-    either_fit (is_open facts) (told_in facts room passed moment) []
-        (told_fit facts room passed moment) tt,
-  )
-
-  pub expire_fit : (facts : List RoomFact) (room : RoomRef) (moment : ℕ)
-      → AllFit (duties_of_expire facts room moment)
-  expire_fit facts room moment =
-      either_fit (may_expire facts moment)
-      (duty.Close room moment ∷ told_in facts room expired moment) []
-      (tt, told_fit facts room expired moment) tt
-
   -- Of a dealer.
 
   pub said_fit : (book : DealerBook) (rooms : List RoomRef) (moment : ℕ) (v : DealerVerdict)
@@ -192,22 +135,6 @@ module _ (config : Configuration) where
       low : (last accepted : ℕ) → last ≡ accepted → accepted ≤ 4096 → last < 1000000000
       low last accepted same few = omega arith
   said_fit book rooms moment other settlement drops few = tt
-
-  pub unpost_fit : (rooms : List RoomRef) (moment : ℕ) (settlement : Option Settled)
-      (own : Option StandingQuote)
-      → AllFit (option_to_list (unpost_dropped rooms moment settlement own))
-  unpost_fit rooms moment settlement None = tt
-  unpost_fit rooms moment settlement (Some own) =
-      option_fit (is_withdrawn settlement)
-      (option_map (λ room. duty.Unpost room own.quote.number moment)
-      (room_of rooms own.quote.request))
-      (mapped_fit (λ room. duty.Unpost room own.quote.number moment) (λ room. tt)
-      (room_of rooms own.quote.request))
-
-  pub further_fit : (b : Bool) (last moment : ℕ) → is_short last ≡ true
-      → AllFit (option_to_list (if b then Some (duty.Drop last moment) else None))
-  further_fit true last moment short = (short, tt)
-  further_fit false last moment short = tt
 
   -- Of an investor.
 

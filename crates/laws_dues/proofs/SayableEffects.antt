@@ -40,7 +40,7 @@ use Rattle.step_replay.specs.PlaceLemmas.{dealer_grown, dealer_stays, other_trai
 use Rattle.step_replay.specs.PlaceLemmas.{trail_at_investor, trail_in_room}
 use Rattle.step_replay.specs.VenueFacts.{AtDealer, Fact, InRoom, of_dealer, of_room}
 use Rattle.venue_text.specs.ReadBack.{is_short}
-use Rattle.laws_dues.proofs.SayableDuties.{AllFit, hit_fit}
+use Rattle.laws_dues.proofs.SayableDuties.{AllFit}
 use Rattle.laws_dues.proofs.SayableTrails.{TrailFits, lifted_fits}
 use Rattle.laws_dues.proofs.SayableTrails.{short_below}
 
@@ -192,8 +192,9 @@ module _ (config : Configuration) (facts : List Fact) where
 
   pub hit_fits : (room : RoomRef) (response : ResponseRef) (word moment : ℕ)
       (settlement : Option Settled)
+      → AllFit config (hit_with config facts room response word moment settlement).duties
       → EffectFits (hit_with config facts room response word moment settlement)
-  hit_fits room response word moment settlement =
+  hit_fits room response word moment settlement left =
       let known = of_room room facts in
       let outcome = hit_outcome known word moment settlement in
       let lifted = lifting (quote_with_word config word) outcome in
@@ -205,5 +206,5 @@ module _ (config : Configuration) (facts : List Fact) where
             ∙ dealer_stays dealer (facts ++ lifted) (map (InRoom room) happened)
             (trail_in_room dealer room happened)))
             (lifts_fit word (quote_with_word config word) refl outcome dealer before);
-        duties = hit_fit config known room response moment outcome;
+        duties = left;
       }
