@@ -11,7 +11,9 @@ def lines_of(path: str) -> list[str]:
 
 def test_the_days_of_a_recovery_are_the_models() -> None:
     """The proved functions and the second implementation are held against the same days."""
-    days = [line for line in lines_of("crates/recovery_cases/data/days.cases") if line != "session"]
+    days = [
+        line for line in lines_of("crates/session_cases/data/recovered.cases") if line != "session"
+    ]
     model = lines_of("gateway/unit/recovered.cases")
     assert [line.removeprefix("> ") for line in days] == model
     assert len([line for line in model if line.startswith("case ")]) == 97

@@ -1,4 +1,5 @@
-"""Drives messages between the wire and the venue by lines: crates/wire_cases has the calls and their answers."""
+"""Drives messages between the wire and the venue by lines: crates/session_cases/src/crossing.rt has the calls and
+their answers."""
 
 import ctypes
 from pathlib import Path

@@ -14,11 +14,16 @@ from tests.sessions.desk import Desk
 from tests.sessions.second import HEADER, model_sources
 
 CASES = ROOT / "crates" / "session_cases" / "data"
-WIRE_CASES = ROOT / "crates" / "wire_cases" / "data"
 FORM = (
     "g++ -std=c++20 -O1 -Wall -Wextra -Werror -DSESSION_PREFIX=model_ -I %s -shared -fPIC"
     " -o {out} {sources}" % HEADER
 )
+
+
+def files_at(place: str) -> list[str]:
+    """The names of the files whose cases drive this place."""
+    line = "\nplace %s\n" % place
+    return sorted(path.stem for path in CASES.glob("*.cases") if line in path.read_text())
 
 
 @pytest.fixture(scope="session")
@@ -28,7 +33,7 @@ def library() -> Path:
     return build.compiled("session-model-%s.so" % header, FORM, model_sources())
 
 
-@pytest.mark.parametrize("name", sorted(path.stem for path in CASES.glob("*.cases")))
+@pytest.mark.parametrize("name", files_at("session"))
 def test_cases(library: Path, name: str) -> None:
     """Each call gives what the case says, in words and bytes."""
     cases = cases_of(CASES / ("%s.cases" % name))
@@ -44,10 +49,10 @@ def without_reason(line: str) -> str:
     return REFUSED if line.startswith(REFUSED + " ") else line
 
 
-@pytest.mark.parametrize("name", sorted(path.stem for path in WIRE_CASES.glob("*.cases")))
+@pytest.mark.parametrize("name", files_at("wire"))
 def test_wire_cases(library: Path, name: str) -> None:
     """Each message crosses, or is refused, as the case says."""
-    cases = cases_of(WIRE_CASES / ("%s.cases" % name))
+    cases = cases_of(CASES / ("%s.cases" % name))
     assert cases
     for case in cases:
         crossing = Crossing(library)

@@ -1,13 +1,20 @@
-//! Runs files of cases of a firm's session, and prints what failed and how many have passed. Its
-//! arguments name the files.
+//! Runs files of cases of a firm's session: of the session itself, of the messages between the wire
+//! and the venue, and of what is recovered. It prints what failed and how many have passed. Its
+//! arguments name the files; each is run by the driver of the place that it names.
 #![tactic(auto)]
 
+mod crossing;
 mod desk;
+mod fold;
+mod kept;
+mod notes;
 mod printing;
 mod store;
 
 use case_lines::{CaseFault, CaseFile, Report};
+use crossing::Crossing;
 use desk::Desk;
+use fold::Fold;
 use std::alloc::Global;
 use std::process::ExitCode;
 use std::rt::{Env, Files};
@@ -39,12 +46,20 @@ fn run_files<H: Files + Env + AllocGlobal>(rt: &H, report: &mut Report) -> io::R
     Ok(())
 }
 
-/// Runs the cases of a file.
+/// Runs the cases of a file with the driver of its place.
 fn run_text(alloc: Global, text: &str, report: &mut Report) -> Result<(), CaseFault> {
     let Some(file) = CaseFile::of(alloc, text) else {
         report.refuse("", "names no place")?;
         return Ok(());
     };
-    file.run(Desk::new, report)?;
+    let is_known = match file.place() {
+        "session" => file.run(Desk::new, report)?,
+        "wire" => file.run(Crossing::new, report)?,
+        "fold" => file.run(Fold::new, report)?,
+        _ => false,
+    };
+    if !is_known {
+        report.refuse(file.place(), "no such place")?;
+    }
     Ok(())
 }

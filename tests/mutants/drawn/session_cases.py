@@ -14,7 +14,7 @@ from tests.mutants.drawn.units import LIMIT, UNIT, Unit
 from tests.sessions.case_file import cases_of
 from tests.sessions.crossing import Crossing
 from tests.sessions.desk import Desk
-from tests.sessions.test_cases import CASES, WIRE_CASES, without_reason
+from tests.sessions.test_cases import CASES, files_at, without_reason
 
 OWN = "fix_sessions_"  # what the library's calls begin with; the cases call them by `model_`
 
@@ -41,13 +41,13 @@ def link(objects: list[str], library: Path) -> None:
 
 def main() -> None:
     library = Path(sys.argv[1])
-    for path in sorted(CASES.glob("*.cases")):
-        for case in cases_of(path):
+    for name in files_at("session"):
+        for case in cases_of(CASES / ("%s.cases" % name)):
             desk = Desk(library)
             for step in case.steps:
                 assert desk.call(step.call) == step.lines, (case.name, step.call)
-    for path in sorted(WIRE_CASES.glob("*.cases")):
-        for case in cases_of(path):
+    for name in files_at("wire"):
+        for case in cases_of(CASES / ("%s.cases" % name)):
             crossing = Crossing(library)
             for step in case.steps:
                 expected = list(map(without_reason, step.lines))
