@@ -1,12 +1,13 @@
 // A dealer's page around its cards: the head, the alarm, keys, places of cards, the table, programs, limits and a logout.
 import assert from 'node:assert/strict';
 import test from 'node:test';
-import {answers, boxes, button, clock, click, document, midday, press, rest, Socket, type, window, words} from './stand.mjs';
+import {answers, boxes, button, clock, click, document, midday, Notice, press, rest, Socket, type, window, words} from './stand.mjs';
 import {BOND, SECOND, dealerHello, own, request} from './samples.mjs';
 import {at, card, cards, desk, seen, told} from './whole.mjs';
 
 const trader = {...dealerHello().trader, isAdmin: true};
 const hello = (more = {}) => dealerHello({trader, ...more});
+localStorage.setItem('alerts', '{"sound": [], "notification": ["request"]}');
 await desk.open(hello({banner: 'A trial.', session: {exposure: 3e6, accepted: 7}}), request('R1'));
 const head = at('top'), light = () => words(head.querySelector('.light')), counts = () => words(head.querySelector('.counts'));
 const said = () => words(document.querySelector('.said[role=status]'));
@@ -123,6 +124,9 @@ test('which request is next', () => {
   assert.deepEqual([next(), next(), next(), next()], [of('B'), of('A'), of('D'), of('B')], 'those without a quote, round');
   desk.tells([live('A', 99, {deadline: clock.at + 50_000}), live('B', 98, {deadline: clock.at + 40_000}), live('D', 97, {deadline: clock.at + 60_000})]);
   assert.equal(next(), of('C'), 'where none wants one, of those that are open');
+  desk.tells(['A', 'B', 'C', 'D'].map(id => request(id, {state: 'passed', ended: clock.at})));
+  document.activeElement.blur();
+  assert.notEqual(next(), -1, 'where none is open, to one that has ended');
   gone('A', 'B', 'C', 'D');
   press(document.body, 'F2');
   assert.equal(said(), 'No request is open.');
@@ -158,6 +162,14 @@ test('no card moves under a press', () => {
   clock.pass(400);
   assert.deepEqual(places(), ['1', '3'], 'below each other it would be a blank');
   gone('P1', 'P3');
+});
+
+test('what is announced', () => {
+  clock.pass(2000);
+  Notice.all.length = 0;
+  desk.tells([request('N1')]);
+  assert.deepEqual([Notice.all.map(one => one.title), words(at('alerts-button'))], [['New request \u00b7 DLR1'], 'Alerts: on'], 'once the day so far is told');
+  gone('N1');
 });
 
 test('a card that has ended makes room where there is none', () => {

@@ -236,6 +236,13 @@ test('a list that is pasted', () => {
     lines: [{bond: BOND, side: 'buy', quantity: 2e6}, {bond: SECOND, side: 'sell', quantity: 1e6}, {bond: SECOND, side: 'buy', quantity: 5e5}]});
   desk.answers(sent.number);
   assert.deepEqual([at('many').getAttribute('aria-pressed'), text.value, at('list-name').value, isWide()], ['false', '', '', false]);
+  at('many').click();
+  type(text, sent.lines.map(({bond: id, side, quantity: size}) => `${id}\t${side}\t${size}`).join('\n'));
+  submit();
+  assert.deepEqual([desk.heard, why()], [[], 'Once more: ask 2 dealers to buy 2,500,000 and sell 1,000,000, in 3 requests.'], 'the same list is asked by two presses again');
+  press(text, 'Escape');
+  type(text, '');
+  at('many').click();
 });
 
 test('a list that can not be asked', () => {
