@@ -245,6 +245,33 @@ std::string said_by(const Metrics &metrics, const std::string &name) {
     return text.substr(begin, text.find('\n', begin) - begin);
 }
 
+// A time is told by the bound that it stays below: 1, 2 and 5 of each power of ten, up to a second.
+TEST_CASE("bounds of times") {
+    Metrics metrics;
+    metrics.answered(1ms);
+    for (const char *bound :
+         {"0.001", "0.002", "0.005", "0.01", "0.02", "0.05", "0.1", "0.2", "0.5", "1"}) {
+        CHECK_MESSAGE(
+            said_by(metrics,
+                    fmt::format("mireseason_answered_seconds_bucket{{le=\"{}\"}}", bound)) == "1",
+            bound);
+    }
+    for (const char *bound : {"0.0001", "0.0002", "0.0005"}) {
+        CHECK_MESSAGE(
+            said_by(metrics,
+                    fmt::format("mireseason_answered_seconds_bucket{{le=\"{}\"}}", bound)) == "0",
+            bound);
+    }
+}
+
+TEST_CASE("what an operator should ask a firm") {
+    Metrics metrics;
+    FirmMetrics &firm = metrics.firm("", "DLR1");
+    CHECK(firm.counts().doubt.empty());
+    firm.may_have_lost_store({1, 92, 91});
+    CHECK(firm.counts().doubt == "may have lost its store from=1 to=92 refused=91");
+}
+
 TEST_CASE("each number says what happened") {
     Metrics metrics;
     metrics.committed(2, 3, 250ms);

@@ -101,6 +101,14 @@ TEST_CASE("conditions say what is wrong") {
     check(liveness.longest()->time < 20s, "it works again");
 }
 
+TEST_CASE("a page says whose it is") {
+    const std::string page = html_of(Overview());
+    const std::size_t head = page.find("<h1>Mireseason gateway</h1>");
+    CHECK(head != std::string::npos);
+    CHECK(page.find("<main>") < head);
+    CHECK(page.find("</main>", head) != std::string::npos);
+}
+
 TEST_CASE("a page says what a firm should be asked") {
     Overview seen;
     seen.firms.resize(2);
