@@ -13,9 +13,11 @@
 #include "operator/admin_words.h"
 
 #include <array>
+#include <cstdlib>
 #include <filesystem>
 #include <fstream>
 #include <optional>
+#include <sstream>
 #include <stdexcept>
 #include <string>
 #include <vector>
@@ -349,6 +351,30 @@ TEST_CASE("a report is that of the line beside it") {
     brought.line("passed");
     std::filesystem::remove(brought.report);
     CHECK(brought.fault() == report + ": can't be read");
+}
+
+// A program of that name on the path takes the place of mireseason-credentials: it notes its words,
+// and ends as it is told.
+TEST_CASE("a report is kept where the program that keeps it says so") {
+    const Scratch folder("kept");
+    const auto program = folder.path() / "mireseason-credentials";
+    const auto notes = folder.path() / "words";
+    const std::string before = std::getenv("PATH");
+    const auto keeps = [&](int status) {
+        std::ofstream(program) << fmt::format("#!/bin/sh\nprintf '%s\\n' \"$@\" > {}\nexit {}\n",
+                                              notes.string(), status);
+        std::filesystem::permissions(program, std::filesystem::perms::owner_all);
+        return keep_report("credentials.toml", "F", "the line");
+    };
+    REQUIRE(::setenv("PATH", folder.path().c_str(), 1) == 0);
+    CHECK(keeps(0));
+    std::ostringstream words;
+    words << std::ifstream(notes).rdbuf();
+    CHECK(words.str() == "--report\nthe line\nF\ncredentials.toml\n");
+    CHECK_FALSE(keeps(1));
+    std::filesystem::remove(program);
+    CHECK_FALSE(keep_report("credentials.toml", "F", "the line"));
+    REQUIRE(::setenv("PATH", before.c_str(), 1) == 0);
 }
 
 } // namespace gateway::tests
