@@ -282,9 +282,9 @@ inline bool has_line(const Words &lines, const std::string &words) {
         lines, [&](const std::string &line) { return line.find(words) != std::string::npos; });
 }
 
-// Why a message of a firm is not taken, which has a connection for it; empty where it is.
-inline std::string denial_of(Market &market, const std::string &firm, const std::string &type,
-                             const std::string &rest) {
+// What becomes of a message of a firm, which has a connection for it.
+inline Taken taken_of(Market &market, const std::string &firm, const std::string &type,
+                      const std::string &rest) {
     SessionHost &host = market.host(firm);
     const std::uint32_t connection = host.logon_accepted(firm, {"192.0.2.1:1", "", false});
     const std::uint32_t number = market.next_number(firm);
@@ -293,10 +293,17 @@ inline std::string denial_of(Market &market, const std::string &firm, const std:
     SessionEvent event;
     event.numbers.expected = number + 1;
     event.is_logged_on = true;
-    const Taken taken =
+    Taken taken =
         host.take(firm, {bytes, number, {connection, std::chrono::system_clock::now()}}, event);
     host.all_received();
     host.connection_ended(firm, connection, "over");
+    return taken;
+}
+
+// Why it is not taken; empty where it is.
+inline std::string denial_of(Market &market, const std::string &firm, const std::string &type,
+                             const std::string &rest) {
+    const Taken taken = taken_of(market, firm, type, rest);
     return taken.verdict == Taken::Verdict::taken ? "" : taken.text;
 }
 

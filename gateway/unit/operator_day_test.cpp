@@ -355,8 +355,10 @@ TEST_CASE("a day ends once its requests have ended") {
           "venue     -\nfirm      INV1\nrequest   R1\naccepted  09:00:00.000\n");
     CHECK(market.has_state("\"open_requests\": 1, \"operator_ends_day\": true, "));
     CHECK(market.has_state("\"takes_business\": false, \"halted\": \"no\""));
-    CHECK(denial_of(market, "INV1", "R", "131=R2|48=BONDA0000001|22=4|126=20250314-10:00:00|") !=
-          "");
+    const Taken late =
+        taken_of(market, "INV1", "R", "131=R2|48=BONDA0000001|22=4|126=20250314-10:00:00|");
+    CHECK(late.text != "");
+    CHECK(late.id == "R2");
     CHECK_FALSE(market.leader().has_operator_ended());
     tell_of(market, "R1", '7');
     CHECK_FALSE(market.ended());
