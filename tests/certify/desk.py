@@ -17,6 +17,8 @@ from typing import Any
 
 from mireseason_certify.frames import Fields, FrameStream, Message, NoFrame, now, time_text, written
 
+from tests.gateway.wait import at_this_load
+
 HEARTBEAT = 1
 TRY = 0.3  # seconds between two Logons
 LOOK = 0.05  # seconds between two looks at the task
@@ -352,7 +354,7 @@ class Desk:
     def _reads_all(self) -> None:
         """What it was sent before a task stood there, it has read: it reads until nothing more comes. The first silence may
         have begun before that."""
-        until, heard = time.monotonic() + UNTIL_READ, self._silences + 2
+        until, heard = time.monotonic() + at_this_load(UNTIL_READ), self._silences + 2
         while self._is_connected and self._silences < heard and time.monotonic() < until:
             self._ends.wait(SILENT / 4)
 

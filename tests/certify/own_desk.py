@@ -14,7 +14,7 @@ from typing import Any
 
 from tests.desk.desks import PASSWORD, Desk, FirmOf
 from tests.desk.view import View
-from tests.gateway.wait import LONG, within
+from tests.gateway.wait import LONG, at_this_load, within
 
 LOOK = 0.05  # seconds between two looks
 SETTLE = 2.0  # seconds until the page shows what the desk was told
@@ -137,16 +137,16 @@ class OwnDesk:
             one = self.view.requests.get(request)
             return one is not None and (not quote or quote in ids_of(one["quotes"]))
 
-        self.view.until("%s %s" % (request, quote), is_there, SHOWN)
-        within(SETTLE, lambda: not self.view.requests[request]["pending"])
+        self.view.until("%s %s" % (request, quote), is_there, at_this_load(SHOWN))
+        within(at_this_load(SETTLE), lambda: not self.view.requests[request]["pending"])
 
     def _is_still(self) -> None:
         """Waits until the page changes no more."""
-        until, seen = time.monotonic() + STILL, self.view.requests
+        until, seen = time.monotonic() + at_this_load(STILL), self.view.requests
         while time.monotonic() < until:
             time.sleep(LOOK)
             if self.view.requests is not seen:
-                until, seen = time.monotonic() + STILL, self.view.requests
+                until, seen = time.monotonic() + at_this_load(STILL), self.view.requests
 
     def position(self, bond: str) -> int:
         """As the page adds it up, of the requests that traded, once it shows how they ended."""
@@ -160,7 +160,7 @@ class OwnDesk:
 
     def _settles(self, bond: str) -> None:
         """A trader reads the page a moment after the venue has told the desk; a request may stay open."""
-        until = time.monotonic() + SETTLE
+        until = time.monotonic() + at_this_load(SETTLE)
         while time.monotonic() < until and any(
             one["state"] == "open" for one in self.view.requests.values() if one["bond"] == bond
         ):

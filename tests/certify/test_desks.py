@@ -16,10 +16,11 @@ from mireseason_certify.telling import Telling
 from tests.certify.desk import Desk
 from tests.certify.own_desk import OwnDesk
 from tests.certify.wrong_desks import DEALERS, INVESTORS
+from tests.gateway.wait import at_this_load
 from tests.harness.options import ROOT
 
 README = ROOT / "certify" / "README.md"
-PATIENCE = 4.0  # seconds
+PATIENCE = 4.0  # seconds on a machine that is free
 PATIENCE_OF_OWN = 12.0  # of a desk whose engine tries again each two seconds
 WRONG = [("dealer", *item) for item in DEALERS.items()]
 WRONG += [("investor", *item) for item in INVESTORS.items()]
@@ -40,7 +41,8 @@ def certified(
             closing(Page(0, telling)) as page,
             closing(kind(page.port)) as desk,
         ):
-            words = ("TESTDESK", role, Draw(seed), telling, port.number, PATIENCE, only)
+            patience = at_this_load(PATIENCE)
+            words = ("TESTDESK", role, Draw(seed), telling, port.number, patience, only)
             trial = Trial(programs, tmp_path, *words)
             return {one.name: one for one in trial.run(desk.start)}
 
@@ -101,7 +103,8 @@ def test_the_desk_of_this_repository_passes(
         folder.mkdir()
     with closing(Port()) as port, closing(Page(0, telling)) as page:
         desk = OwnDesk(desk_program, folders[1], role, page.port)
-        words = ("OWNDESK", role, Draw(seed), telling, port.number, PATIENCE_OF_OWN)
+        patience = at_this_load(PATIENCE_OF_OWN)
+        words = ("OWNDESK", role, Draw(seed), telling, port.number, patience)
         try:
             outcomes = Trial(programs, folders[0], *words).run(desk.start)
         finally:

@@ -15,13 +15,13 @@ from mireseason_certify.ports import Port
 
 from tests.certify.own_desk import OwnDesk
 from tests.gateway.stage import Tools
-from tests.gateway.wait import LONG, until
+from tests.gateway.wait import LONG, at_this_load, until
 from tests.harness.options import ROOT
 
 COMMAND = [sys.executable, str(ROOT / "certify" / "mireseason-certify"), "TESTDESK"]
 SETTING = re.compile(r"(?m)^(LD_PRELOAD|CLOCK_PASSED) +(\S+)$")
 MOST = 300  # seconds of a run
-PATIENCE, PATIENCE_OF_OWN = 8, 20  # seconds
+PATIENCE, PATIENCE_OF_OWN = 8, 20  # seconds on a machine that is free
 
 
 @dataclass
@@ -50,7 +50,7 @@ class Tool:
 
     def outcomes(self) -> dict[str, str]:
         """Once it has ended by itself: each case with what came of it, and why."""
-        self.process.wait(MOST)
+        self.process.wait(at_this_load(MOST))
         assert not Path(self.clock["CLOCK_PASSED"]).exists(), "the clock's file is left"
         report = json.loads(self.told.with_name("certified-TESTDESK.json").read_text())
         assert "next day" not in report["not_tried"]
@@ -64,7 +64,8 @@ def start(tools: Tools, tmp_path: Path) -> Iterator[Callable[[str, int], Tool]]:
     relay, page = Port(), Port()
 
     def run(role: str, patience: int) -> Tool:
-        words = ["--role", role, "--only", "next-day", "--patience", str(patience)]
+        words = ["--role", role, "--only", "next-day"]
+        words += ["--patience", "%.1f" % at_this_load(patience)]
         words += ["--port", str(relay.number), "--page", str(page.number)]
         words += ["--out", str(tmp_path), "--clock", str(tools.shim)]
         words += ["--gateway", str(tools.programs.gateway.parent)]

@@ -10,6 +10,11 @@ STEP = 0.01
 LONG = float(os.environ.get("PATIENCE", "180"))
 
 
+def at_this_load(seconds: float) -> float:
+    """How long a machine may take for what a free one does in so many seconds: as its processors have more to do."""
+    return seconds * max(1.0, os.getloadavg()[0] / (os.cpu_count() or 1))
+
+
 class TooLong(Exception):
     """A condition did not come about within its limit."""
 
