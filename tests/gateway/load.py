@@ -28,6 +28,7 @@ ASKS = 120  # that it makes, so that no dealer's quotes are used up either
 PRICES = (b"99.5", b"99.4375", b"99.25", b"100")
 SECOND_HIT, REJECTED = 0.3, 0.02  # how often
 LOOK = 0.02  # seconds from one look for a gateway to the next
+REST = 3.0  # seconds in which nothing comes
 MOST_TOLD = 2000  # characters of what a load waits for in vain
 
 
@@ -182,6 +183,17 @@ class Load:
         self.run(text, doors, lambda: self.fresh >= enough or auctions.is_used_up())
         end = time.monotonic() + seconds
         self.run("a moment", doors, lambda: time.monotonic() >= end)
+
+    def rests(self, doors: Iterable[Door]) -> None:
+        """Until nothing has come to any firm for a while: what was let go is handed over late by a busy machine."""
+        seen = [self.fresh, time.monotonic()]
+
+        def rests() -> bool:
+            if self.fresh != seen[0]:
+                seen[:] = [self.fresh, time.monotonic()]
+            return time.monotonic() - seen[1] > REST
+
+        self.run("nothing comes any more", doors, rests)
 
     def _missing(self) -> str:
         """Who is not on, and of the others who waits for what."""

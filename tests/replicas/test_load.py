@@ -22,7 +22,7 @@ from tests.harness.options import Options
 from tests.replicas.pair import Pair, end, pair, promoted
 
 SOON, LATE = 200, 3000  # messages that come to firms until something ends, as drawn
-STALLS = b"log does not answer"
+STALLS, GOES_ON = b"log does not answer", b"log answers again"
 
 MakeDay = Callable[..., Day]
 
@@ -93,6 +93,12 @@ def test_gateways_take_over_under_load(
     day.whole()
 
 
+def stands_still(door: Door) -> bool:
+    """Whether the log does not answer; of a busy machine it may have stood still before, and gone on."""
+    told = door.told.read_bytes()
+    return told.rfind(STALLS) > told.rfind(GOES_ON)
+
+
 def test_the_standby_is_lost_and_takes_over_under_load(
     make_day: MakeDay,  # noqa: F811
     servers: Pair,
@@ -104,9 +110,8 @@ def test_the_standby_is_lost_and_takes_over_under_load(
     day.open()
     day.goes_on_for(draw.randrange(SOON, LATE))
     end(servers.standby)
-    day.load.run(
-        "the log does not answer", [day.door], lambda: STALLS in day.door.told.read_bytes()
-    )
+    day.load.run("the log does not answer", [day.door], lambda: stands_still(day.door))
+    day.load.rests([day.door])
     had = day.load.fresh
     end(servers.primary)
     day.load.run("the gateway ends", [], day.door.has_ended)
