@@ -36,29 +36,23 @@ use Rattle.step_replay.specs.DealerTrail.{DealerEntry}
 use Rattle.step_replay.specs.EachLemmas.{every_both}
 use Rattle.step_replay.specs.Lists.{Every}
 use Rattle.step_replay.specs.VenueFacts.{AtDealer, AtInvestor, Fact, InRoom}
+use Rattle.recorded_days.specs.Kinds.{moment_of}
 use Rattle.laws_wire.proofs.DealerTexts as dealer
 use Rattle.laws_wire.proofs.FieldValues.{IsGiven}
 use Rattle.laws_wire.proofs.InvestorTexts as investor
 use Rattle.laws_wire.proofs.InvestorTexts.{OfferGiven}
 use Rattle.laws_wire.proofs.MessageFields.{AskGiven, IfMoment}
 
--- a duty
+-- a duty: its moment, and what else it bears
 abbrev pub DutyGiven : (ℕ → Type 0) → Duty → Type 0
 DutyGiven D (duty.Open at ask dealers moment) = AskGiven D ask × D moment
 DutyGiven D (duty.Show dealer at ask moment) = AskGiven D ask × D moment
-DutyGiven D (duty.Ready at moment) = D moment
 DutyGiven D (duty.Post at quote price valid_until moment) = IfMoment D valid_until × D moment
 DutyGiven D (duty.Relay at offer moment) = OfferGiven D offer × D moment
-DutyGiven D (duty.Unpost at quote moment) = D moment
-DutyGiven D (duty.Gone at word moment) = D moment
-DutyGiven D (duty.Decline at moment) = D moment
-DutyGiven D (duty.Declined at moment) = D moment
 DutyGiven D (duty.Hit at response word moment) = IsGiven response.id × D moment
 DutyGiven D (duty.Pass at response moment) = IsGiven response.id × D moment
 DutyGiven D (duty.Answer at response reply moment) = IsGiven response.id × D moment
-DutyGiven D (duty.Close at moment) = D moment
-DutyGiven D (duty.Tell dealer at close moment) = D moment
-DutyGiven D (duty.Drop last moment) = D moment
+DutyGiven D other = D (moment_of other)
 
 -- a fact, as far as a dealer's due list says it
 abbrev pub EntryGiven : (ℕ → Type 0) → DealerEntry → Type 0
