@@ -25,9 +25,7 @@ use Rattle.step_replay.specs.GrowthLemmas.{said_grown, same_room}
 use Rattle.step_replay.specs.PlaceLemmas.{other_room, own_room}
 use Rattle.step_replay.specs.VenueFacts.{Fact, InRoom, of_room}
 use Rattle.laws_days.specs.ActionCases.{if_does, numbered_does}
-use Rattle.laws_days.specs.KeptItems.{every_all}
-use Rattle.laws_days.specs.LeftDuties.{duty_leaves as all_left}
-use Rattle.laws_days.specs.MayLeave.{MayLeave}
+use Rattle.laws_days.specs.LeftBehind.{LeftBy, duty_each}
 use Rattle.laws_days.specs.Conditions.{is_met}
 use Rattle.laws_days.proofs.VenueInvariant.{ByNamed, DutyOk}
 use Rattle.laws_rooms.specs.Answered.{Answer, Declines, Quotes, TookEffect, Withdraws, answers_in, change_in}
@@ -239,21 +237,12 @@ module _ (dealer : ℕ) where
 
       pub leaves_none : (by : Actor) (d : Duty) → IsNoDrop d → lefts (duty_effect config facts by d).duties ≡ []
       leaves_none by d isnt =
-          none_of change_of (duty_effect config facts by d).duties (all_left NoChange config facts by d (may d isnt)).each
+          none_of change_of (duty_effect config facts by d).duties
+          (duty_each NoChange config facts by d (λ more left. each more d isnt left))
         where
-          may : (one : Duty) → IsNoDrop one → MayLeave NoChange config facts by one
-          may (duty.Open at ask dealers moment) so = (every_all _ (λ d. refl) dealers, refl)
-          may (duty.Show number at ask moment) so = tt
-          may (duty.Ready at moment) so = tt
-          may (duty.Post at quote price until moment) so = λ offer. refl
-          may (duty.Relay at offer moment) so = tt
-          may (duty.Unpost at quote moment) so = λ word. refl
-          may (duty.Gone at word moment) so = tt
-          may (duty.Decline at moment) so = refl
-          may (duty.Declined at moment) so = tt
-          may (duty.Hit at response word moment) so = (λ reply. refl, every_all _ (λ d close. refl) _)
-          may (duty.Pass at response moment) so = (λ open_yet. refl, every_all _ (λ d close. refl) _)
-          may (duty.Answer at response reply moment) so = tt
-          may (duty.Close at moment) so = tt
-          may (duty.Tell number at close moment) so = tt
-          may (duty.Drop last moment) so = absurd so
+          each : (more one : Duty) → IsNoDrop one → LeftBy more one → NoChange more
+          each (duty.Post at quote price until when) one so left = absurd left
+          each (duty.Unpost at quote when) (duty.Drop last moment) so left = absurd so
+          each (duty.Unpost at quote when) one so left = absurd left
+          each (duty.Decline at when) one so left = absurd left
+          each more one so left = refl

@@ -36,6 +36,7 @@ use Rattle.request_room.specs.Book.{end_by, event_facts, expired, hit_outcome, m
 use Rattle.request_room.specs.RoomFacts.{Ended, RoomFact, ended_as, is_ended, is_open}
 use Rattle.request_room.specs.RoomFacts as room_facts
 use Rattle.request_room.specs.declared.ends.End.{End}
+use Rattle.request_room.specs.declared.events.RoomEvent.{RoomEvent}
 use Rattle.request_room.specs.declared.events.RoomEvent.TheVariants as at_room
 use Rattle.step_replay.specs.Actions.{Effect, answer_to_hit, at_market, done_for, hit_with, lifting}
 use Rattle.step_replay.specs.Actions.{nothing, quote_asked, where_known}
@@ -48,12 +49,13 @@ use Rattle.step_replay.specs.Lists.{Every}
 use Rattle.step_replay.specs.PlaceLemmas.{other_room, own_room, room_grown}
 use Rattle.step_replay.specs.VenueFacts.{Fact, InRoom, of_investor, of_room}
 use Rattle.laws_days.specs.ActionCases.{if_does}
+use Rattle.laws_days.specs.DutyWalk.{RoomMay}
 use Rattle.laws_shown.specs.ShownRequests.{at_investor as market_facts}
 use Rattle.laws_days.specs.Conditions.{holds_for, is_known, is_known_to, is_met}
 use Rattle.laws_days.proofs.VenueEnds.{none_lifted}
 use Rattle.laws_days.proofs.VenueKnown.{room_self}
 use Rattle.laws_rooms.proofs.RoomLemmas.{some_of}
-use Rattle.laws_rooms.proofs.RoomWalk.{Adds, MayAdd, duty_adds, lifted_none, message_adds}
+use Rattle.laws_rooms.proofs.RoomWalk.{Adds, MayHappen, OfKind, kind_adds, lifted_none, message_adds}
 use Rattle.laws_rooms.proofs.ShutLemmas.{shut_by, shut_in}
 use Rattle.laws_rooms.proofs.TellLemmas.{desk_grown}
 
@@ -214,24 +216,38 @@ module _ (config : Configuration) (facts : List Fact) (room : RoomRef) where
         (duties_of_expire (of_room at facts) at moment) differs)
   ]
 
-  may : (by : Actor) (d : Duty) → NoEnding d → MayAdd IsNoEnd config facts room by d
-  may by (duty.Open at ask dealers moment) isnt = refl
-  may by (duty.Ready at moment) isnt = refl
-  may (actor.Firm number) (duty.Post at quote price until moment) isnt = λ row found. refl
+  -- an event that ends no room
+  abbrev LeavesOpen : RoomEvent → Type 0
+  LeavesOpen (at_room.Hit word moment settlement) = ⊥
+  LeavesOpen (at_room.Pass moment) = ⊥
+  LeavesOpen (at_room.Expire moment) = ⊥
+  LeavesOpen other = Unit {0}
+
+  open_says : (event : RoomEvent) → LeavesOpen event → MayHappen IsNoEnd config facts room event
+  open_says (at_room.Hit word moment settlement) is = absurd is
+  open_says (at_room.Pass moment) is = absurd is
+  open_says (at_room.Expire moment) is = absurd is
+  open_says other is = refl
+
+  may : (by : Actor) (d : Duty) → NoEnding d → RoomMay (OfKind LeavesOpen) config facts by d
+  may (actor.Firm number) (duty.Post at quote price until moment) isnt = λ row found. tt
   may actor.Clock (duty.Post at quote price until moment) isnt = tt
-  may (actor.Firm number) (duty.Unpost at quote moment) isnt = λ row found. refl
+  may (actor.Firm number) (duty.Unpost at quote moment) isnt = λ row found. tt
   may actor.Clock (duty.Unpost at quote moment) isnt = tt
-  may (actor.Firm number) (duty.Decline at moment) isnt = λ row found. refl
+  may (actor.Firm number) (duty.Decline at moment) isnt = λ row found. tt
   may actor.Clock (duty.Decline at moment) isnt = tt
   may by (duty.Hit at response word moment) isnt = absurd isnt
   may by (duty.Pass at response moment) isnt = absurd isnt
   may by other isnt = tt
 
+  adds_no_end : (by : Actor) (d : Duty) → NoEnding d
+      → Adds IsNoEnd config facts room (duty_effect config facts by d)
+  adds_no_end by d isnt = kind_adds IsNoEnd config facts room LeavesOpen open_says by d (may by d isnt)
+
   pub ends_none : (by : Actor) (d : Duty) → NoEnding d
       → is_ended (of_room room (duty_effect config facts by d).facts) ≡ false
   ends_none by d isnt =
-      no_end (of_room room (duty_effect config facts by d).facts)
-      (duty_adds IsNoEnd config facts room by d (may by d isnt)).each
+      no_end (of_room room (duty_effect config facts by d).facts) (adds_no_end by d isnt).each
 
   pub message_ends_none : (firm moment : ℕ) (bytes : List ℕ)
       → is_ended (of_room room (message_effect config facts firm moment bytes).facts) ≡ false
@@ -242,7 +258,7 @@ module _ (config : Configuration) (facts : List Fact) (room : RoomRef) where
   pub duty_ends : (by : Actor) (d : Duty) → Ends (duty_effect config facts by d)
   duty_ends by (duty.Hit at response word moment) = hit_ends by at response word moment
   duty_ends by (duty.Pass at response moment) = pass_ends by at response moment
-  duty_ends by other = never _ (duty_adds IsNoEnd config facts room by other (may by other tt))
+  duty_ends by other = never _ (adds_no_end by other tt)
 
   pub message_ends : (firm moment : ℕ) (bytes : List ℕ) → Ends (message_effect config facts firm moment bytes)
   message_ends firm moment bytes = never _ (message_adds IsNoEnd config facts room firm moment bytes)

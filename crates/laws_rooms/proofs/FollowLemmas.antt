@@ -25,6 +25,8 @@ use Rattle.investor_desk.specs.declared.verdicts.InvestorVerdict.TheVariants as 
 use Rattle.request_room.specs.Book.{book_of, event_facts, may_unpost, quote_posted, stands, where_so}
 use Rattle.request_room.specs.RoomFacts.{Noted, Posted, RoomFact, Unposted, hears, is_ended, request_of}
 use Rattle.request_room.specs.RoomFacts.{takes_quotes}
+use Rattle.request_room.specs.declared.events.RoomEvent.{RoomEvent}
+use Rattle.request_room.specs.declared.events.RoomEvent.TheVariants as at_room
 use Rattle.request_room.specs.declared.quotes.PostedQuote.{PostedQuote}
 use Rattle.step_replay.specs.Actions.{Effect, nothing, verdict_on}
 use Rattle.step_replay.specs.LineActions.{declined_by, unposted_by}
@@ -35,6 +37,7 @@ use Rattle.step_replay.specs.Lists.{Every}
 use Rattle.step_replay.specs.PlaceLemmas.{other_room, own_room}
 use Rattle.step_replay.specs.VenueFacts.{Fact, InRoom, of_room}
 use Rattle.laws_days.specs.ActionCases.{numbered_does}
+use Rattle.laws_days.specs.DutyWalk.{RoomMay}
 use Rattle.laws_days.specs.KeptItems.{every_all}
 use Rattle.laws_days.specs.LeftBehind.{LeftBy, duty_each}
 use Rattle.laws_days.specs.LeftDuties.{duty_leaves as all_left, message_leaves as message_left}
@@ -47,7 +50,7 @@ use Rattle.laws_rooms.specs.Offers.{quotes_in}
 use Rattle.laws_rooms.proofs.AnswerLemmas.{Goes, late, quiet, takes, turn_mine}
 use Rattle.laws_rooms.proofs.OfferLemmas.{post_same, relays}
 use Rattle.laws_rooms.proofs.ReplyDuties.{none_of}
-use Rattle.laws_rooms.proofs.RoomWalk.{MayAdd, duty_adds, message_adds, sweep_adds}
+use Rattle.laws_rooms.proofs.RoomWalk.{MayHappen, OfKind, duty_adds, kind_adds, message_adds, sweep_adds}
 use Rattle.laws_rooms.proofs.TurnLists.{Fit, IsNoUnpost, plain_fit, same_changes, stands_after, stands_live}
 
 -- a fact that is no decline and takes out no quote
@@ -337,40 +340,48 @@ module _ (dealer : ℕ) (config : Configuration) (row : DealerRow)
     changes_none : (some : List RoomFact) → Every SaysNot some → changes some ≡ []
     changes_none some every = none_of (change_in dealer) some every
 
-    quiet_adds : (by : Actor) (d : Duty) → IsQuiet d → MayAdd SaysNot config facts room by d
-    quiet_adds by (duty.Open at ask dealers moment) so = refl
-    quiet_adds by (duty.Ready at moment) so = refl
-    quiet_adds by (duty.Post at quote price until moment) so = absurd so
-    quiet_adds by (duty.Unpost at quote moment) so = absurd so
-    quiet_adds by (duty.Decline at moment) so = absurd so
-    quiet_adds by (duty.Hit at response word moment) so = λ end. refl
-    quiet_adds by (duty.Pass at response moment) so = refl
-    quiet_adds by other so = tt
+    -- an event of no dealer, or of another one
+    abbrev OfAnother : RoomEvent → Type 0
+    OfAnother (at_room.Post number word price until) = (number == dealer) ≡ false
+    OfAnother (at_room.Unpost number word) = (number == dealer) ≡ false
+    OfAnother (at_room.Decline number) = (number == dealer) ≡ false
+    OfAnother other = Unit {0}
+
+    another_says : (event : RoomEvent) → OfAnother event → MayHappen SaysNot config facts room event
+    another_says (at_room.Post number word price until) differs = rw differs refl
+    another_says (at_room.Unpost number word) differs = rw differs refl
+    another_says (at_room.Decline number) differs = rw differs refl
+    another_says (at_room.Hit word moment settlement) is = λ end. refl
+    another_says other is = refl
+
+    another_none : (by : Actor) (d : Duty) → RoomMay (OfKind OfAnother) config facts by d
+        → changes (added (duty_effect config facts by d)) ≡ []
+    another_none by d is =
+        changes_none (added (duty_effect config facts by d))
+        (kind_adds SaysNot config facts room OfAnother another_says by d is).each
+
+    quiet_may : (by : Actor) (d : Duty) → IsQuiet d → RoomMay (OfKind OfAnother) config facts by d
+    quiet_may by (duty.Post at quote price until moment) so = absurd so
+    quiet_may by (duty.Unpost at quote moment) so = absurd so
+    quiet_may by (duty.Decline at moment) so = absurd so
+    quiet_may by other so = tt
 
     pub quiet_none : (by : Actor) (d : Duty) → IsQuiet d → changes (added (duty_effect config facts by d)) ≡ []
-    quiet_none by d isnt =
-        changes_none (added (duty_effect config facts by d))
-        (duty_adds SaysNot config facts room by d (quiet_adds by d isnt)).each
+    quiet_none by d isnt = another_none by d (quiet_may by d isnt)
 
-    other_adds : (by : Actor) → is_same_actor by (actor.Firm dealer) ≡ false → (d : Duty)
-        → MayAdd SaysNot config facts room by d
-    other_adds by differs (duty.Open at ask dealers moment) = refl
-    other_adds by differs (duty.Ready at moment) = refl
-    other_adds (actor.Firm number) differs (duty.Post at quote price until moment) = λ found row_is. rw differs refl
-    other_adds actor.Clock differs (duty.Post at quote price until moment) = tt
-    other_adds (actor.Firm number) differs (duty.Unpost at quote moment) = λ found row_is. rw differs refl
-    other_adds actor.Clock differs (duty.Unpost at quote moment) = tt
-    other_adds (actor.Firm number) differs (duty.Decline at moment) = λ found row_is. rw differs refl
-    other_adds actor.Clock differs (duty.Decline at moment) = tt
-    other_adds by differs (duty.Hit at response word moment) = λ end. refl
-    other_adds by differs (duty.Pass at response moment) = refl
-    other_adds by differs other = tt
+    other_may : (by : Actor) → is_same_actor by (actor.Firm dealer) ≡ false → (d : Duty)
+        → RoomMay (OfKind OfAnother) config facts by d
+    other_may (actor.Firm number) differs (duty.Post at quote price until moment) = λ found row_is. differs
+    other_may actor.Clock differs (duty.Post at quote price until moment) = tt
+    other_may (actor.Firm number) differs (duty.Unpost at quote moment) = λ found row_is. differs
+    other_may actor.Clock differs (duty.Unpost at quote moment) = tt
+    other_may (actor.Firm number) differs (duty.Decline at moment) = λ found row_is. differs
+    other_may actor.Clock differs (duty.Decline at moment) = tt
+    other_may by differs other = tt
 
     pub others_none : (by : Actor) (d : Duty) → is_same_actor by (actor.Firm dealer) ≡ false
         → changes (added (duty_effect config facts by d)) ≡ []
-    others_none by d differs =
-        changes_none (added (duty_effect config facts by d))
-        (duty_adds SaysNot config facts room by d (other_adds by differs d)).each
+    others_none by d differs = another_none by d (other_may by differs d)
 
     pub message_none : (firm moment : ℕ) (bytes : List ℕ)
         → changes (added (message_effect config facts firm moment bytes)) ≡ []

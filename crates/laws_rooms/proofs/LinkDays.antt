@@ -1,7 +1,7 @@
 -- After every list of steps, what a dealer's messages and drops left for a room is what stands at its
 -- desk on the room's request.
-use Rattle.std.proofs.Common.{◌≡◌, ◌==◌, ◌&&◌, ℕ, Bool, true, false, List, [], ◌∷◌, ◌++◌, map}
-use Rattle.std.proofs.Common.{Option, Some, None, is_some, option_map, refl, sym, ap, ◌∙◌, subst, inl, inr}
+use Rattle.std.proofs.Common.{◌≡◌, ◌==◌, ℕ, Bool, true, false, List, [], ◌∷◌, ◌++◌, map}
+use Rattle.std.proofs.Common.{Option, Some, None, is_some, refl, sym, ap, ◌∙◌, subst, inl, inr}
 use Rattle.std.proofs.Common.{if◌then◌else◌, Result, Ok, Err}
 use Rattle.std.specs.List.{list_any}
 use Rattle.std.specs.Option.{option_to_list}
@@ -17,12 +17,11 @@ use Rattle.market_terms.specs.declared.duties.Duty.TheVariants as duty
 use Rattle.market_terms.specs.declared.rooms.ResponseRef.{ResponseRef}
 use Rattle.market_terms.specs.declared.rooms.RoomRef.{RoomRef}
 use Rattle.quote_word.specs.declared.settled.Settled.{Settled}
-use Rattle.venue_rows.specs.Rows.{Configuration, dealer_numbered, has_room}
+use Rattle.venue_rows.specs.Rows.{Configuration, dealer_numbered}
 use Rattle.venue_rows.specs.declared.dealer_rows.DealerRow.{DealerRow}
 use Rattle.venue_places.specs.Dealers.{Dealer, QuoteRef, acting_dealer, dealer_at, dealer_of, quote_with_word}
 use Rattle.venue_places.specs.declared.actors.Actor.{Actor}
 use Rattle.venue_places.specs.declared.actors.Actor.TheVariants as actor
-use Rattle.venue_steps.specs.RoomSteps.{hit_word}
 use Rattle.dealer_desk.specs.DealerFacts.{Came, DealerFact, Dropped, Told, number_to_drop, tells}
 use Rattle.dealer_desk.specs.DealerOutput.{closable, event_facts, number_in, settled_facts, shown_room}
 use Rattle.dealer_desk.specs.DealerOutput.{uses_number, verdict_facts}
@@ -36,12 +35,11 @@ use Rattle.investor_desk.specs.declared.events.InvestorEvent.TheVariants as at_i
 use Rattle.request_room.specs.Book.{event_facts as room_facts, hit_outcome}
 use Rattle.request_room.specs.RoomFacts.{RoomFact}
 use Rattle.request_room.specs.declared.ends.End.{End}
-use Rattle.request_room.specs.declared.events.RoomEvent.{RoomEvent}
 use Rattle.request_room.specs.declared.events.RoomEvent.TheVariants as at_room
-use Rattle.step_replay.specs.Actions.{Effect, answer_to_drop, answer_to_hit, at_dealer, at_market, drop_at}
-use Rattle.step_replay.specs.Actions.{done_by, done_for, dropped_by, hit_with, in_room, left_by, left_by_drop}
-use Rattle.step_replay.specs.Actions.{lifting, nothing, quote_asked, received_by_dealer, received_by_investor}
-use Rattle.step_replay.specs.Actions.{settlement_of, verdict_on, where_known}
+use Rattle.step_replay.specs.Actions.{Effect, answer_to_drop, at_dealer, at_market, drop_at}
+use Rattle.step_replay.specs.Actions.{done_by, done_for, dropped_by, hit_with, left_by, left_by_drop}
+use Rattle.step_replay.specs.Actions.{lifting, nothing, received_by_dealer, received_by_investor}
+use Rattle.step_replay.specs.Actions.{settlement_of, verdict_on}
 use Rattle.step_replay.specs.AuditTrail.{AuditTrail, after_step, after_turn, audit_trail, is_same_actor, pending}
 use Rattle.step_replay.specs.DealerGrowth.{facts_grown, rooms_grown}
 use Rattle.step_replay.specs.DealerTrail.{DealerEntry, Lifted, book_by, entries_of, fact_in, facts_of, room_in}
@@ -51,8 +49,9 @@ use Rattle.step_replay.specs.PlaceLemmas.{dealer_grown, other_trail, own_trail, 
 use Rattle.step_replay.specs.VenueFacts.{Fact, InRoom, of_dealer, of_room}
 use Rattle.step_replay.specs.declared.steps.Step.{Step}
 use Rattle.step_replay.specs.declared.steps.Step.TheVariants as step
-use Rattle.laws_days.specs.ActionCases.{by_does, if_does, invested_does, numbered_does, told_does}
-use Rattle.laws_days.specs.ActionCases.{unless_does}
+use Rattle.laws_days.specs.ActionCases.{if_does, invested_does, numbered_does}
+use Rattle.laws_days.specs.DutyWalk.{AnyInvestor, AnyRoom, DealerMay, Walks, any_investor, any_room, duty_walks}
+use Rattle.laws_days.specs.DutyWalk.{settlement_found, sweep_walks}
 use Rattle.laws_days.proofs.LiveQuotes.{LoneQuotes}
 use Rattle.laws_days.proofs.VenueDay.{venue_ok}
 use Rattle.laws_days.proofs.VenueDesk.{WordsOfDay}
@@ -122,26 +121,9 @@ module _ (config : Configuration) (dealer : ℕ) (row : DealerRow)
         → Stays (record { facts = map (InRoom at) happened; duties = duties })
     happened_stays at happened duties = stays _ (trail_in_room dealer at happened)
 
-    room_stays : (at : RoomRef) (may : Bool) (event : RoomEvent) (duties : List Duty)
-        → Stays (in_room config facts at may event duties)
-    room_stays at may event duties =
-        if_does Stays idle (has_room config at.investor at.n && may) _
-        (happened_stays at (room_facts (of_room at facts) event) duties)
-
     market_stays : (market : InvestorMarket) (event : InvestorEvent) (duties : List Duty)
         → Stays (at_market facts market event duties)
     market_stays market event duties = stays _ (trail_at_investor dealer market.firm _)
-
-    known_stays : (request : ℕ) (quote : Option ℕ) (event : InvestorEvent) (market : InvestorMarket)
-        → Stays (where_known facts request quote event market)
-    known_stays request quote event market =
-        if_does Stays idle _ (at_market facts market event []) (market_stays market event [])
-
-    come_stays : (number request : ℕ) (event : InvestorEvent)
-        → Stays (done_for (market_for config number) (where_known facts request None event))
-    come_stays number request event =
-        invested_does Stays idle config number (where_known facts request None event)
-        (λ other. known_stays request None event (market_of config number other))
 
     -- a quote that is hit
     lifted_same : (quote : ℕ) → said (trail ++ Lifted quote ∷ []) ≡ said trail
@@ -231,39 +213,33 @@ module _ (config : Configuration) (dealer : ℕ) (row : DealerRow)
 
     -- Duties but drops.
 
+    -- an event at a dealer's desk that says no answer
+    abbrev SaysNone : ℕ → DealerRow → DealerEvent → List Duty → Type 0
+    SaysNone number other event duties = said (trail ++ entries_of config.date other trail event) ≡ said trail
+
+    walks : Walks SaysNone AnyInvestor AnyRoom config facts Stays
+    walks = record {
+      idle = idle;
+      at_a_dealer = λ number other found event duties same. desk_stays number other event duties same;
+      at_an_investor = λ number other found event any. market_stays (market_of config number other) event [];
+      in_a_room = λ at there event no_hit duties any.
+          happened_stays at (room_facts (of_room at facts) event) duties;
+      by_a_hit = λ at there response word moment any.
+          hit_stays at response word moment (settlement_found config facts at word moment);
+    }
+
+    at_dealers : (by : Actor) (d : Duty) → IsNoDrop d → DealerMay SaysNone config facts by d
+    at_dealers by (duty.Show number at ask moment) so = λ other found none. shown_says other at ask moment
+    at_dealers by (duty.Tell number at close moment) so =
+        λ other found request there may. told_says other request close moment
+    at_dealers by (duty.Drop last moment) so = absurd so
+    at_dealers by other so = tt
+
     duty_stays : (by : Actor) (d : Duty) → IsNoDrop d → Stays (duty_effect config facts by d)
-    unfolding duty_effect
-    duty_stays by (duty.Open at ask dealers moment) so = room_stays at true _ _
-    duty_stays by (duty.Show number at ask moment) so =
-        numbered_does Stays idle config number _ (λ other found. unless_does Stays idle _ _
-        (desk_stays number other (at_desk.Shown at ask moment) [] (shown_says other at ask moment)))
-    duty_stays by (duty.Ready at moment) so = room_stays at true at_room.Ready []
-    duty_stays by (duty.Post at quote price until moment) so =
-        by_does Stays idle (acting_dealer config by) _ (λ other. room_stays at _ _ _)
-    duty_stays by (duty.Relay at offer moment) so = come_stays at.investor at.n _
-    duty_stays by (duty.Unpost at quote moment) so =
-        by_does Stays idle (acting_dealer config by) _ (λ other. room_stays at _ _ _)
-    duty_stays by (duty.Gone at word moment) so = come_stays at.investor at.n _
-    duty_stays by (duty.Decline at moment) so =
-        by_does Stays idle (acting_dealer config by) _ (λ other. room_stays at _ _ _)
-    duty_stays by (duty.Declined at moment) so =
-        by_does Stays idle (acting_dealer config by) _ (λ other. come_stays at.investor at.n _)
-    duty_stays by (duty.Hit at response word moment) so =
-        if_does Stays idle _ _ (hit_stays at response word moment
-        (option_map (answer_to_hit facts) (quote_asked config (hit_word (of_room at facts) word moment))))
-    duty_stays by (duty.Pass at response moment) so = room_stays at true (at_room.Pass moment) _
-    duty_stays by (duty.Answer at response reply moment) so =
-        invested_does Stays idle config at.investor _ (λ other. if_does Stays idle _ _
-        (known_stays at.n response.k (at_investor.Answered at.n response reply moment)
-        (market_of config at.investor other)))
-    duty_stays by (duty.Close at moment) so = come_stays at.investor at.n _
-    duty_stays by (duty.Tell number at close moment) so =
-        numbered_does Stays idle config number _
-        (λ other found. told_does Stays idle config facts (dealer_of number other) close moment
-        (number_in (rooms_by (of_dealer number facts)) at)
-        (λ request. desk_stays number other (at_desk.Told request close moment) []
-        (told_says other request close moment)))
-    duty_stays by (duty.Drop last moment) so = absurd so
+    duty_stays by d so =
+        duty_walks SaysNone AnyInvestor AnyRoom config facts Stays walks by d (at_dealers by d so)
+        (any_investor AnyInvestor config by d (λ number other event is. tt))
+        (any_room AnyRoom config facts by d (λ at event duties is. tt))
 
     -- Its own messages and drops.
 
@@ -358,8 +334,7 @@ module _ (config : Configuration) (dealer : ℕ) (row : DealerRow)
             (λ other. market_stays (market_of config firm other) (at_investor.Received moment bytes) _)
 
     sweep_other : (at : RoomRef) (moment : ℕ) → Stays (sweep_effect config facts at moment)
-    unfolding sweep_effect
-    sweep_other at moment = room_stays at true (at_room.Expire moment) _
+    sweep_other at moment = sweep_walks SaysNone AnyInvestor AnyRoom config facts Stays walks at moment tt
 
     -- Where the notice of the request was told.
 

@@ -41,6 +41,10 @@ use Rattle.laws_days.specs.DutyWalk.{AnyDealer, AnyInvestor, RoomMay, Walks, any
 use Rattle.laws_days.specs.DutyWalk.{any_investor, duty_walks, settlement_found, sweep_walks}
 use Rattle.laws_days.specs.ActionCases.{if_does, invested_does, numbered_does}
 
+-- an event of a kind, wherever it comes and whatever it leaves
+abbrev pub OfKind : (RoomEvent → Type 0) → RoomRef → RoomEvent → List Duty → Type 0
+OfKind Kind at event left = Kind event
+
 -- what a hit lifts stands in no room
 pub lifted_none : (room : RoomRef) (found : Option QuoteRef) (outcome : Result End HitRefusal)
     → of_room room (lifting found outcome) ≡ []
@@ -138,34 +142,40 @@ module _ (P : RoomFact → Type 0) (config : Configuration) (facts : List Fact) 
 
   -- Duties.
 
-  abbrev May : RoomRef → RoomEvent → List Duty → Type 0
-  May at event left = MayHappen event
+  module _ (Kind : RoomEvent → Type 0) (may : (event : RoomEvent) → Kind event → MayHappen event) where
+    walks : Walks AnyDealer AnyInvestor (OfKind Kind) config facts Adds
+    walks = record {
+      idle = idle;
+      at_a_dealer = λ number row found event left any. desk_adds (dealer_of number row) event left;
+      at_an_investor = λ number row found event any. market_adds (market_of config number row) event [];
+      in_a_room = λ at there event no_hit left is. event_adds at event left (may event is);
+      by_a_hit = λ at there response word moment is.
+          let settlement = settlement_found config facts at word moment in
+          hit_adds at response word moment settlement (may (at_room.Hit word moment settlement) is);
+    }
 
-  walks : Walks AnyDealer AnyInvestor May config facts Adds
-  walks = record {
-    idle = idle;
-    at_a_dealer = λ number row found event left any. desk_adds (dealer_of number row) event left;
-    at_an_investor = λ number row found event any. market_adds (market_of config number row) event [];
-    in_a_room = λ at there event no_hit left is. event_adds at event left is;
-    by_a_hit = λ at there response word moment is.
-        hit_adds at response word moment (settlement_found config facts at word moment) is;
-  }
+    -- a duty that brings to its room an event of a kind, of which each may happen
+    pub kind_adds : (by : Actor) (d : Duty) → RoomMay (OfKind Kind) config facts by d
+        → Adds (duty_effect config facts by d)
+    kind_adds by d is =
+        duty_walks AnyDealer AnyInvestor (OfKind Kind) config facts Adds walks by d
+        (any_dealer AnyDealer config facts by d (λ number row event left is. tt))
+        (any_investor AnyInvestor config by d (λ number row event is. tt)) is
 
   -- what a duty may add
   abbrev pub MayAdd : Actor → Duty → Type 0
-  MayAdd by d = RoomMay May config facts by d
+  MayAdd by d = RoomMay (OfKind MayHappen) config facts by d
 
   pub duty_adds : (by : Actor) (d : Duty) → MayAdd by d → Adds (duty_effect config facts by d)
-  duty_adds by d is =
-      duty_walks AnyDealer AnyInvestor May config facts Adds walks by d
-      (any_dealer AnyDealer config facts by d (λ number row event left is. tt))
-      (any_investor AnyInvestor config by d (λ number row event is. tt)) is
+  duty_adds by d is = kind_adds MayHappen (λ event so. so) by d is
 
   -- A sweep, and messages of firms.
 
   pub sweep_adds : (at : RoomRef) (moment : ℕ) → P (Ended expired moment)
       → Adds (sweep_effect config facts at moment)
-  sweep_adds at moment is = sweep_walks AnyDealer AnyInvestor May config facts Adds walks at moment is
+  sweep_adds at moment is =
+      sweep_walks AnyDealer AnyInvestor (OfKind MayHappen) config facts Adds
+      (walks MayHappen (λ event so. so)) at moment is
 
   received_adds : (dealer : Dealer) (moment : ℕ) (bytes : List ℕ)
       → Adds (received_by_dealer config facts moment bytes dealer)
