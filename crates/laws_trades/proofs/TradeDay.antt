@@ -1,18 +1,23 @@
 -- What every duty, message and sweep brings of what stands of trades. So it stands after every list
 -- of steps.
-use Rattle.laws_days.proofs.Common.{List, ℕ, [], inl, inr, refl}
+use Rattle.laws_days.proofs.Common.{List, None, ℕ, [], inl, inr, refl}
 use Rattle.laws_days.proofs.Common.{option_map, ◌++◌, ◌∷◌, ◌≡◌, append_assoc, subst}
-use Rattle.laws_days.proofs.Common.{Duty, Configuration, dealer_numbered}
-use Rattle.laws_days.proofs.Common.{hit_word, Actor, Effect, dealer_of, AuditTrail, after_step}
+use Rattle.laws_days.proofs.Common.{Duty, RoomRef, Configuration, dealer_numbered, DealerRow}
+use Rattle.laws_days.proofs.Common.{InvestorRow, market_of, InvestorEvent, DealerEvent, shown_room}
+use Rattle.laws_days.proofs.Common.{hit_word, Actor, Effect, AuditTrail, after_step}
 use Rattle.laws_days.proofs.Common.{after_turn, audit_trail, no_steps, pending, duty_effect}
-use Rattle.laws_days.proofs.Common.{message_effect, sweep_effect, Step, In, all_in, in_right}
+use Rattle.laws_days.proofs.Common.{message_effect, sweep_effect, Step, Every, In, all_in, in_right}
 use Rattle.laws_days.proofs.Common.{take-append-drop, append-nil}
 use Rattle.std.proofs.lemmas.List.Sums.{fold-append}
 use Rattle.market_terms.specs.declared.duties.Duty.TheVariants as duty
 use Rattle.venue_places.specs.declared.actors.Actor.TheVariants as actor
-use Rattle.step_replay.specs.Actions.{answer_to_hit, quote_asked}
+use Rattle.request_room.specs.declared.events.RoomEvent.{RoomEvent}
+use Rattle.step_replay.specs.Actions.{answer_to_hit, at_market, quote_asked}
 use Rattle.step_replay.specs.declared.steps.Step.TheVariants as step
 use Rattle.laws_days.specs.ActionCases.{numbered_does}
+use Rattle.laws_days.specs.DutyWalk.{AnyRoom, DealerMay, InvestorMay, NoHitThere, RoomMay, Walks}
+use Rattle.laws_days.specs.DutyWalk.{any_room, duty_walks}
+use Rattle.laws_days.specs.LeftBehind.{LeftBy, duty_each}
 use Rattle.laws_days.proofs.ListLemmas.{cases_some}
 use Rattle.laws_days.proofs.LiveQuotes.{LoneQuotes}
 use Rattle.laws_days.proofs.VenueDay.{venue_ok}
@@ -23,22 +28,111 @@ use Rattle.laws_days.proofs.VenueKnown.{pending_ok}
 use Rattle.laws_days.proofs.VenueParts.{Still, did_in, duties_by, later_same}
 use Rattle.laws_days.proofs.VenueSteps.{Here}
 use Rattle.laws_days.proofs.VenueTurns.{Doing, beside, turn, turns_of}
-use Rattle.laws_trades.proofs.TradeDesk.{dropped_makes, said_makes, shown_makes, told_makes}
+use Rattle.laws_trades.proofs.TradeDesk.{said_makes, shown_makes, unshown_adds}
 use Rattle.laws_trades.proofs.TradeHits.{hit_makes}
 use Rattle.laws_trades.proofs.TradeMarkets.{asked_makes, declined_makes, expired_makes}
 use Rattle.laws_trades.proofs.TradeMarkets.{investor_makes, relayed_makes, withdrawn_makes}
 use Rattle.laws_trades.proofs.TradeParts.{TradeDuty, TradeOk}
 use Rattle.laws_trades.proofs.TradeReplies.{answer_makes}
-use Rattle.laws_trades.proofs.TradeRooms as rooms
-use Rattle.laws_trades.proofs.TradeRooms.{opened_makes, passed_makes, posted_makes, readied_makes}
-use Rattle.laws_trades.proofs.TradeRooms.{swept_makes, unposted_makes}
-use Rattle.laws_trades.proofs.TradeSteps.{DoneNow, Makes, acting_makes, idle_makes, ok_after}
-use Rattle.laws_trades.proofs.TradeSteps.{when_makes}
+use Rattle.laws_trades.proofs.TradeRooms.{opened_makes, passed_makes, posted_makes, swept_makes}
+use Rattle.laws_trades.proofs.TradeRooms.{untraded}
+use Rattle.laws_trades.proofs.TradeSteps.{DoneNow, DutyNow, FactNow, Makes, acting_makes}
+use Rattle.laws_trades.proofs.TradeSteps.{idle_makes, ok_after, when_makes}
 
 module _ (h : Here) where
   -- a turn: what it brings, and what stands as its duty is done
   abbrev Does : Duty → Effect → Type 0
   Does left effect = Makes h effect × DoneNow h effect left
+
+  -- Duties of which nothing has to stand of a trade, and of what they leave neither, by the place at
+  -- which they are done.
+
+  abbrev IsCalm : Duty → Type 0
+  IsCalm (duty.Open room ask dealers moment) = ⊥
+  IsCalm (duty.Show dealer room ask moment) = ⊥
+  IsCalm (duty.Post room quote price valid_until moment) = ⊥
+  IsCalm (duty.Relay room offer moment) = ⊥
+  IsCalm (duty.Hit room response word moment) = ⊥
+  IsCalm (duty.Pass room response moment) = ⊥
+  IsCalm (duty.Answer room response reply moment) = ⊥
+  IsCalm other = Unit {0}
+
+  calm_left : (effect : Effect) (more d : Duty) → IsCalm d → LeftBy more d → DutyNow h effect more
+  calm_left effect (duty.Open room ask dealers moment) d calm left = absurd left
+  calm_left effect (duty.Show dealer at what when) (duty.Open room ask dealers moment) calm left =
+      absurd calm
+  calm_left effect (duty.Show dealer at what when) other calm left = absurd left
+  calm_left effect (duty.Post room quote price valid_until moment) d calm left = absurd left
+  calm_left effect (duty.Relay at offer when) (duty.Post room quote price valid_until moment) calm
+      left =
+      absurd calm
+  calm_left effect (duty.Relay at offer when) other calm left = absurd left
+  calm_left effect (duty.Hit room response word moment) d calm left = absurd left
+  calm_left effect (duty.Pass room response moment) d calm left = absurd left
+  calm_left effect (duty.Answer at to reply when) (duty.Hit room response word moment) calm left =
+      absurd calm
+  calm_left effect (duty.Answer at to reply when) (duty.Pass room response moment) calm left =
+      absurd calm
+  calm_left effect (duty.Answer at to reply when) other calm left = absurd left
+  calm_left effect more d calm left = λ now later. tt
+
+  abbrev DealerAdds : ℕ → DealerRow → DealerEvent → List Duty → Type 0
+  DealerAdds number row event left = shown_room event ≡ None
+
+  abbrev InvestorAdds : ℕ → InvestorRow → InvestorEvent → Type 0
+  InvestorAdds number row event =
+      Makes h (at_market h.venue.facts (market_of h.config number row) event [])
+
+  abbrev RoomAdds : RoomRef → RoomEvent → List Duty → Type 0
+  RoomAdds room event left = NoHitThere event
+
+  -- what an action adds stands
+  abbrev Adds : Effect → Type 0
+  Adds effect = Every (FactNow h effect) effect.facts
+
+  walks : Walks DealerAdds InvestorAdds RoomAdds h.config h.venue.facts Adds
+  walks = record {
+    idle = tt;
+    at_a_dealer = λ number row found event left none.
+        unshown_adds h number row found event left none;
+    at_an_investor = λ number row found event makes. makes.facts;
+    in_a_room = λ room there event no_hit left is. untraded h room event left no_hit;
+    by_a_hit = λ room there response word moment is. absurd is;
+  }
+
+  at_dealers : (by : Actor) (d : Duty) → IsCalm d
+      → DealerMay DealerAdds h.config h.venue.facts by d
+  at_dealers by (duty.Show dealer room ask moment) calm = absurd calm
+  at_dealers by (duty.Tell dealer room close moment) calm = λ row found request there may. refl
+  at_dealers (actor.Firm number) (duty.Drop last moment) calm = λ row found. refl
+  at_dealers by other calm = tt
+
+  at_investors : (d : Duty) → IsCalm d → InvestorMay InvestorAdds h.config d
+  at_investors (duty.Relay room offer moment) calm = absurd calm
+  at_investors (duty.Gone room word moment) calm =
+      λ row found. withdrawn_makes h room.investor row found room word moment
+  at_investors (duty.Declined room moment) calm =
+      λ dealer row found. declined_makes h room.investor row found room dealer moment
+  at_investors (duty.Answer room response reply moment) calm = absurd calm
+  at_investors (duty.Close room moment) calm =
+      λ row found. expired_makes h room.investor row found room moment
+  at_investors other calm = tt
+
+  in_rooms : (by : Actor) (d : Duty) → IsCalm d → RoomMay RoomAdds h.config h.venue.facts by d
+  in_rooms by (duty.Hit room response word moment) calm = absurd calm
+  in_rooms by other calm =
+      any_room AnyRoom h.config h.venue.facts by other (λ room event left at. tt)
+
+  calm_makes : (d : Duty) → IsCalm d → Makes h (duty_effect h.config h.venue.facts h.by d)
+  calm_makes d calm = record {
+    facts = duty_walks DealerAdds InvestorAdds RoomAdds h.config h.venue.facts Adds walks h.by d
+        (at_dealers h.by d calm) (at_investors d calm) (in_rooms h.by d calm);
+    left = duty_each (DutyNow h (duty_effect h.config h.venue.facts h.by d)) h.config h.venue.facts
+        h.by d
+        (λ more left. calm_left (duty_effect h.config h.venue.facts h.by d) more d calm left);
+  }
+
+  -- All duties.
 
   turn_does : (left : Duty) → DutyOk h.config h.by left h.venue
       → Still (TradeDuty h.config h.by left) h.venue
@@ -51,7 +145,6 @@ module _ (h : Here) where
         (λ row is. shown_makes h dealer row is room ask moment stands),
     λ now later. tt,
   )
-  turn_does (duty.Ready room moment) ok stands = (readied_makes h room, λ now later. tt)
   turn_does (duty.Post room quote price valid_until moment) ok stands = (
     acting_makes h ok.0.named.who _
         (posted_makes h room ok.0.named.who quote price valid_until moment ok.0.within stands),
@@ -60,26 +153,6 @@ module _ (h : Here) where
   turn_does (duty.Relay room offer moment) ok stands = (
     investor_makes h room.investor _
         (λ row is. relayed_makes h room.investor row is room offer moment refl stands),
-    λ now later. tt,
-  )
-  turn_does (duty.Unpost room quote moment) ok stands = (
-    acting_makes h ok.named.who _
-        (unposted_makes h room (dealer_of ok.named.who.dealer ok.named.who.row) quote moment),
-    λ now later. tt,
-  )
-  turn_does (duty.Gone room word moment) ok stands = (
-    investor_makes h room.investor _
-        (λ row is. withdrawn_makes h room.investor row is room word moment),
-    λ now later. tt,
-  )
-  turn_does (duty.Decline room moment) ok stands = (
-    acting_makes h ok.who _
-        (rooms.declined_makes h room (dealer_of ok.who.dealer ok.who.row) moment),
-    λ now later. tt,
-  )
-  turn_does (duty.Declined room moment) ok stands = (
-    acting_makes h ok.who _ (investor_makes h room.investor _
-        (λ row is. declined_makes h room.investor row is room ok.who.row.name moment)),
     λ now later. tt,
   )
   turn_does (duty.Hit room response word moment) ok stands = (
@@ -92,19 +165,7 @@ module _ (h : Here) where
       (passed_makes h room response moment (stands h.venue (later_same h.venue)), λ now later. tt)
   turn_does (duty.Answer room response reply moment) ok stands =
       answer_makes h room response moment reply ok.0 ok.1 stands
-  turn_does (duty.Close room moment) ok stands = (
-    investor_makes h room.investor _ (λ row is. expired_makes h room.investor row is room moment),
-    λ now later. tt,
-  )
-  turn_does (duty.Tell dealer room close moment) ok stands = (
-    numbered_does (Makes h) (idle_makes h) h.config dealer _
-        (λ row is. told_makes h dealer row is room close moment),
-    λ now later. tt,
-  )
-  turn_does (duty.Drop last moment) ok stands = (
-    acting_makes h ok _ (dropped_makes h ok.dealer ok.row ok.row_is ok.by_is last moment),
-    λ now later. tt,
-  )
+  turn_does other ok stands = (calm_makes other tt, λ now later. tt)
 
   message_makes : (firm moment : ℕ) (bytes : List ℕ) → h.by ≡ actor.Firm firm
       → Makes h (message_effect h.config h.venue.facts firm moment bytes)

@@ -1,29 +1,27 @@
--- What comes to a dealer's desk, and what its messages and drops leave, brings what stands of
--- trades.
+-- What comes to a dealer's desk, and what its messages leave, brings what stands of trades.
 use Rattle.laws_days.proofs.Common.{Bool, List, None, Option, Some, ℕ, [], ap, arith, false}
 use Rattle.laws_days.proofs.Common.{filter_map, if◌then◌else◌, inl, inr, length, map, option_map}
 use Rattle.laws_days.proofs.Common.{option_to_list, refl, true, ◌+◌, ◌-◌, ◌∙◌, ◌∷◌, ◌≡◌, ◌≤◌}
-use Rattle.laws_days.proofs.Common.{filter_map-append, Ask, Close, Duty, RoomRef}
+use Rattle.laws_days.proofs.Common.{filter_map-append, Ask, Duty, RoomRef}
 use Rattle.laws_days.proofs.Common.{Settled, dealer_numbered, DealerRow, Quoted, slice_get}
 use Rattle.laws_days.proofs.Common.{event_facts, verdict_facts, dealer_verdict, AcceptedQuote}
-use Rattle.laws_days.proofs.Common.{StandingQuote, DealerVerdict, Effect, dealer_of, drop_at}
-use Rattle.laws_days.proofs.Common.{dropped_by, received_by_dealer, settlement_of, told_to}
+use Rattle.laws_days.proofs.Common.{DealerVerdict, Effect, dealer_of}
+use Rattle.laws_days.proofs.Common.{received_by_dealer, settlement_of}
 use Rattle.laws_days.proofs.Common.{facts_grown, rooms_grown, AuditTrail, DealerEntry}
-use Rattle.laws_days.proofs.Common.{book_by, entries_of, facts_of, rooms_by, Every, every_both, In}
+use Rattle.laws_days.proofs.Common.{book_by, entries_of, facts_of, rooms_by, Every, In}
 use Rattle.laws_days.proofs.Common.{in_right, dealer_grown, own_trail, AtDealer, of_dealer}
-use Rattle.laws_days.proofs.Common.{number_in, settled_facts, is_some, answer_to_drop}
-use Rattle.laws_days.proofs.Common.{Shown, in_left, message_by}
+use Rattle.laws_days.proofs.Common.{number_in, settled_facts, is_some}
+use Rattle.laws_days.proofs.Common.{DealerEvent, Shown, ShownIn, in_left, message_by, shown_room}
+use Rattle.laws_days.proofs.Common.{subst, sym}
 use Rattle.market_terms.specs.declared.duties.Duty.TheVariants as duty
 use Rattle.laws_days.specs.AcceptedQuotes.{AcceptOk, verdict_accepts}
-use Rattle.laws_days.specs.ActionCases.{told_does}
-use Rattle.dealer_desk.specs.DealerFacts.{quote_to_drop}
 use Rattle.dealer_desk.specs.DealerOutput.{goes_through, is_withdrawn, post_of}
-use Rattle.dealer_desk.specs.DealerOutput.{room_of, unpost_dropped, verdict_duty}
+use Rattle.dealer_desk.specs.DealerOutput.{room_of, verdict_duty}
 use Rattle.dealer_desk.specs.declared.events.DealerEvent.TheVariants as event
 use Rattle.dealer_desk.specs.declared.standing.Withdrawal.TheVariants as by_way
 use Rattle.dealer_desk.specs.declared.verdicts.DealerVerdict.TheVariants as verdict
 use Rattle.venue_places.specs.declared.actors.Actor.TheVariants as actor
-use Rattle.step_replay.specs.Actions.{at_dealer, left_by, left_by_drop, shown_to}
+use Rattle.step_replay.specs.Actions.{at_dealer, left_by, shown_to}
 use Rattle.laws_days.proofs.ListLemmas.{cases_some}
 use Rattle.laws_days.proofs.ShownRequests.{shown_in}
 use Rattle.laws_days.proofs.VenueInvariant.{DeskOk}
@@ -31,7 +29,7 @@ use Rattle.laws_days.proofs.VenueParts.{Later, Still, number_later}
 use Rattle.laws_days.proofs.VenueSteps.{Here, day, to_now, trail_of}
 use Rattle.laws_trades.proofs.TradeLists.{get_grown, get_next}
 use Rattle.laws_trades.proofs.TradeParts.{AskOf, ShownAs}
-use Rattle.laws_trades.proofs.TradeSteps.{DutyNow, Makes, desk_facts, idle_makes, unless_makes}
+use Rattle.laws_trades.proofs.TradeSteps.{DutyNow, FactNow, Makes, desk_facts, unless_makes}
 use Rattle.laws_trades.proofs.TradeSteps.{when_makes}
 
 -- a quote that was accepted stays so
@@ -68,21 +66,19 @@ module _ (h : Here) (dealer : ℕ) (row : DealerRow)
   desk : DeskOk h.config h.venue.facts dealer row
   desk = h.stood.desks dealer row is
 
-  -- A notice, and a request that is shown.
+  -- An event by which no room is shown, and a request that is shown.
 
-  pub told_makes : (room : RoomRef) (close : Close) (moment : ℕ)
-      → Makes h (told_to h.config h.venue.facts room close moment (dealer_of dealer row))
+  pub unshown_adds : (more : DealerEvent) (duties : List Duty) → shown_room more ≡ None
+      → Every (FactNow h (at_dealer h.config h.venue.facts (dealer_of dealer row) more duties))
+      (at_dealer h.config h.venue.facts (dealer_of dealer row) more duties).facts
   unfolding entries_of
-  told_makes room close moment =
-      told_does (Makes h) (idle_makes h) h.config h.venue.facts (dealer_of dealer row) close moment
-      (number_in rooms room) (λ number.
-      let more = event.Told number close moment in
-      record {
-        facts = desk_facts h (at_dealer h.config h.venue.facts (dealer_of dealer row) more []) dealer
-            (event_facts h.config.date row (book_by trail) more) []
-            (option_to_list (message_by h.config.date row trail more)) tt;
-        left = tt;
-      })
+  unshown_adds more duties none =
+      let effect = at_dealer h.config h.venue.facts (dealer_of dealer row) more duties in
+      desk_facts h effect dealer (event_facts h.config.date row (book_by trail) more)
+      (option_to_list (shown_room more)) (option_to_list (message_by h.config.date row trail more))
+      (subst (λ (found : Option RoomRef).
+      Every (λ (room : RoomRef). FactNow h effect (AtDealer dealer (ShownIn room)))
+      (option_to_list found)) (sym none) tt)
 
   pub shown_makes : (room : RoomRef) (ask : Ask) (moment : ℕ)
       → Still (λ now. AskOf now.facts room ask) h.venue
@@ -114,7 +110,7 @@ module _ (h : Here) (dealer : ℕ) (row : DealerRow)
         left = tt;
       })
 
-  -- What a message leaves, and a drop.
+  -- What a message leaves.
 
   module _ (by_is : h.by ≡ actor.Firm dealer) (effect : Effect) where
     -- a duty in the room with a number, where something holds
@@ -160,19 +156,6 @@ module _ (h : Here) (dealer : ℕ) (row : DealerRow)
     said_left moment (verdict.DropsFollow last) settlement accepts quoted = (λ now later. tt, tt)
     said_left moment other settlement accepts quoted = tt
 
-    dropped_left : (moment : ℕ) (settlement : Option Settled) (own : Option StandingQuote)
-        → Every (DutyNow h effect) (option_to_list (unpost_dropped rooms moment settlement own))
-    dropped_left moment settlement None = tt
-    dropped_left moment settlement (Some own) =
-        room_left (is_withdrawn settlement) own.quote.request
-        (λ room. duty.Unpost room own.quote.number moment) (λ room goes found. λ now later. tt)
-
-    further_left : (b : Bool) (last moment : ℕ)
-        → Every (DutyNow h effect)
-        (option_to_list (if b then Some (duty.Drop last moment) else None))
-    further_left true last moment = (λ now later. tt, tt)
-    further_left false last moment = tt
-
   pub said_makes : h.by ≡ actor.Firm dealer → (moment : ℕ) (bytes : List ℕ)
       → Makes h (received_by_dealer h.config h.venue.facts moment bytes (dealer_of dealer row))
   unfolding entries_of event_facts
@@ -193,23 +176,4 @@ module _ (h : Here) (dealer : ℕ) (row : DealerRow)
               own_trail dealer entries,
               facts_grown h.config.date row trail more,
             ) (in_right (Quoted quote) (facts_of trail) _ (inr quoted)));
-      })
-
-  pub dropped_makes : h.by ≡ actor.Firm dealer → (last moment : ℕ)
-      → Makes h (dropped_by h.config h.venue.facts last moment (dealer_of dealer row))
-  unfolding entries_of event_facts
-  dropped_makes by_is last moment =
-      let entries = entries_of h.config.date row trail (drop_at trail last moment) in
-      let effect : Effect = record {
-        facts = map (AtDealer dealer) entries;
-        duties = left_by_drop h.config h.venue.facts last moment (dealer_of dealer row);
-      } in
-      when_makes h _ effect (λ test. record {
-        facts = desk_facts h effect dealer
-            (event_facts h.config.date row (book_by trail) (drop_at trail last moment)) []
-            (option_to_list (message_by h.config.date row trail (drop_at trail last moment))) tt;
-        left = every_both (DutyNow h effect) _ _
-            (dropped_left by_is effect moment (answer_to_drop trail last)
-            (quote_to_drop (book_by trail) last))
-            (further_left by_is effect _ last moment);
       })

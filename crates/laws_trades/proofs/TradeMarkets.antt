@@ -193,13 +193,12 @@ module _ (h : Here) where
 
     pub withdrawn_makes : investor_numbered h.config firm ≡ Some row → (room : RoomRef)
         (word moment : ℕ)
-        → Makes h (where_known h.venue.facts room.n None
-        (at_investor.QuoteGone room.n word moment) market)
+        → Makes h (at_market h.venue.facts market (at_investor.QuoteGone room.n word moment) [])
     unfolding event_facts event_messages
     withdrawn_makes row_is room word moment =
         let event = at_investor.QuoteGone room.n word moment in
         let effect = at_market h.venue.facts market event [] in
-        when_makes h _ effect (λ test. event_makes event
+        event_makes event
         (elim (open_request (book_of desk_facts) room.n)
         as (λ own. Every (λ fact. FactNow h effect (AtInvestor firm (AtDesk fact)))
         (withdrawal_facts room.n word own)) [
@@ -208,29 +207,29 @@ module _ (h : Here) where
         ])
         (harmless_sent effect firm row row_is _ moment _
         (withdrawal_harmless market desk_facts word (open_request (book_of desk_facts) room.n)
-        (open_asked desk_facts room.n))))
+        (open_asked desk_facts room.n)))
 
     pub declined_makes : investor_numbered h.config firm ≡ Some row → (room : RoomRef)
         (dealer : List ℕ) (moment : ℕ)
-        → Makes h (where_known h.venue.facts room.n None
-        (at_investor.DealerDeclined room.n dealer moment) market)
+        → Makes h (at_market h.venue.facts market
+        (at_investor.DealerDeclined room.n dealer moment) [])
     unfolding event_facts event_messages
     declined_makes row_is room dealer moment =
         let event = at_investor.DealerDeclined room.n dealer moment in
         let effect = at_market h.venue.facts market event [] in
-        when_makes h _ effect (λ test. event_makes event tt
+        event_makes event tt
         (harmless_sent effect firm row row_is _ moment _
         (decline_harmless market desk_facts dealer (open_request (book_of desk_facts) room.n)
-        (open_asked desk_facts room.n))))
+        (open_asked desk_facts room.n)))
 
     pub expired_makes : investor_numbered h.config firm ≡ Some row → (room : RoomRef)
         (moment : ℕ)
-        → Makes h (where_known h.venue.facts room.n None (at_investor.Closed room.n moment) market)
+        → Makes h (at_market h.venue.facts market (at_investor.Closed room.n moment) [])
     unfolding event_facts event_messages
     expired_makes row_is room moment =
         let event = at_investor.Closed room.n moment in
         let effect = at_market h.venue.facts market event [] in
-        when_makes h _ effect (λ test. event_makes event
+        event_makes event
         (elim (request_numbered (book_of desk_facts) room.n)
         as (λ own. Every (λ fact. FactNow h effect (AtInvestor firm (AtDesk fact)))
         (expiry_facts room.n own)) [
@@ -239,7 +238,7 @@ module _ (h : Here) where
         ])
         (harmless_sent effect firm row row_is _ moment _
         (expiry_harmless market desk_facts (request_numbered (book_of desk_facts) room.n)
-        (numbered_asked desk_facts room.n))))
+        (numbered_asked desk_facts room.n)))
 
     -- A message.
 

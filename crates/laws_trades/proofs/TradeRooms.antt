@@ -2,22 +2,24 @@
 use Rattle.laws_days.proofs.Common.{Bool, List, Option, Some, ℕ, [], if◌then◌else◌, map, refl}
 use Rattle.laws_days.proofs.Common.{subst, sym, true, false, ◌&&◌, ◌∷◌, ◌∙◌, ◌≡◌, nat_le, Ask}
 use Rattle.laws_days.proofs.Common.{Duty, ResponseRef, RoomRef, where_so, RoomFact, Posted}
-use Rattle.laws_days.proofs.Common.{Opened, Readied, Ended, is_open, is_opening, is_vacant}
-use Rattle.laws_days.proofs.Common.{request_of, End, where_follows, Effect, Dealer, Configuration}
+use Rattle.laws_days.proofs.Common.{Opened, Ended, is_open, is_vacant}
+use Rattle.laws_days.proofs.Common.{request_of, End, where_follows, Effect, Configuration}
 use Rattle.laws_days.proofs.Common.{DealerRow, dealer_numbered, dealer_of, word_for, nothing, in_room}
 use Rattle.laws_days.proofs.Common.{Fact, Every, every_both, InRoom, sweep_effect}
 use Rattle.fix_fields.specs.Frame.{IsValue}
 use Rattle.market_terms.specs.declared.duties.Duty.TheVariants as duty
-use Rattle.request_room.specs.Book.{event_facts, expired, may_expire, may_unpost, passed}
+use Rattle.request_room.specs.Book.{event_facts, expired, may_expire, passed}
 use Rattle.request_room.specs.Book.{quote_posted}
-use Rattle.request_room.specs.RoomFacts.{Noted, Unposted, hears, takes_quotes}
+use Rattle.request_room.specs.RoomFacts.{hears, takes_quotes}
+use Rattle.request_room.specs.declared.events.RoomEvent.{RoomEvent}
 use Rattle.request_room.specs.declared.events.RoomEvent.TheVariants as at_room
 use Rattle.request_room.specs.declared.requests.RoomRequest.{RoomRequest}
 use Rattle.venue_steps.specs.RoomSteps.{close_for, dealers_of, duties_of_pass, reply_to_pass}
 use Rattle.venue_steps.specs.RoomSteps.{shown_then_ready, told_in}
 use Rattle.venue_places.specs.declared.actors.Actor.TheVariants as actor
 use Rattle.step_replay.specs.Actions.{offer_of}
-use Rattle.step_replay.specs.LineActions.{declined_by, opened, posted_by, unposted_by}
+use Rattle.step_replay.specs.LineActions.{opened, posted_by}
+use Rattle.laws_days.specs.DutyWalk.{NoHitThere}
 use Rattle.laws_days.proofs.ListLemmas.{every_map}
 use Rattle.laws_days.proofs.VenueInvariant.{ByDealer}
 use Rattle.laws_days.proofs.VenueKinds.{in_it, known}
@@ -57,6 +59,15 @@ module _ (h : Here) (room : RoomRef) where
         left = left;
       })
 
+  -- what an event adds that is no hit: nothing of a trade
+  pub untraded : (more : RoomEvent) (duties : List Duty) → NoHitThere more
+      → Every (FactNow h (in_it h room (event_facts (known h room) more) duties))
+      (map (InRoom room) (event_facts (known h room) more))
+  unfolding event_facts
+  untraded (at_room.Hit word moment settlement) duties no_hit = absurd no_hit
+  untraded more duties no_hit =
+      room_facts h (in_it h room (event_facts (known h room) more) duties) room _ _ (λ now later. tt)
+
   -- that a dealer is told is nothing of a trade yet
   pub told_left : (effect : Effect) (end : End) (moment : ℕ)
       → Every (DutyNow h effect) (told_in (known h room) room end moment)
@@ -81,10 +92,6 @@ module _ (h : Here) (room : RoomRef) where
       (λ dealer among. λ now later. asks now (to_now h effect later)))
       (λ now later. tt, tt)))
 
-  pub readied_makes : Makes h (in_room h.config h.venue.facts room true at_room.Ready [])
-  unfolding event_facts
-  readied_makes = step_makes _ (is_opening (known h room)) Readied [] (λ now later. tt) tt
-
   pub posted_makes : (who : ByDealer h.config h.by) (quote price : ℕ) (valid_until : Option ℕ)
       (moment : ℕ) → (nat_le 1 quote && nat_le quote who.row.quotes) ≡ true
       → Still (λ now. (dealer : ℕ) × (h.by ≡ actor.Firm dealer)
@@ -106,29 +113,6 @@ module _ (h : Here) (room : RoomRef) where
       let same : of.0 ≡ who.dealer = cc in
       offer_from h.config now.facts room who.dealer who.row quote price valid_until who.row_is within
       (subst (λ (d : ℕ). QuoteOf now.facts d room quote price valid_until) same of.2)))
-
-  pub unposted_makes : (dealer : Dealer) (quote moment : ℕ)
-      → Makes h (unposted_by h.config h.venue.facts room quote moment dealer)
-  unfolding event_facts
-  unposted_makes dealer quote moment =
-      let word = word_for h.config dealer quote in
-      let may = may_unpost (known h room) dealer.number word in
-      let gone = duty.Gone room word moment in
-      let follows = hears (known h room) dealer.number && may in
-      step_makes _ may (Unposted dealer.number word) (where_follows follows gone)
-      (λ now later. tt)
-      (where_left h _ follows gone (λ now later. tt))
-
-  pub declined_makes : (dealer : Dealer) (moment : ℕ)
-      → Makes h (declined_by h.config h.venue.facts room moment dealer)
-  unfolding event_facts
-  declined_makes dealer moment =
-      let takes = takes_quotes (known h room) in
-      let declined = duty.Declined room moment in
-      let follows = hears (known h room) dealer.number && takes in
-      step_makes _ takes (Noted dealer.number) (where_follows follows declined)
-      (λ now later. tt)
-      (where_left h _ follows declined (λ now later. tt))
 
   -- Ends by which nothing is traded.
 
