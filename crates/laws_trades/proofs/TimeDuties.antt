@@ -1,5 +1,5 @@
 -- What each duty, message and sweep brings of the moments of trades.
-use Rattle.std.proofs.Common.{◌≡◌, ◌&&◌, ℕ, Bool, true, false, List, [], ◌∷◌, ◌++◌, Some, is_some}
+use Rattle.std.proofs.Common.{◌≡◌, ℕ, Bool, true, false, List, [], ◌∷◌, ◌++◌, map, Some, is_some}
 use Rattle.std.proofs.Common.{refl, sym, ap, ◌∙◌, subst, inl, inr, if◌then◌else◌}
 use Rattle.std.specs.Option.{option_to_list}
 use Rattle.std.proofs.lemmas.Bool.{false≢true}
@@ -17,8 +17,7 @@ use Rattle.venue_places.specs.Dealers.{dealer_at, dealer_of}
 use Rattle.venue_places.specs.declared.actors.Actor.{Actor}
 use Rattle.venue_places.specs.declared.actors.Actor.TheVariants as actor
 use Rattle.venue_steps.specs.InvestorSteps.{replies_to}
-use Rattle.venue_steps.specs.RoomSteps.{dealers_of, duties_of_decline, duties_of_expire}
-use Rattle.venue_steps.specs.RoomSteps.{duties_of_open, duties_of_post, duties_of_unpost}
+use Rattle.venue_steps.specs.RoomSteps.{dealers_of, duties_of_expire}
 use Rattle.venue_steps.specs.RoomSteps.{duties_of_pass}
 use Rattle.dealer_desk.specs.declared.events.DealerEvent.{DealerEvent}
 use Rattle.investor_desk.specs.InvestorDesk.{market_for, market_of}
@@ -29,32 +28,31 @@ use Rattle.investor_desk.specs.declared.events.InvestorEvent.{InvestorEvent}
 use Rattle.investor_desk.specs.declared.events.InvestorEvent.TheVariants as at_investor
 use Rattle.investor_desk.specs.declared.verdicts.InvestorVerdict.{InvestorVerdict}
 use Rattle.investor_desk.specs.declared.verdicts.InvestorVerdict.TheVariants as asks
-use Rattle.request_room.specs.Book.{expired, may_expire, may_unpost, passed, quote_posted}
+use Rattle.request_room.specs.Book.{expired, may_expire, passed}
 use Rattle.request_room.specs.Book as book
-use Rattle.request_room.specs.RoomFacts.{Ended, Noted, Opened, Posted, Readied, Unposted, hears}
-use Rattle.request_room.specs.RoomFacts.{is_open, is_opening, is_vacant, request_of, takes_quotes}
+use Rattle.request_room.specs.RoomFacts.{Ended}
+use Rattle.request_room.specs.RoomFacts.{is_open, request_of}
 use Rattle.request_room.specs.declared.events.RoomEvent.{RoomEvent}
 use Rattle.request_room.specs.declared.events.RoomEvent.TheVariants as at_room
-use Rattle.step_replay.specs.ActionKinds.{event_in}
-use Rattle.step_replay.specs.Actions.{at_dealer, at_market, done_by, done_for, left_by_investor}
-use Rattle.step_replay.specs.Actions.{offer_of, received_by_dealer}
-use Rattle.step_replay.specs.Actions.{received_by_investor, word_for}
+use Rattle.step_replay.specs.Actions.{Effect, at_dealer, at_market, done_by, done_for, left_by_investor}
+use Rattle.step_replay.specs.Actions.{received_by_dealer}
+use Rattle.step_replay.specs.Actions.{received_by_investor}
 use Rattle.step_replay.specs.DutyEffects.{duty_effect, message_effect, sweep_effect}
 use Rattle.step_replay.specs.GrowthLemmas.{in_right}
 use Rattle.step_replay.specs.InvestorTrail as investor_trail
 use Rattle.step_replay.specs.InvestorTrail.{InvestorEntry}
 use Rattle.step_replay.specs.Lists.{Every, In}
-use Rattle.step_replay.specs.VenueFacts.{Fact, of_investor, of_room}
-use Rattle.laws_days.specs.ActionCases.{numbered_does}
-use Rattle.laws_days.specs.DutyWalk.{DealerMay, InvestorMay, NoHitThere, RoomMay, Walks, duty_walks}
-use Rattle.laws_days.specs.DutyWalk.{settlement_found, sweep_walks}
-use Rattle.laws_trades.specs.TradeTimes.{IsAwarded, IsHitAt, room_at}
-use Rattle.laws_trades.proofs.TimeParts.{Brings, DutyTimed, none}
+use Rattle.step_replay.specs.VenueFacts.{Fact, InRoom, of_investor, of_room}
+use Rattle.laws_days.specs.ActionCases.{if_does, numbered_does}
+use Rattle.laws_days.specs.DutyWalk.{AnyRoom, DealerMay, InvestorMay, NoHitThere, RoomMay, Walks}
+use Rattle.laws_days.specs.DutyWalk.{any_room, duty_walks, settlement_found}
+use Rattle.laws_days.specs.LeftBehind.{LeftBy, duty_each}
+use Rattle.laws_trades.specs.TradeTimes.{IsAwarded, room_at}
+use Rattle.laws_trades.proofs.TimeParts.{Brings, DutyTimed, FactTimed, none}
 use Rattle.laws_trades.proofs.TimeDesks.{MayReply, dropped_brings, grown, invested_brings}
 use Rattle.laws_trades.proofs.TimeDesks.{market_brings, said_brings, shown_brings, so_facts}
 use Rattle.laws_trades.proofs.TimeDesks.{told_brings}
-use Rattle.laws_trades.proofs.TimeRooms.{expired_left, follows_so, hit_brings}
-use Rattle.laws_trades.proofs.TimeRooms.{opened_left, passed_left, plain_room}
+use Rattle.laws_trades.proofs.TimeRooms.{expired_left, hit_brings, passed_left, plain_room, so_timed}
 
 module _ (config : Configuration) (facts : List Fact) where
   -- A reply.
@@ -85,22 +83,35 @@ module _ (config : Configuration) (facts : List Fact) where
   InvestorTimed number row event = Brings config facts (at_market facts (market_of config number row) event [])
 
   abbrev RoomTimed : RoomRef → RoomEvent → List Duty → Type 0
-  RoomTimed room (at_room.Hit word moment settlement) left = IsHitAt config facts room word moment
-  RoomTimed room event left = Brings config facts (event_in config facts room event left)
+  RoomTimed room event left = NoHitThere event
 
-  in_the_room : (room : RoomRef) (event : RoomEvent) (left : List Duty) → NoHitThere event
-      → RoomTimed room event left → Brings config facts (event_in config facts room event left)
-  in_the_room room (at_room.Hit word moment settlement) left no_hit is = absurd no_hit
-  in_the_room room event left no_hit is = is
+  -- what an event adds that is no hit: no award
+  unawarded : (now : List Fact) (room : RoomRef) (event : RoomEvent) → NoHitThere event
+      → Every (FactTimed config now) (map (InRoom room) (book.event_facts (of_room room facts) event))
+  unfolding book.event_facts
+  unawarded now room (at_room.Hit word moment settlement) no_hit = absurd no_hit
+  unawarded now room (at_room.Pass moment) no_hit =
+      so_timed config facts now room _ _ (λ kind. absurd (false≢true kind))
+  unawarded now room (at_room.Expire moment) no_hit =
+      so_timed config facts now room _ _ (λ kind. absurd (false≢true kind))
+  unawarded now room event no_hit = so_timed config facts now room _ _ tt
 
-  walks : Walks DealerTimed InvestorTimed RoomTimed config facts (Brings config facts)
+  -- what an action brings, where what it leaves is so
+  abbrev BringsLeft : Effect → Type 0
+  BringsLeft effect =
+      Every (DutyTimed config (facts ++ effect.facts)) effect.duties → Brings config facts effect
+
+  walks : Walks DealerTimed InvestorTimed RoomTimed config facts BringsLeft
   walks = record {
-    idle = none config facts;
-    at_a_dealer = λ number row found event left is. is;
-    at_an_investor = λ number row found event is. is;
-    in_a_room = λ room there event no_hit left is. in_the_room room event left no_hit is;
-    by_a_hit = λ room there response word moment is.
-        hit_brings config facts room response word moment is (settlement_found config facts room word moment);
+    idle = λ left. none config facts;
+    at_a_dealer = λ number row found event duties is left. is;
+    at_an_investor = λ number row found event is left. is;
+    in_a_room = λ room there event no_hit duties is left. record {
+      facts_are = unawarded (facts ++ map (InRoom room) (book.event_facts (of_room room facts) event))
+          room event no_hit;
+      duties_are = left;
+    };
+    by_a_hit = λ room there response word moment is. absurd is;
   }
 
   at_dealers : (by : Actor) (d : Duty) → DutyTimed config facts d → DealerMay DealerTimed config facts by d
@@ -138,53 +149,53 @@ module _ (config : Configuration) (facts : List Fact) where
       }) tt
   at_investors other is = tt
 
-  in_rooms : (by : Actor) (d : Duty) → DutyTimed config facts d → RoomMay RoomTimed config facts by d
-  unfolding book.event_facts
-  in_rooms by (duty.Open room ask dealers moment) is =
-      plain_room config facts room (is_vacant (of_room room facts)) (Opened (record { ask = ask; dealers = dealers }))
-      (duties_of_open (of_room room facts) room ask dealers moment) (λ now. tt)
-      (λ now. opened_left config facts now room ask dealers moment (is_vacant (of_room room facts)))
-  in_rooms by (duty.Ready room moment) is =
-      plain_room config facts room (is_opening (of_room room facts)) Readied [] (λ now. tt) (λ now. tt)
-  in_rooms (actor.Firm number) (duty.Post room quote price valid_until moment) is = λ row found.
-      let known = of_room room facts in
-      let word = word_for config (dealer_of number row) quote in
-      let offer = offer_of config (dealer_of number row) quote price valid_until in
-      plain_room config facts room (takes_quotes known) (Posted (quote_posted number word price valid_until))
-      (duties_of_post known room number offer moment) (λ now. tt)
-      (λ now. follows_so config facts now (hears known number && takes_quotes known)
-      (duty.Relay room offer moment) tt)
-  in_rooms (actor.Firm number) (duty.Unpost room quote moment) is = λ row found.
-      let known = of_room room facts in
-      let word = word_for config (dealer_of number row) quote in
-      plain_room config facts room (may_unpost known number word) (Unposted number word)
-      (duties_of_unpost known room number word moment) (λ now. tt)
-      (λ now. follows_so config facts now (hears known number && may_unpost known number word)
-      (duty.Gone room word moment) tt)
-  in_rooms (actor.Firm number) (duty.Decline room moment) is = λ row found.
-      let known = of_room room facts in
-      plain_room config facts room (takes_quotes known) (Noted number)
-      (duties_of_decline known room number moment) (λ now. tt)
-      (λ now. follows_so config facts now (hears known number && takes_quotes known)
-      (duty.Declined room moment) tt)
-  in_rooms by (duty.Hit room response word moment) is = is
-  in_rooms by (duty.Pass room response moment) is =
-      plain_room config facts room (is_open (of_room room facts)) (Ended passed moment)
+  -- a duty that is no response
+  abbrev IsPlain : Duty → Type 0
+  IsPlain (duty.Hit room response word moment) = ⊥
+  IsPlain (duty.Pass room response moment) = ⊥
+  IsPlain other = Unit {0}
+
+  plain_left : (now : List Fact) (more d : Duty) → IsPlain d → LeftBy more d
+      → DutyTimed config now more
+  plain_left now (duty.Hit room response word moment) d plain left = absurd left
+  plain_left now (duty.Answer at to answer when) (duty.Hit room response word moment) plain left = absurd plain
+  plain_left now (duty.Answer at to answer when) (duty.Pass room response moment) plain left = absurd plain
+  plain_left now (duty.Answer at to answer when) other plain left = absurd left
+  plain_left now (duty.Tell dealer at close when) (duty.Hit room response word moment) plain left = absurd plain
+  plain_left now (duty.Tell dealer at close when) (duty.Pass room response moment) plain left = absurd plain
+  plain_left now (duty.Tell dealer at close when) other plain left = absurd left
+  plain_left now more d plain left = tt
+
+  in_rooms : (by : Actor) (d : Duty) → IsPlain d → RoomMay RoomTimed config facts by d
+  in_rooms by (duty.Hit room response word moment) plain = absurd plain
+  in_rooms by other plain = any_room AnyRoom config facts by other (λ room event left at. tt)
+
+  plain_brings : (by : Actor) (d : Duty) → IsPlain d → DutyTimed config facts d
+      → Brings config facts (duty_effect config facts by d)
+  plain_brings by d plain is =
+      let now = facts ++ (duty_effect config facts by d).facts in
+      duty_walks DealerTimed InvestorTimed RoomTimed config facts BringsLeft walks by d
+      (at_dealers by d is) (at_investors d is) (in_rooms by d plain)
+      (duty_each (DutyTimed config now) config facts by d (λ more left. plain_left now more d plain left))
+
+  pub duty_brings : (by : Actor) (d : Duty) → DutyTimed config facts d → Brings config facts (duty_effect config facts by d)
+  unfolding duty_effect book.event_facts
+  duty_brings by (duty.Hit room response word moment) is =
+      if_does (Brings config facts) (none config facts) _ _
+      (hit_brings config facts room response word moment is (settlement_found config facts room word moment))
+  duty_brings by (duty.Pass room response moment) is =
+      if_does (Brings config facts) (none config facts) _ _
+      (plain_room config facts room (is_open (of_room room facts)) (Ended passed moment)
       (duties_of_pass (of_room room facts) room response moment)
       (λ now kind. absurd (false≢true kind))
       (λ now. passed_left config facts now room response moment (dealers_of (request_of (of_room room facts)))
-      (is_open (of_room room facts)))
-  in_rooms by other is = tt
-
-  pub duty_brings : (by : Actor) (d : Duty) → DutyTimed config facts d → Brings config facts (duty_effect config facts by d)
-  duty_brings by d is =
-      duty_walks DealerTimed InvestorTimed RoomTimed config facts (Brings config facts) walks by d
-      (at_dealers by d is) (at_investors d is) (in_rooms by d is)
+      (is_open (of_room room facts))))
+  duty_brings by other is = plain_brings by other tt is
 
   pub sweep_brings : (room : RoomRef) (moment : ℕ) → Brings config facts (sweep_effect config facts room moment)
-  unfolding book.event_facts
+  unfolding sweep_effect book.event_facts
   sweep_brings room moment =
-      sweep_walks DealerTimed InvestorTimed RoomTimed config facts (Brings config facts) walks room moment
+      if_does (Brings config facts) (none config facts) _ _
       (plain_room config facts room (may_expire (of_room room facts) moment) (Ended expired moment)
       (duties_of_expire (of_room room facts) room moment)
       (λ now kind. absurd (false≢true kind))

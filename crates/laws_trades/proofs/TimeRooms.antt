@@ -2,7 +2,6 @@
 use Rattle.std.proofs.Common.{◌≡◌, ℕ, Bool, true, false, List, [], ◌∷◌, ◌++◌, map, Option}
 use Rattle.std.proofs.Common.{Some, None, refl, sym, ap, ◌∙◌, subst, inl, if◌then◌else◌, Result, Ok}
 use Rattle.std.proofs.Common.{Err}
-use Rattle.market_terms.specs.declared.asks.Ask.{Ask}
 use Rattle.market_terms.specs.declared.closes.HitRefusal.{HitRefusal}
 use Rattle.market_terms.specs.declared.closes.Reply.TheVariants as reply
 use Rattle.market_terms.specs.declared.duties.Duty.{Duty}
@@ -12,13 +11,13 @@ use Rattle.market_terms.specs.declared.rooms.RoomRef.{RoomRef}
 use Rattle.quote_word.specs.declared.settled.Settled.{Settled}
 use Rattle.venue_rows.specs.Rows.{Configuration}
 use Rattle.venue_steps.specs.RoomSteps.{close_for, dealers_of, hit_duties, reply_to_pass}
-use Rattle.venue_steps.specs.RoomSteps.{shown_then_ready, told_in, where_follows}
+use Rattle.venue_steps.specs.RoomSteps.{told_in}
 use Rattle.request_room.specs.Book.{award_of, end_by, expired, hit_outcome, hit_refusal, passed}
 use Rattle.request_room.specs.Book.{where_so}
 use Rattle.request_room.specs.Book as book
 use Rattle.request_room.specs.RoomFacts.{Ended, RoomFact, request_of}
 use Rattle.request_room.specs.declared.ends.End.{End}
-use Rattle.step_replay.specs.Actions.{QuoteRef, hit_with, lifting, nothing}
+use Rattle.step_replay.specs.Actions.{QuoteRef, hit_with, lifting}
 use Rattle.step_replay.specs.Actions.{quote_with_word}
 use Rattle.step_replay.specs.DealerTrail as dealer_trail
 use Rattle.step_replay.specs.EachLemmas.{every_both}
@@ -33,6 +32,13 @@ use Rattle.laws_trades.proofs.TimeParts.{Brings, DutyTimed, FactTimed, hit_grown
 
 module _ (config : Configuration) (facts : List Fact) where
   -- In a room.
+
+  -- a fact that stands where a test holds
+  pub so_timed : (now : List Fact) (room : RoomRef) (b : Bool) (fact : RoomFact)
+      → FactTimed config now (InRoom room fact)
+      → Every (FactTimed config now) (map (InRoom room) (where_so b fact))
+  so_timed now room true fact is = (is, tt)
+  so_timed now room false fact is = tt
 
   -- a fact that says nothing of an end, and duties that are of no hit
   pub plain_room : (room : RoomRef) (b : Bool) (fact : RoomFact) (duties : List Duty)
@@ -55,17 +61,6 @@ module _ (config : Configuration) (facts : List Fact) where
       → Every (DutyTimed config now) (map (λ dealer. duty.Tell dealer room (close_for expired dealer) moment) dealers)
   expired_so now room moment dealers =
       every_map (DutyTimed config now) (λ dealer. duty.Tell dealer room (close_for expired dealer) moment) (λ dealer. tt) dealers
-
-  pub opened_left : (now : List Fact) (room : RoomRef) (ask : Ask) (dealers : List ℕ) (moment : ℕ) (b : Bool)
-      → Every (DutyTimed config now) (if b then shown_then_ready room ask dealers moment else [])
-  opened_left now room ask dealers moment false = tt
-  opened_left now room ask dealers moment true =
-      every_both (DutyTimed config now) (map (λ dealer. duty.Show dealer room ask moment) dealers) (duty.Ready room moment ∷ [])
-      (every_map (DutyTimed config now) (λ dealer. duty.Show dealer room ask moment) (λ dealer. tt) dealers) (tt, tt)
-
-  pub follows_so : (now : List Fact) (b : Bool) (d : Duty) → DutyTimed config now d → Every (DutyTimed config now) (where_follows b d)
-  follows_so now true d is = (is, tt)
-  follows_so now false d is = tt
 
   pub passed_left : (now : List Fact) (room : RoomRef) (response : ResponseRef) (moment : ℕ) (dealers : List ℕ) (b : Bool)
       → Every (DutyTimed config now) (duty.Answer room response (reply_to_pass b) moment
