@@ -1,6 +1,6 @@
-//! Laws of trades: what the two sides of a trade are told is one thing; what may not become a trade,
-//! when a trade was made, and under which name it is printed. Each is a public function that does
-//! nothing, and its contract is the law.
+//! Laws of trades: both sides are told the same trade, what never becomes one, when a trade was made,
+//! and the name that it is printed under. Each is a public function that does nothing, and its
+//! contract is the law.
 //!
 //! - [`both_sides_of_a_trade_agree`]: where no duty is left, each answer 297=0 to an investor's hit
 //!   and each notice 694=1 to a dealer are the two sides of one trade, in one quote, bond, side,
