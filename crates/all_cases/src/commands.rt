@@ -16,6 +16,8 @@ use std::thread::Threads;
 pub(crate) struct Commands<'h, H: Threads + Wait + Sync> {
     rt: &'h H,
     inputs: Inputs,
+    /// The arguments of the last `run`, or `ends`.
+    words: String,
     /// How the last run ended.
     last: Ended,
 }
@@ -26,6 +28,7 @@ impl<'h, H: Threads + Wait + Sync> Commands<'h, H> {
         Commands {
             rt,
             inputs: Inputs::new(alloc),
+            words: String::new(alloc),
             last: Ended::nothing(alloc),
         }
     }
@@ -33,6 +36,7 @@ impl<'h, H: Threads + Wait + Sync> Commands<'h, H> {
     /// A case begins: nothing is left of the case before it.
     fn begin(&mut self, alloc: Global) {
         self.inputs = Inputs::new(alloc);
+        self.words = String::new(alloc);
         self.last = Ended::nothing(alloc);
     }
 
@@ -92,6 +96,7 @@ impl<'h, H: Threads + Wait + Sync> Commands<'h, H> {
     fn call(&mut self, call: &mut Call<'_>) -> Result<(), CaseFault> {
         match call.name {
             "run" => self.show(call),
+            "next" => self.show_next(call),
             "ends" => self.show_ends(call),
             "in_step" => self.show_in_step(call),
             "process" => self.show_process(call),
@@ -114,6 +119,7 @@ impl<'h, H: Threads + Wait + Sync> Commands<'h, H> {
 
     /// Runs the program with these arguments.
     fn run(&mut self, alloc: Global, words: &str) -> Result<(), CaseFault> {
+        self.words = String::from_str(alloc, words)?;
         let words = words_of(alloc, words)?;
         let ended = self.program(alloc).ran(words.as_slice(), self.inputs.paces);
         self.last = ended;
@@ -124,6 +130,20 @@ impl<'h, H: Threads + Wait + Sync> Commands<'h, H> {
     fn show(&mut self, call: &mut Call<'_>) -> Result<(), CaseFault> {
         self.run(call.alloc, call.words.rest())?;
         self.last.show(&mut call.answer)
+    }
+
+    /// `next LINE`: the last `run` or `ends` again, over an input with one more line: what it prints
+    /// behind what it printed before.
+    fn show_next(&mut self, call: &mut Call<'_>) -> Result<(), CaseFault> {
+        self.inputs.put(call.alloc, call.words.rest(), "\n")?;
+        let line = String::from_str(call.alloc, self.words.as_str())?;
+        let words = words_of(call.alloc, line.as_str())?;
+        let ended = self
+            .program(call.alloc)
+            .ran(words.as_slice(), self.inputs.paces);
+        ended.show_behind(self.last.out.as_slice(), &mut call.answer)?;
+        self.last = ended;
+        Ok(())
     }
 
     /// `ends FIRST LAST ARGUMENTS`: the same with the first and the last lines of what was printed.

@@ -33,7 +33,7 @@ impl Inputs {
             "<+" => self.put(call.alloc, call.words.rest(), ""),
             "<*" => self.put_often(call, "\n"),
             "<+*" => self.put_often(call, ""),
-            "framed" => self.put_framed(call.alloc, call.words.rest()),
+            "framed" | "fronts" | "forged" => self.put_frames(call),
             "empty" => self.empty(),
             "reader" => set(&mut self.paces.input, &mut call.words),
             "writer" => set(&mut self.paces.out, &mut call.words),
@@ -49,23 +49,68 @@ impl Inputs {
     }
 
     /// Puts a text and its end behind the input.
-    fn put(&mut self, alloc: Global, text: &str, end: &str) -> Result<(), CaseFault> {
+    pub(crate) fn put(&mut self, alloc: Global, text: &str, end: &str) -> Result<(), CaseFault> {
         let bytes = bytes_of(alloc, text)?;
         self.bytes.extend_from_slice(bytes.as_slice())?;
         self.bytes.extend_from_slice(end.as_bytes())?;
         Ok(())
     }
 
-    /// `framed LINE BODY`: a line that ends in the frame of BODY, which begins `35=`.
-    fn put_framed(&mut self, alloc: Global, text: &str) -> Result<(), CaseFault> {
-        let Some((line, fields)) = text.split_once(" 35=") else {
+    /// `framed LINE BODY`: a line that ends in the frame of BODY, which begins `35=`; `fronts`: such a
+    /// line with each front of the frame in turn, the whole last; `forged`: one with each bit of the
+    /// frame changed in turn.
+    fn put_frames(&mut self, call: &mut Call<'_>) -> Result<(), CaseFault> {
+        let alloc = call.alloc;
+        let Some((line, fields)) = call.words.rest().split_once(" 35=") else {
             return Err(CaseFault::Form);
         };
         let body = format!(in alloc; "35={fields}")?;
         let body = piped_bytes_of(alloc, body.as_str())?;
         let frame = frame_of(alloc, body.as_slice())?;
+        match call.name {
+            "fronts" => self.put_fronts(alloc, line, frame.as_slice()),
+            "forged" => self.put_forged(alloc, line, frame.as_slice()),
+            _ => self.put_behind(alloc, line, frame.as_slice()),
+        }
+    }
+
+    /// A line for each front of a frame.
+    fn put_fronts(&mut self, alloc: Global, line: &str, frame: &[u8]) -> Result<(), CaseFault> {
+        let mut front = Vec::new(alloc);
+        for byte in frame {
+            front.push(*byte)?;
+            self.put_behind(alloc, line, front.as_slice())?;
+        }
+        Ok(())
+    }
+
+    /// A line for each bit of a frame, with that bit changed.
+    fn put_forged(&mut self, alloc: Global, line: &str, frame: &[u8]) -> Result<(), CaseFault> {
+        for n in 0..frame.len() {
+            self.put_forged_byte(alloc, line, frame, n)?;
+        }
+        Ok(())
+    }
+
+    /// A line for each bit of a frame's n-th byte, with that bit changed.
+    fn put_forged_byte(
+        &mut self,
+        alloc: Global,
+        line: &str,
+        frame: &[u8],
+        n: usize,
+    ) -> Result<(), CaseFault> {
+        for bit in [1, 2, 4, 8, 16, 32, 64, 128] {
+            let forged = with_bit(alloc, frame, n, bit)?;
+            self.put_behind(alloc, line, forged.as_slice())?;
+        }
+        Ok(())
+    }
+
+    /// Puts a line, a space and bytes behind the input.
+    fn put_behind(&mut self, alloc: Global, line: &str, bytes: &[u8]) -> Result<(), CaseFault> {
         self.put(alloc, line, " ")?;
-        self.bytes.extend_from_slice(frame.as_slice())?;
+        self.bytes.extend_from_slice(bytes)?;
         self.bytes.push(b'\n')?;
         Ok(())
     }
@@ -82,6 +127,15 @@ impl Inputs {
         put_repeated(&mut self.bytes, many.as_slice(), times / AT_ONCE)?;
         put_repeated(&mut self.bytes, text.as_slice(), times % AT_ONCE)
     }
+}
+
+/// A frame with a bit of its n-th byte changed.
+fn with_bit(alloc: Global, frame: &[u8], n: usize, bit: u8) -> Result<Vec<u8>, CaseFault> {
+    let mut bytes = Vec::from_slice(alloc, frame)?;
+    if let Some(byte) = bytes.get_mut(n) {
+        *byte ^= bit;
+    }
+    Ok(bytes)
 }
 
 /// A text so many times.

@@ -6,10 +6,7 @@ pub(crate) fn run_place(file: &CaseFile<'_>, report: &mut Report) -> Result<(), 
     if text_cases::run_place(file, report)? {
         return Ok(());
     }
-    if place_cases::run_place(file, report)? {
-        return Ok(());
-    }
-    if !day_cases::run_place(file, report)? {
+    if !place_cases::run_place(file, report)? {
         report.refuse(file.place(), "no such place")?;
     }
     Ok(())

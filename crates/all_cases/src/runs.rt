@@ -122,6 +122,22 @@ impl Ended {
         push_lines(answer, "", end)
     }
 
+    /// Each line of standard output behind a text that it has to begin with; all, of a run that has
+    /// a fault.
+    pub(crate) fn show_behind(&self, front: &[u8], answer: &mut String) -> Result<(), CaseFault> {
+        if self.status != 0 || !self.err.is_empty() {
+            return self.show(answer);
+        }
+        let out = self.out.as_slice();
+        if !out.starts_with(front) {
+            return Err(CaseFault::Condition);
+        }
+        let Some(behind) = out.get(front.len()..) else {
+            return Err(CaseFault::Condition);
+        };
+        push_lines(answer, "", behind)
+    }
+
     /// Each line of standard output that tells what is noted beside a message.
     pub(crate) fn show_notes(&self, answer: &mut String) -> Result<(), CaseFault> {
         for line in self.out.split_inclusive(|byte| *byte == b'\n') {

@@ -1,7 +1,7 @@
 //! An investor's desk.
 use super::values::{REQUEST, behind_nine, offer, response};
 use case_lines::VENUE;
-use investor_desk::InvestorDesk;
+use investor_desk::{InvestorDesk, InvestorEvent};
 use market_terms::{Close, Duty, HitRefusal, Reply};
 use std::alloc::Global;
 use std::test::Fail;
@@ -33,6 +33,27 @@ fn an_investors_desk_is_called(rt: HostRuntime) -> Result<(), Fail> {
     desk.answered(1, &response(&rt, Some(1)), refused, moment)?;
     desk.closed(1, moment)?;
     assert!(rt; (desk.events().len(), desk.sent().len(), desk.lines().len()) == (6, 6, 1));
+    Ok(())
+}
+
+#[test]
+fn an_investors_desk_is_taken_apart(rt: HostRuntime) -> Result<(), Fail> {
+    let mut desk = desk_of_investor(rt.alloc())?;
+    assert!(rt; desk.date().digits().as_slice() == b"20250314".as_slice() && desk.firm() == 2);
+    let row = desk.row();
+    assert!(rt; (row.requests, row.open_limit, row.quantity) == (3, 2, 5_000_000));
+    desk.take(behind_nine(&rt, 7), b"x")?;
+    desk.closed(1, behind_nine(&rt, 8))?;
+    let (events, sent, lines) = desk.into_parts();
+    assert!(rt; (events.len(), sent.len(), lines.len()) == (2, 0, 0));
+    let Some(InvestorEvent::Received { moment, message }) = events.first() else {
+        return Err(Fail::from("bytes came"));
+    };
+    assert!(rt; *moment == behind_nine(&rt, 7) && message.as_bytes() == b"x".as_slice());
+    let Some(InvestorEvent::Closed { request, moment }) = events.last() else {
+        return Err(Fail::from("a request was closed"));
+    };
+    assert!(rt; *moment == behind_nine(&rt, 8) && *request == 1);
     Ok(())
 }
 

@@ -1,20 +1,21 @@
 //! Cases as lines of text: what drives a place by calls, and what runs a file of them.
 //!
 //! ```text
-//! # Cancels of one quote.
-//! place dealer_desk
+//! # A quote that answers nothing.
+//! place commands
 //!
 //! let <a> 48=BONDA0000001|22=4
 //!
-//! block ONE_QUOTED
-//! open DLR1 4 2000000 T1
-//! say T1 09:00:10 S 131=R1|117=a1|<a>|133=99.5
-//! > DLR1 1 09:00:10.000 AI 131=R1|117=a1|297=0
+//! block ONE_DEALER
+//! < date 20250314
+//! < dealer DLR1 4 2000000 T1
 //!
-//! case of no quote
-//! << ONE_QUOTED
-//! say T1 09:00:20 Z 298=1|117=a1
-//! > DLR1 2 09:00:20.000 AI 117=a1|297=5|300=99
+//! case nothing shown
+//! << ONE_DEALER
+//! < say T1 09:00:10 S 117=a1|131=R1|<a>|133=99.5
+//! run alone
+//! > 0
+//! > DLR1 1 09:00:10.000 AI 131=R1|117=a1|297=5|300=99
 //! ```
 //!
 //! - A line that begins with `#` says nothing. An empty line ends a block or a case.

@@ -17,15 +17,6 @@ pub(crate) fn push_duties(answer: &mut String, duties: &[Duty]) -> Result<(), Ca
     Ok(())
 }
 
-/// A line for what is left to be done, where something is.
-pub(crate) fn push_left(answer: &mut String, left: &Option<Duty>) -> Result<(), CaseFault> {
-    let Some(duty) = left else {
-        return Ok(());
-    };
-    push_duty(answer, duty)?;
-    push_line(answer, "")
-}
-
 /// What a duty is, its moment, its room, and what else it bears.
 fn push_duty(answer: &mut String, duty: &Duty) -> Result<(), CaseFault> {
     if let Duty::Drop { last, moment } = duty {

@@ -1,7 +1,6 @@
 //! The places of this crate by their names.
 use crate::board::BoardPlace;
-use crate::dealer::DealerPlace;
-use crate::investor::InvestorPlace;
+use crate::days;
 use crate::room::RoomPlace;
 use crate::row::RowPlace;
 use crate::steps::StepPlace;
@@ -10,12 +9,10 @@ use case_lines::{CaseFault, CaseFile, Report};
 /// Runs the cases of a file at its place. It answers whether this crate has the place.
 pub fn run_place(file: &CaseFile<'_>, report: &mut Report) -> Result<bool, CaseFault> {
     match file.place() {
-        "dealer_desk" => file.run(DealerPlace::new, report),
-        "investor_desk" => file.run(InvestorPlace::new, report),
         "request_room" => file.run(RoomPlace::new, report),
         "plain_words" => file.run(RowPlace::new, report),
         "board" => file.run(BoardPlace::new, report),
         "venue_steps" => file.run(StepPlace::new, report),
-        _ => Ok(false),
+        _ => days::run_place(file, report),
     }
 }

@@ -1,16 +1,17 @@
 //! The steps of the venue.
 mod at_investor;
 mod at_room;
+mod desks;
 
 ghost use Rattle.std.specs.Prelude.{◌≡◌};
 
 use crate::duties::{push_duties, push_sent};
 use crate::floor::{Counts, Floor, INVESTOR, ROOM, counts_of, new_floor};
-use crate::said::framed;
 use crate::terms::{request, response};
 use at_room::does_in_room;
-use case_lines::{Call, CaseFault, Place, Words, close_of, push_line};
+use case_lines::{Call, CaseFault, Place, Words, close_of, frame_of, piped_bytes_of, push_line};
 use dealer_desk::DealerDesk;
+use desks::push_desk;
 use fix_fields::{Memory, Moment};
 use market_terms::RoomRef;
 use quote_word::{Board, BoardPass, BoardSeen, PlainWords};
@@ -36,6 +37,7 @@ use venue_steps::{Duties, do_drop, do_hit, do_show, do_tell, own_dealer, own_inv
 /// | `relay MOMENT N NAME WORD TICKS`, `gone MOMENT N WORD`, `declined MOMENT N NAME` | the desk of INV1 |
 /// | `answer MOMENT N ID QUOTE REPLY`, `close MOMENT N` | the desk of INV1; QUOTE is `pass` where a pass is answered |
 /// | `seen` | how many events each place has, and how many messages each desk has sent |
+/// | `desk FIRM` | the exposure of a dealer and the state of each of its quotes, or that of each request of INV1 |
 #[derive(Drop)]
 pub(crate) struct StepPlace {
     floor: Floor,
@@ -76,6 +78,7 @@ impl Place for StepPlace {
             "words" => self.plain(call.alloc, &mut call.words),
             "board" => self.shared(call.alloc, &mut call.words),
             "seen" => push_seen(&mut call.answer, &counts_of(&self.floor)),
+            "desk" => push_desk(&mut call.answer, &self.floor, call.words.word()?),
             _ => self.step(call),
         }
     }
@@ -186,6 +189,12 @@ impl StepPlace {
         let room = room(words)?;
         done(do_tell(desk, room, close_of(words)?, moment))
     }
+}
+
+/// The frame of a body, in which a bar stands for each SOH.
+fn framed(alloc: Global, body: &str) -> Result<Vec<u8>, CaseFault> {
+    let body = piped_bytes_of(alloc, body)?;
+    frame_of(alloc, body.as_slice())
 }
 
 /// The room of a request of INV1.

@@ -1,67 +1,9 @@
 //! Words that stand for terms of the market.
-use bond_prices::Grid;
-use case_lines::{CaseFault, Words, ask_of, band_of, name_of, price_of, refusal_of};
+use case_lines::{CaseFault, Words, ask_of, name_of, price_of, refusal_of};
 use fix_fields::Moment;
-use market_terms::{Ask, AskedDealers, Id, IdBuf, Offer, QuoteState, Reply, ResponseRef, RoomRef};
+use market_terms::{Ask, AskedDealers, Id, IdBuf, Offer, Reply, ResponseRef};
 use quote_word::Settled;
 use std::alloc::Global;
-
-/// The next word, as a number from 1: how many are before the one with this number.
-pub(crate) fn nth(words: &mut Words<'_>) -> Result<usize, CaseFault> {
-    let n = words.short_number()?;
-    let Some(before) = n.checked_sub(1) else {
-        return Err(CaseFault::Form);
-    };
-    Ok(before as usize)
-}
-
-/// The one with the number that is the next word.
-pub(crate) fn nth_of<'a, T>(all: &'a [T], words: &mut Words<'_>) -> Result<&'a T, CaseFault> {
-    let place = nth(words)?;
-    all.get(place).ok_or(CaseFault::Condition)
-}
-
-/// `COUNT TIME`: how often something comes, and when.
-pub(crate) fn count_and_moment(words: &mut Words<'_>) -> Result<(u32, Moment), CaseFault> {
-    let count = words.short_number()?;
-    let moment = words.moment()?;
-    Ok((count, moment))
-}
-
-/// The next word, as a room: `FIRM.N`.
-pub(crate) fn room(words: &mut Words<'_>) -> Result<RoomRef, CaseFault> {
-    let word = words.word()?;
-    let Some((firm, n)) = word.split_once('.') else {
-        return Err(CaseFault::Form);
-    };
-    let Ok(investor) = firm.parse::<u16>() else {
-        return Err(CaseFault::Form);
-    };
-    let Ok(n) = n.parse::<u32>() else {
-        return Err(CaseFault::Form);
-    };
-    Ok(RoomRef { investor, n })
-}
-
-/// `INVESTOR BOND SIDE QUANTITY DEADLINE TIME [GRID [LOW HIGH]]`: what is asked for, and when it is
-/// shown. Without GRID the grid is 256, without LOW HIGH every price is in the band. These are in
-/// 256ths.
-pub(crate) fn ask(words: &mut Words<'_>) -> Result<(Ask, Moment), CaseFault> {
-    let mut ask = ask_of(words)?;
-    let moment = words.moment()?;
-    ask.grid = grid(words)?;
-    ask.band = band_of(words)?;
-    Ok((ask, moment))
-}
-
-/// The next word, as a grid, or 256 where there is none.
-fn grid(words: &mut Words<'_>) -> Result<Grid, CaseFault> {
-    if words.is_at_end() {
-        return Ok(Grid::FINEST);
-    }
-    let steps = words.short_number()?;
-    Grid::new(steps).ok_or(CaseFault::Form)
-}
 
 /// The last word, as a moment, where there is one.
 pub(crate) fn last_moment(words: &mut Words) -> Result<Option<Moment>, CaseFault> {
@@ -74,7 +16,12 @@ pub(crate) fn last_moment(words: &mut Words) -> Result<Option<Moment>, CaseFault
 
 /// The next word, as what a word is settled as: `withdrawn` or `lifted`.
 pub(crate) fn settled(words: &mut Words) -> Result<Settled, CaseFault> {
-    match words.word()? {
+    settled_named(words.word()?)
+}
+
+/// What a word is settled as, by its name.
+pub(crate) fn settled_named(name: &str) -> Result<Settled, CaseFault> {
+    match name {
         "withdrawn" => Ok(Settled::Withdrawn),
         "lifted" => Ok(Settled::Lifted),
         _ => Err(CaseFault::Form),
@@ -140,15 +87,4 @@ pub(crate) fn dealers(alloc: Global, words: &mut Words) -> Result<AskedDealers, 
         numbers.push(Words::of(word).firm()?)?;
     }
     AskedDealers::new(numbers.as_slice()).ok_or(CaseFault::Condition)
-}
-
-/// A state of a quote as a word.
-pub(crate) fn quote_word(state: QuoteState) -> &'static str {
-    match state {
-        QuoteState::Live => "live",
-        QuoteState::Replaced => "replaced",
-        QuoteState::Withdrawn => "withdrawn",
-        QuoteState::Lifted => "lifted",
-        QuoteState::Ended => "ended",
-    }
 }

@@ -1,11 +1,12 @@
 //! Recorded days that are made by lines.
-use crate::answers::{put_count, put_steps, put_text};
-use crate::cycles::put_cycle;
-use crate::desk_events::{bring, comes_to_desk};
-use crate::empty_days::{empty_dealer, empty_investor, empty_room};
-use crate::events::{event_in, is_event};
-use crate::values::{actor_in, kind_in, message_of, settled_named};
-use crate::venues::Venue;
+use super::answers::{put_count, put_steps, put_text};
+use super::cycles::put_cycle;
+use super::desk_events::{bring, comes_to_desk};
+use super::empty_days::{empty_dealer, empty_investor, empty_room};
+use super::events::{event_in, is_event};
+use super::values::{actor_in, kind_in, message_of};
+use super::venues::Venue;
+use crate::terms::settled;
 use case_lines::{Call, CaseFault, Place, Words, push_line};
 use day_weaving::{WeaveFault, weave};
 use dealer_desk::DealerEvent;
@@ -365,7 +366,7 @@ fn word_in(words: &mut Words<'_>) -> Result<Option<(u32, quote_word::Settled)>, 
         return Ok(None);
     }
     let word = words.short_number()?;
-    let settled = settled_named(words.word()?)?;
+    let settled = settled(words)?;
     Ok(Some((word, settled)))
 }
 

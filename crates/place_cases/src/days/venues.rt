@@ -1,7 +1,7 @@
 //! A configuration, and steps that lines of a day spell.
-use crate::answers::{put_count, put_fault};
-use crate::steps::put_spelled;
-use crate::values::{actor_in, message_of};
+use super::answers::{put_count, put_fault};
+use super::steps::put_spelled;
+use super::values::{actor_in, message_of};
 use case_lines::{Call, CaseFault, Words, push_line};
 use market_terms::RoomRef;
 use std::alloc::Global;

@@ -1,6 +1,6 @@
 //! Steps that are replayed, which need not be those of a line.
-use crate::answers::put_replay_fault;
-use crate::venues::Venue;
+use super::answers::put_replay_fault;
+use super::venues::Venue;
 use case_lines::{Call, CaseFault, Place};
 use std::alloc::Global;
 use step_replay::{due, run};

@@ -1,5 +1,5 @@
 //! What a dealer is sent for a list.
-use crate::answers::{put_count, put_fault, put_text};
+use super::answers::{put_count, put_fault, put_text};
 use case_lines::{Call, CaseFault, Place, Words, close_of, push_line};
 use input_lines::{DueText, MOST_INPUT, read_due_text};
 use std::alloc::Global;

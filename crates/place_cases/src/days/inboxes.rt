@@ -1,5 +1,5 @@
 //! Streams of bytes as inboxes.
-use crate::answers::put_time;
+use super::answers::put_time;
 use case_lines::{
     Call, CaseFault, Place, piped_bytes_of, push_bytes_line, push_line, stream_fault_name,
 };

@@ -1,6 +1,6 @@
 //! Faults as the lines that tell them.
-use crate::answers::put_fault;
-use crate::told::told_fault;
+use super::answers::put_fault;
+use super::told::told_fault;
 use case_lines::{Call, CaseFault, Place, Words};
 use std::alloc::Global;
 

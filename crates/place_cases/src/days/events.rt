@@ -1,5 +1,6 @@
 //! Events at a dealer's desk that words of a call spell.
-use crate::values::{message_of, settled_named};
+use super::values::message_of;
+use crate::terms::settled_named;
 use case_lines::{Call, CaseFault, Words, close_of};
 use dealer_desk::DealerEvent;
 use fix_fields::Moment;

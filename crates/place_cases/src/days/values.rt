@@ -1,7 +1,6 @@
 //! Values that words of a call spell.
 use case_lines::{CaseFault, Words, frame_of, piped_bytes_of};
 use quote_messages::Message;
-use quote_word::Settled;
 use recorded_days::Kind;
 use std::alloc::Global;
 use step_replay::Actor;
@@ -23,15 +22,6 @@ pub(crate) fn message_of(alloc: Global, body: &str) -> Result<Message, CaseFault
     let body = piped_bytes_of(alloc, body)?;
     let bytes = frame_of(alloc, body.as_slice())?;
     Ok(Message::new(bytes))
-}
-
-/// What a word is from then on.
-pub(crate) fn settled_named(name: &str) -> Result<Settled, CaseFault> {
-    match name {
-        "lifted" => Ok(Settled::Lifted),
-        "withdrawn" => Ok(Settled::Withdrawn),
-        _ => Err(CaseFault::Form),
-    }
 }
 
 /// What an action does, by the name of its kind in small letters.
