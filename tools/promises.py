@@ -46,6 +46,7 @@ CALLERS = {
     "venue_places": ("session_worker/src/duties.rt", "act"),
     "blotter": ("venue_text/src/blotter_command.rt", "lines_text"),
     "session_worker": ("venue_commands/src/days.rt", "day_text"),
+    "day_checks": ("session_worker/src/days.rt", "recorded"),
 }
 
 COMMENT = re.compile(r"^\s*// ?(?!/)(.*)$")

@@ -4,15 +4,14 @@ ghost use Rattle.step_replay.specs.Actions as actions;
 
 use super::values::{QUOTE, REQUEST, behind_nine};
 use case_lines::VENUE;
+use day_checks::{DayFault, inbox_of};
 use day_weaving::{WeaveFault, weave};
 use fix_fields::Memory;
 use market_terms::RoomRef;
 use quote_messages::Message;
 use quote_word::{Board, BoardSeen};
 use recorded_days::{DayRecord, Inbound, Sweep};
-use session_worker::{
-    DayFault, Gate, Naming, Point, SharedVenue, clock, inbox_of, run_day, session,
-};
+use session_worker::{Gate, Naming, Point, SharedVenue, clock, run_day, session};
 use std::alloc::Global;
 use std::marker::Brand;
 use std::process::Abort;

@@ -1,9 +1,10 @@
 //! Days as texts: a configuration, a line `%%` and the lines of a day, and what each firm is sent.
+use day_checks::DayFault;
 use day_weaving::weave;
 use input_lines::{MOST_INPUT, day_parts, read_steps, read_venue};
 use quote_messages::SentMessage;
 use recorded_days::{DayRecord, Inbound, Sweep};
-use session_worker::{DayFault, Gate, Point, run_day};
+use session_worker::{Gate, Point, run_day};
 use std::alloc::Global;
 use std::process::Abort;
 use std::sync::Wait;

@@ -15,7 +15,7 @@ use Rattle.investor_views.specs.DeskView.{desk_view, event_dues}
 use Rattle.investor_views.specs.InvestorView.{investor_view, seen_by}
 use Rattle.investor_views.specs.declared.dues.InvestorDue.{InvestorDue}
 use Rattle.recorded_days.specs.Records.{InvestorLists, RecordedDay, investor_in}
-use Rattle.session_worker.specs.KeptDays.{InvestorKeeps, InvestorsKeep}
+use Rattle.day_checks.specs.KeptDays.{InvestorKeeps, InvestorsKeep}
 use Rattle.laws_isolation.specs.DayViews.{EventsFit, investor_dues_of, investor_sent_on}
 use Rattle.laws_isolation.proofs.FitLemmas.{ComingsSend, EventsSend, event_views_are_one}
 use Rattle.step_replay.specs.PlaceLemmas.{behind_dealers}

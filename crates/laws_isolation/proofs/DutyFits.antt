@@ -27,7 +27,7 @@ use Rattle.investor_views.specs.Comings.{Coming, For, at_desk_of}
 use Rattle.investor_views.specs.DeskPlaces.{IsSoElsewhere, MayBring, placed_so}
 use Rattle.laws_isolation.specs.DayViews.{fits}
 use Rattle.laws_isolation.proofs.FitLemmas.{first_holds, second_holds}
-use Rattle.session_worker.proofs.SweptLemmas.{number_same}
+use Rattle.day_checks.proofs.SweptLemmas.{number_same}
 
 -- whether what comes to a desk with this book fits, where something comes
 abbrev pub fits_if : InvestorBook → Option Coming → Bool

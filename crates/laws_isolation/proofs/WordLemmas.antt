@@ -9,9 +9,9 @@ use Rattle.quote_word.specs.declared.settled.Settled.TheVariants.{Lifted}
 use Rattle.request_room.specs.declared.ends.End.{End}
 use Rattle.venue_rows.specs.Rows.{Configuration}
 use Rattle.recorded_days.specs.Records.{RecordedDay}
-use Rattle.session_worker.specs.KeptDays.{AnswersAgree, AwardStands, RoomStands, WinnerLifted}
-use Rattle.session_worker.specs.KeptDays.{answers_to, rooms_in}
-use Rattle.session_worker.specs.Locks.{Answer, StandsIn, answers_in}
+use Rattle.day_checks.specs.KeptDays.{AnswersAgree, AwardStands, RoomStands, WinnerLifted}
+use Rattle.day_checks.specs.KeptDays.{answers_to, rooms_in}
+use Rattle.day_checks.specs.AskedWords.{Answer, StandsIn, answers_in}
 use Rattle.laws_isolation.specs.DayWords.{AtDesk, HasWon, InRoom, WasAsked}
 
 module _ (config : Configuration) (day : RecordedDay) (agree : AnswersAgree config day) where

@@ -7,9 +7,9 @@ use Rattle.request_room.specs.declared.ends.End.{End}
 use Rattle.venue_rows.specs.Rows.{Configuration, dealer_numbered}
 use Rattle.venue_rows.specs.declared.dealer_rows.DealerRow.{DealerRow}
 use Rattle.recorded_days.specs.Records.{DealerLists, RecordedDay}
-use Rattle.session_worker.specs.DayChecks.{DayRoom}
-use Rattle.session_worker.specs.KeptDays.{answers_to, rooms_in}
-use Rattle.session_worker.specs.Locks.{Answer, answers_in}
+use Rattle.day_checks.specs.DayChecks.{DayRoom}
+use Rattle.day_checks.specs.KeptDays.{answers_to, rooms_in}
+use Rattle.day_checks.specs.AskedWords.{Answer, answers_in}
 
 -- A word was asked at the desk of a dealer of a recorded day, by a message or a drop, or in one of
 -- its rooms, by a hit; and this is what whoever asked was told that it is.

@@ -13,7 +13,7 @@ ghost use Rattle.recorded_days.specs.Records.{RecordedDay};
 ghost use Rattle.recorded_days.specs.declared.actions.Inbound.{Inbound};
 ghost use Rattle.recorded_days.specs.declared.actions.Sweep.{Sweep};
 ghost use Rattle.day_weaving.specs.Weaving.{SendAsRecorded, sent_by_record};
-ghost use Rattle.session_worker.specs.KeptDays.{KeepsDay};
+ghost use Rattle.day_checks.specs.KeptDays.{KeepsDay};
 ghost use Rattle.laws_isolation.specs.DayViews.{EventsFit, investor_dues_of, investor_sent_on};
 
 use investor_views::{

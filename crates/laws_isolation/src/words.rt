@@ -6,7 +6,7 @@ ghost use Rattle.venue_rows.specs.Rows.{Configuration};
 ghost use Rattle.recorded_days.specs.Records.{RecordedDay};
 ghost use Rattle.recorded_days.specs.declared.actions.Inbound.{Inbound};
 ghost use Rattle.recorded_days.specs.declared.actions.Sweep.{Sweep};
-ghost use Rattle.session_worker.specs.KeptDays.{KeepsDay};
+ghost use Rattle.day_checks.specs.KeptDays.{KeepsDay};
 ghost use Rattle.laws_isolation.specs.DayWords.{HasWon, WasAsked};
 
 /// On a day on threads all who asked a word were told one settlement (`asked`): lifted, where its

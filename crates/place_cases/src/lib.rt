@@ -10,7 +10,7 @@
 //! | `replay` | the faults of `run` and `due` of `step_replay` |
 //! | `view` | `alone` on a list of any items |
 //! | `record` | a `DayRecord` that is made by lines, and `weave` |
-//! | `inbox` | `inbox_of` of `session_worker` |
+//! | `inbox` | `inbox_of` of `day_checks` |
 //! | `faults` | the lines that tell the faults of `input_lines` |
 //!
 //! The calls of each stand in the table of its module: of the last five in those of `days`. A call

@@ -21,7 +21,7 @@ use Rattle.venue_places.specs.declared.arrivals.ForRoom.{ForRoom}
 use Rattle.venue_places.specs.declared.arrivals.ForRoom.TheVariants as to_room
 use Rattle.venue_steps.specs.InvestorSteps.{replies_to, knows_request}
 use Rattle.session_worker.specs.Locks.{KeepsDealer, KeepsInvestor, KeepsRoom}
-use Rattle.session_worker.specs.declared.left_responses.LeftResponse.{LeftResponse}
+use Rattle.day_checks.specs.declared.left_responses.LeftResponse.{LeftResponse}
 use Rattle.session_worker.proofs.DealerAnswers.{DeskLaws}
 use Rattle.session_worker.proofs.DealerLockLemmas.{notice_keeps, show_keeps_if}
 use Rattle.session_worker.proofs.LockLemmas.{quiet_kept, told_kept}

@@ -17,7 +17,7 @@ use Rattle.step_replay.specs.DealerView.{dealer_view}
 use Rattle.venue_rows.specs.declared.dealer_rows.DealerRow.{DealerRow}
 use Rattle.venue_steps.specs.Words.{AsksAtMost, SettlesSo, settlement_in, has_word, word_of}
 use Rattle.venue_steps.specs.Words.{word_to_ask}
-use Rattle.session_worker.specs.Locks.{StandsIn, by_word}
+use Rattle.day_checks.specs.AskedWords.{StandsIn, by_word}
 use Rattle.session_worker.proofs.LockLemmas.{entry_seen}
 
 -- Laws of the layers below.

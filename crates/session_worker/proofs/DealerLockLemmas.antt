@@ -24,8 +24,10 @@ use Rattle.venue_rows.specs.Rows.{Configuration, dealer_numbered}
 use Rattle.venue_rows.specs.declared.dealer_rows.DealerRow.{DealerRow}
 use Rattle.venue_steps.specs.DealerSteps.{desk_after_drop, desk_after_own, drop_word, own_word}
 use Rattle.venue_steps.specs.Words.{AsksAtMost, settlement_in, has_word, word_of, word_to_ask}
-use Rattle.session_worker.specs.Locks.{KeepsDealer, StandsIn, answers_at, by_word}
-use Rattle.session_worker.proofs.LockLemmas.{IsLater, answers_stay, as_late, asks_later, entry_seen}
+use Rattle.session_worker.specs.Locks.{KeepsDealer}
+use Rattle.day_checks.specs.AskedWords.{StandsIn, answers_at, by_word}
+use Rattle.session_worker.proofs.LockLemmas.{IsLater, as_late, asks_later, entry_seen}
+use Rattle.day_checks.proofs.KeptLemmas.{answers_stay}
 use Rattle.session_worker.proofs.DealerAnswers.{DeskLaws, SentTheirView, asked_stands}
 use Rattle.session_worker.proofs.DealerAnswers.{asked_answers, answers_by_quote}
 

@@ -5,11 +5,12 @@ use Rattle.std.proofs.lemmas.Bool.{cases_lt, false≢true}
 use Rattle.venue_rows.specs.Rows.{Configuration}
 use Rattle.recorded_days.specs.declared.actions.Inbound.{Inbound}
 use Rattle.recorded_days.specs.declared.actions.Sweep.{Sweep}
-use Rattle.session_worker.specs.DayActions.{number_at}
-use Rattle.session_worker.specs.DayFaults.{IsFaultOf, IsFirstOf, IsInboxAmong, IsJoinedOf, JoinedDay}
-use Rattle.session_worker.specs.declared.faults.DayFault.{DayFault}
-use Rattle.session_worker.specs.declared.faults.DayFault.TheVariants as fault
-use Rattle.session_worker.specs.declared.left_responses.LeftResponse.{LeftResponse}
+use Rattle.day_checks.specs.DayActions.{number_at}
+use Rattle.day_checks.specs.DayFaults.{IsFaultOf, IsFirstOf, IsJoinedOf, JoinedDay}
+use Rattle.session_worker.specs.Locks.{IsInboxAmong}
+use Rattle.day_checks.specs.declared.faults.DayFault.{DayFault}
+use Rattle.day_checks.specs.declared.faults.DayFault.TheVariants as fault
+use Rattle.day_checks.specs.declared.left_responses.LeftResponse.{LeftResponse}
 
 -- what is said of the fault behind a `?` is said of the fault that it returns
 pub same_fault : {X : Type 0} (P : DayFault → Type 0) (r : Result X DayFault) (e : DayFault)

@@ -1,6 +1,6 @@
 -- What a lock keeps through an action that asks a word at most.
 use Rattle.std.proofs.Common.{◌≡◌, refl, ◌∙◌, sym, ap, subst, ℕ, Bool, true, false, List, [], ◌∷◌}
-use Rattle.std.proofs.Common.{◌++◌, Option, Some, None, All, slice_index_or}
+use Rattle.std.proofs.Common.{◌++◌, Option, Some, None, All}
 use Rattle.std.proofs.lemmas.List.Elements.{All-append, All-cons, All-nil, filter_map-append}
 use Rattle.std.specs.Option.{option_map, option_to_list}
 use Rattle.std.proofs.lemmas.Option.{same_Some}
@@ -26,30 +26,21 @@ use Rattle.request_room.specs.Book.{hit_refusal, room_after, word_or}
 use Rattle.request_room.specs.declared.events.RoomEvent.{RoomEvent}
 use Rattle.request_room.specs.declared.events.RoomEvent.TheVariants as in_room
 use Rattle.venue_rows.specs.declared.investor_rows.InvestorRow.{InvestorRow}
-use Rattle.session_worker.specs.Locks.{Answer, KeepsInvestor, KeepsRoom, StandsIn, answered_hit}
-use Rattle.session_worker.specs.Locks.{answers_in}
-use Rattle.session_worker.specs.LeftResponseWords.{response_in}
-use Rattle.session_worker.specs.LeftResponses.{response_left, responses_left}
-use Rattle.session_worker.specs.declared.left_responses.LeftResponse.{LeftResponse}
-use Rattle.session_worker.proofs.LeftLemmas.{first_left, left_more, left_stays}
+use Rattle.session_worker.specs.Locks.{KeepsInvestor, KeepsRoom}
+use Rattle.day_checks.specs.AskedWords.{StandsIn, answered_hit, answers_in}
+use Rattle.day_checks.specs.LeftResponseWords.{response_in}
+use Rattle.day_checks.specs.LeftResponses.{response_left, responses_left}
+use Rattle.day_checks.specs.declared.left_responses.LeftResponse.{LeftResponse}
+use Rattle.day_checks.proofs.LeftLemmas.{first_left, left_more, left_stays}
+use Rattle.day_checks.proofs.KeptLemmas.{Stay, answers_stay, some_is_none}
 
 -- what a word is, as a token has seen it
 abbrev pub entry_seen : Front → ℕ → Option Settled
 entry_seen front w = entry_of w front.log
 
--- entries that stand in a log stand in a later one
-abbrev pub Stay : List Settlement → List Settlement → Type 0
-Stay log later = (w : ℕ) (was : Settled) → entry_of w log ≡ Some was → entry_of w later ≡ Some was
-
 -- a later token of the same board
 abbrev pub IsLater : Front → Front → Type 0
 IsLater seen later = (later.board ≡ seen.board) × Stay seen.log later.log
-
--- answers that stand in a log stand in a later one
-pub answers_stay : (log later : List Settlement) → Stay log later → (answers : List Answer)
-    → All (StandsIn log) answers → All (StandsIn later) answers
-answers_stay log later stay answers stand k d below =
-    stay (slice_index_or answers k d).0 (slice_index_or answers k d).1 (stand k d below)
 
 -- one exchange gives a later token
 pub settles_later : (seen : Front) (word : ℕ) (wish : Settled) (settlement : Option Settled) (later : Front)
@@ -113,10 +104,6 @@ own_kept config desk after left moment bytes duties one keeps is from found =
           ∙ ap (λ own. responses_left desk ++ option_to_list own) here
           ∙ sym (ap responses_left is ∙ left_more desk more);
     }
-
--- what is there is not none
-pub some_is_none : {X : Type 0} (x : X) → Some x ≡ None → ⊥
-some_is_none x is = cc
 
 -- a desk of the investor with this number
 pub opened_with : (config : Configuration) (firm : ℕ) (desk : InvestorEvents)

@@ -1,55 +1,21 @@
 -- What lies under the locks of a venue, and what holds of it whenever a lock is free.
-use Rattle.std.specs.Prelude.{◌≡◌, ℕ, ◌-◌, nat_lt, true, List, ◌∷◌, [], ◌++◌, map, slice_get}
-use Rattle.std.specs.Prelude.{Option, Some, None, All, if◌then◌else◌}
-use Rattle.std.specs.List.{filter_map}
-use Rattle.std.specs.Option.{option_map}
+use Rattle.std.specs.Prelude.{◌≡◌, ℕ, ◌-◌, nat_lt, true, List, ◌∷◌, [], ◌++◌, slice_get, Option}
+use Rattle.std.specs.Prelude.{Some, None, All, if◌then◌else◌, ◌+◌, ◌<◌, ◌≤◌}
 use Rattle.dealer_desk.specs.DealerDesk as dealer
-use Rattle.dealer_desk.specs.DealerDesk.{facts_at}
-use Rattle.dealer_desk.specs.SettledWords.{settled_words}
 use Rattle.investor_desk.specs.InvestorDesk as investor
 use Rattle.investor_desk.specs.InvestorDesk.{market_for}
 use Rattle.market_terms.specs.declared.rooms.RoomRef.{RoomRef}
 use Rattle.quote_word.specs.Board.{BoardName, Front}
-use Rattle.quote_word.specs.SettleLog.{entry_of}
-use Rattle.quote_word.specs.declared.settled.Settled.{Settled}
-use Rattle.quote_word.specs.declared.settled.Settlement.{Settlement}
 use Rattle.request_room.specs.declared.events.RoomEvent.{RoomEvent}
-use Rattle.request_room.specs.declared.events.RoomEvent.TheVariants as in_room
 use Rattle.step_replay.specs.Actions.{dealer_of, first_word}
 use Rattle.recorded_days.specs.DayDues.{AreAnswered}
 use Rattle.recorded_days.specs.Records.{ActionRef}
 use Rattle.venue_rows.specs.Rows.{Configuration, dealer_numbered, has_room}
-use Rattle.venue_steps.specs.WordNumbers.{word_of}
-use Rattle.session_worker.specs.LeftResponses.{responses_left}
-use Rattle.session_worker.specs.declared.left_responses.LeftResponse.{LeftResponse}
-
--- Answers.
-
--- a word that was asked, and its settlement
-abbrev pub Answer : Type 0
-Answer = ℕ × Settled
-
--- the settlement is the word's entry in a log
-abbrev pub StandsIn : List Settlement → Answer → Type 0
-StandsIn log settlement = entry_of settlement.0 log ≡ Some settlement.1
-
--- the settlement by the venue's number of the word, where the dealer's first word is this one
-abbrev pub by_word : ℕ → Answer → Answer
-by_word first settlement = (word_of first settlement.0, settlement.1)
-
--- the words that were asked at a dealer's desk, with their settlements
-abbrev pub answers_at : ℕ → dealer.DeskEvents → List Answer
-answers_at first desk = map (by_word first) (settled_words (facts_at desk))
-
--- the word that a hit asked in a room, with its settlement
-abbrev pub answered_hit : RoomEvent → Option Answer
-answered_hit (in_room.Hit word moment settlement) =
-    option_map (λ settled. (word, settled)) settlement
-answered_hit other = None
-
--- the words that were asked in a room, with their settlements
-abbrev pub answers_in : List RoomEvent → List Answer
-answers_in events = filter_map answered_hit events
+use Rattle.day_checks.specs.LeftResponses.{responses_left}
+use Rattle.day_checks.specs.declared.left_responses.LeftResponse.{LeftResponse}
+use Rattle.day_checks.specs.declared.faults.DayFault.{DayFault}
+use Rattle.day_checks.specs.declared.faults.DayFault.TheVariants as fault
+use Rattle.day_checks.specs.AskedWords.{StandsIn, answers_at, answers_in}
 
 -- Locks.
 
@@ -112,3 +78,19 @@ numbered_from first places number =
 -- the order of the actions at a place after one more
 abbrev pub with_action : List ActionRef → ActionRef → List ActionRef
 with_action order action = order ++ action ∷ []
+
+-- Faults.
+
+-- Under a lock may lie anything that its type lets lie there, so of a fault that was found while
+-- the locks were opened it is known which firms it may name: of so many that are numbered onward
+-- from this number, one whose desk, or a room of its requests, is another's, or whose inbox is not
+-- what came.
+abbrev pub IsInboxAmong : ℕ → ℕ → DayFault → Type 0
+IsInboxAmong first count (fault.Inbox firm) = (first ≤ firm) × (firm < first + count)
+IsInboxAmong first count (fault.Told dealer) = ⊥
+IsInboxAmong first count (fault.Sweep room) = ⊥
+IsInboxAmong first count (fault.Shown dealer) = ⊥
+IsInboxAmong first count (fault.Relayed room) = ⊥
+IsInboxAmong first count (fault.Answered room) = ⊥
+IsInboxAmong first count (fault.Acted firm) = ⊥
+IsInboxAmong first count fault.Memory = Unit {0}

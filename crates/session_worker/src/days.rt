@@ -1,31 +1,24 @@
 //! A day on threads, from the configuration to the record.
-ghost use Rattle.std.specs.Prelude.{◌≡◌, ◌≢◌, ◌≤◌, ◌+◌, length, map, min, find, Err, IfErr, IfOk};
+ghost use Rattle.std.specs.Prelude.{◌≡◌, ◌≢◌, ◌+◌, length, map, min, find, Err, IfErr, IfOk};
 ghost use Rattle.std.specs.Prelude.{IfSome};
 ghost use Rattle.std.specs.Option.{option_copied};
 ghost use Rattle.quote_word.specs.SettleLog.{IsLegal};
-ghost use Rattle.session_worker.specs.DayFaults as spec;
-ghost use Rattle.session_worker.specs.DayFaults.{Agrees, IsFaultOf, IsFirstOf};
-ghost use Rattle.session_worker.specs.KeptDays.{KeepsDay, names_of, rooms_of_venue};
-ghost use Rattle.session_worker.specs.declared.faults.DayFault.TheVariants as fault;
+ghost use Rattle.day_checks.specs.DayFaults as spec;
+ghost use Rattle.day_checks.specs.DayFaults.{IsFaultOf};
+ghost use Rattle.day_checks.specs.KeptDays.{KeepsDay};
+ghost use Rattle.day_checks.specs.declared.faults.DayFault.TheVariants as fault;
 ghost use Rattle.step_replay.specs.Actions as actions;
 
-use crate::answered_responses::answer_fault;
-use crate::day_actions::action_fault;
-use crate::day_checks::told_fault;
-use crate::day_rooms::DayRoom;
-use crate::faults::DayFault;
 use crate::gates::Gate;
-use crate::joined::{Session, dealer_days, investor_days, with_rooms};
+use crate::joined::{Session, dealer_days, investor_days};
 use crate::naming::Naming;
-use crate::relayed_quotes::relay_fault;
-use crate::shown_checks::shown_fault;
-use crate::swept_rooms::sweep_fault;
 use crate::threads::work;
 use crate::venue::SharedVenue;
+use day_checks::{DayFault, agreed};
 use fix_fields::Memory;
 use market_terms::RoomRef;
 use quote_word::{Board, BoardSeen};
-use recorded_days::{Action, DayRecord, DealerDay, Inbound, InvestorDay, Sweep};
+use recorded_days::{Action, DayRecord, Inbound, Sweep};
 use std::alloc::Global;
 use std::marker::Brand;
 use std::sync::Wait;
@@ -189,55 +182,4 @@ fn recorded<J: Naming>(
     )?;
     let day = agreed(alloc, &config, dealers, investors, rooms, clock, sweeps)?;
     Ok(day)
-}
-
-/// The record of a day that was joined, where all agrees: the investors are still without their
-/// rooms, which stand in a list of all rooms. Else the first fault, in the order of [`DayFault`]:
-/// the notices of the dealers, the sweeps, the requests that the dealers were shown, the quotes
-/// that came to the investors, the replies that did, the actions.
-fn agreed(
-    alloc: Global,
-    config: &VenueConfig,
-    dealers: Vec<DealerDay>,
-    investors: Vec<InvestorDay>,
-    rooms: Vec<DayRoom>,
-    clock: Vec<Action>,
-    sweeps: &[Sweep],
-) -> Result<DayRecord, DayFault>
-    requires dealers { length dealers.items ≤ VenueConfig.MOST_DEALERS }
-    requires investors { length investors.items ≡ length config.now.investors }
-    requires rooms { names_of rooms.items ≡ rooms_of_venue config.now }
-    ensures agrees { IfOk result (Agrees config.now sweeps.now (record {
-      dealers = dealers.items;
-      investors = investors.items;
-      rooms = rooms.items;
-      clock = clock.items;
-    })) }
-    ensures first { IfErr result (IsFirstOf config.now sweeps.now (record {
-      dealers = dealers.items;
-      investors = investors.items;
-      rooms = rooms.items;
-      clock = clock.items;
-    })) }
-{
-    if let Some(dealer) = told_fault(alloc, dealers.as_slice(), rooms.as_slice())? {
-        return Err(DayFault::Told(dealer));
-    }
-    if let Some(room) = sweep_fault(alloc, rooms.as_slice(), sweeps)? {
-        return Err(DayFault::Sweep(room));
-    }
-    if let Some(dealer) = shown_fault(alloc, dealers.as_slice(), rooms.as_slice())? {
-        return Err(DayFault::Shown(dealer));
-    }
-    if let Some(room) = relay_fault(alloc, config, investors.as_slice(), rooms.as_slice())? {
-        return Err(DayFault::Relayed(room));
-    }
-    if let Some(room) = answer_fault(alloc, config, investors.as_slice(), rooms.as_slice())? {
-        return Err(DayFault::Answered(room));
-    }
-    let investors = with_rooms(alloc, config, investors, rooms)?;
-    if let Some(firm) = action_fault(&dealers, &investors, &clock) {
-        return Err(DayFault::Acted(firm));
-    }
-    Ok(DayRecord::new(dealers, investors, clock))
 }

@@ -1,43 +1,28 @@
 //! What lies under the locks after the joins, as the record of the day has it.
-ghost use Rattle.std.specs.Prelude.{◌≡◌, ◌<◌, ◌+◌, ◌^◌, [], ◌++◌, drop, length, map, take};
-ghost use Rattle.std.specs.Prelude.{IfErr, IfOk, OnOk};
-ghost use Rattle.std.specs.Vec.Iter.{into_iter_items};
+ghost use Rattle.std.specs.Prelude.{◌≡◌, ◌<◌, ◌+◌, ◌^◌, [], ◌++◌, length, map, IfErr, IfOk, OnOk};
 ghost use mathlib.Core.List.{IsPrefix};
 ghost use Rattle.quote_word.specs.SettleLog.{IsLegal};
-ghost use Rattle.session_worker.specs.DayActions.{number_at};
-ghost use Rattle.session_worker.specs.DayFaults.{IsInboxAmong};
-ghost use Rattle.session_worker.specs.KeptDays.{DealersKeep, DealersStand, InvestorsKeep};
-ghost use Rattle.session_worker.specs.KeptDays.{RoomsStand, names_by, names_from, names_of};
-ghost use Rattle.session_worker.specs.KeptDays.{rooms_of, rooms_of_venue, without_rooms};
+ghost use Rattle.session_worker.specs.Locks.{IsInboxAmong};
+ghost use Rattle.day_checks.specs.KeptDays.{DealersKeep, DealersStand, InvestorsKeep};
+ghost use Rattle.day_checks.specs.KeptDays.{RoomsStand, names_by, names_from, names_of};
 
-use crate::day_rooms::DayRoom;
 use crate::dealers::LockedDealer;
-use crate::faults::DayFault;
 use crate::naming::Naming;
 use crate::rooms::LockedRoom;
 use crate::venue::InvestorPlace;
 use crate::watched::VenueBoard;
-use fix_fields::Memory;
+use day_checks::{DayFault, DayRoom};
 use market_terms::RoomRef;
 use quote_word::BoardSeen;
-use recorded_days::{Action, DealerDay, Inbound, InvestorDay, RoomDay};
+use recorded_days::{Action, DealerDay, Inbound, InvestorDay};
 use std::alloc::Global;
 use std::sync::Mutex;
-use std::vec;
-use venue_rows::VenueConfig;
 
 /// What a session leaves: the messages that came to it, and what the firm did.
 #[derive(Drop)]
 pub(crate) struct Session {
     pub(crate) inbox: Vec<Inbound>,
     pub(crate) actions: Vec<Action>,
-}
-
-/// A place among the firms as a firm's number.
-pub(crate) fn firm_number(place: usize) -> u16
-    ensures { result ≡ number_at place }
-{
-    place.min(usize::from(u16::MAX)) as u16
 }
 
 /// The days of the dealers, and a token that is later than those of all their locks. The fault is
@@ -146,50 +131,4 @@ fn put_rooms<J: Naming>(
         all.push(day)?;
     }
     Ok(seen)
-}
-
-/// Puts its rooms into the day of each investor: as many, from the list of all, as the investor may
-/// make requests.
-pub(crate) fn with_rooms(
-    alloc: Global,
-    config: &VenueConfig,
-    days: Vec<InvestorDay>,
-    rooms: Vec<DayRoom>,
-) -> Result<Vec<InvestorDay>, Memory>
-    requires days { length days.items ≡ length config.now.investors }
-    requires rooms { names_of rooms.items ≡ rooms_of_venue config.now }
-    ensures days { IfOk result (λ whole. map without_rooms whole.items
-        ≡ map without_rooms days.items) }
-    ensures rooms { IfOk result (λ whole.
-        rooms_of (length config.now.dealers) whole.items ≡ rooms.items) }
-{
-    let mut whole = Vec::with_capacity(alloc, days.len())?;
-    let mut rooms = rooms.into_iter();
-    for (day, row) in days.into_iter().zip(config.investors()) {
-        let mut day = day;
-        day.rooms = next_rooms(alloc, &mut rooms, row.requests as usize)?;
-        whole.push(day)?;
-    }
-    Ok(whole)
-}
-
-/// The next rooms of a list, so many, as they are recorded.
-fn next_rooms(
-    alloc: Global,
-    rooms: &mut vec::IntoIter<DayRoom>,
-    count: usize,
-) -> Result<Vec<RoomDay>, Memory>
-    ensures own { IfOk result (λ own. own.items
-        ≡ map (λ room. room.day) (take count (into_iter_items rooms.old))) }
-    ensures rest { OnOk result (into_iter_items rooms.new
-        ≡ drop count (into_iter_items rooms.old)) }
-{
-    let mut own = Vec::with_capacity(alloc, count)?;
-    for _ in 0..count {
-        match rooms.next() {
-            Some(room) => own.push(room.into_day())?,
-            None => return Ok(own),
-        }
-    }
-    Ok(own)
 }

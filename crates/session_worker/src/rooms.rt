@@ -5,9 +5,10 @@ ghost use Rattle.quote_word.specs.SettleLog.{entry_of};
 ghost use Rattle.request_room.specs.Book.{room_after};
 ghost use Rattle.request_room.specs.declared.events.RoomEvent.TheVariants as event;
 ghost use Rattle.session_worker.specs.Comings.{MayCome};
-ghost use Rattle.session_worker.specs.Locks.{StandsIn, answers_in, with_action};
+ghost use Rattle.session_worker.specs.Locks.{with_action};
+ghost use Rattle.day_checks.specs.AskedWords.{StandsIn, answers_in};
 ghost use Rattle.session_worker.specs.Watched.{asked_of};
-ghost use Rattle.session_worker.specs.declared.faults.DayFault.TheVariants as fault;
+ghost use Rattle.day_checks.specs.declared.faults.DayFault.TheVariants as fault;
 ghost use Rattle.session_worker.specs.declared.watched.WordsAsked.TheVariants as all_asked;
 ghost use Rattle.venue_rows.specs.Rows.{has_room};
 ghost use Rattle.venue_places.specs.Brought as spec;
@@ -15,12 +16,11 @@ ghost use Rattle.venue_places.specs.declared.arrivals.Placement.TheVariants as p
 ghost use Rattle.venue_steps.specs.RoomSteps as steps;
 ghost use Rattle.venue_steps.specs.Words.{settlement_in, has_word, word_to_ask};
 
-use crate::day_rooms::DayRoom;
 use crate::done::Done;
-use crate::faults::DayFault;
 use crate::gates::Gate;
 use crate::naming::Naming;
 use crate::watched::{Acting, WatchedWords};
+use day_checks::{DayFault, DayRoom};
 use fix_fields::{Memory, Moment};
 use market_terms::{ResponseRef, RoomRef};
 use quote_word::BoardSeen;

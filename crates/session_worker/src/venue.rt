@@ -3,7 +3,7 @@ ghost use Rattle.std.specs.Prelude.{◌≡◌, ◌<◌, ◌^◌, ℕ, ◌+◌, t
 ghost use Rattle.std.specs.Prelude.{option_and_then};
 ghost use Rattle.std.specs.Option.{option_copied};
 ghost use Rattle.std.specs.Sync.Mutex.{mutex_guard_value};
-ghost use Rattle.session_worker.specs.KeptDays.{requests_of};
+ghost use Rattle.day_checks.specs.KeptDays.{requests_of};
 ghost use Rattle.session_worker.specs.Locks.{numbered_from};
 ghost use Rattle.step_replay.specs.Actions.{words_of};
 ghost use Rattle.venue_rows.specs.Rows.{has_room};

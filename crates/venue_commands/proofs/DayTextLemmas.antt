@@ -10,8 +10,8 @@ use Rattle.recorded_days.specs.declared.actions.Sweep.{Sweep}
 use Rattle.step_replay.specs.declared.steps.Step.{Step}
 use Rattle.day_weaving.specs.Weaving.{FaultIsTrue}
 use Rattle.day_weaving.specs.declared.weaving.WeaveFault.{WeaveFault}
-use Rattle.session_worker.specs.DayFaults.{IsFaultOf}
-use Rattle.session_worker.specs.declared.faults.DayFault.{DayFault}
+use Rattle.day_checks.specs.DayFaults.{IsFaultOf}
+use Rattle.day_checks.specs.declared.faults.DayFault.{DayFault}
 use Rattle.input_lines.specs.ResultSteps.{◌>>=◌}
 use Rattle.input_lines.specs.StepLines.{names_of_firms}
 use Rattle.input_lines.specs.VenueParts.{DayParts, day_parts_of, venue_of}

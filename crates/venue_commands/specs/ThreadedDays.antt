@@ -8,10 +8,10 @@ use Rattle.recorded_days.specs.declared.actions.Sweep.{Sweep}
 use Rattle.step_replay.specs.declared.steps.Step.{Step}
 use Rattle.day_weaving.specs.declared.weaving.WeaveFault.{WeaveFault}
 use Rattle.day_weaving.specs.declared.weaving.WeaveFault.TheVariants as weaving
-use Rattle.session_worker.specs.DayFaults.{IsFaultOf}
-use Rattle.session_worker.specs.KeptDays.{KeepsDay}
-use Rattle.session_worker.specs.declared.faults.DayFault.{DayFault}
-use Rattle.session_worker.specs.declared.faults.DayFault.TheVariants as threaded
+use Rattle.day_checks.specs.DayFaults.{IsFaultOf}
+use Rattle.day_checks.specs.KeptDays.{KeepsDay}
+use Rattle.day_checks.specs.declared.faults.DayFault.{DayFault}
+use Rattle.day_checks.specs.declared.faults.DayFault.TheVariants as threaded
 use Rattle.venue_text.specs.ArrivingDays.{arriving_day}
 use Rattle.venue_text.specs.RecordText.{record_text, woven_line}
 use Rattle.input_lines.specs.declared.faults.ProgramFault.{ProgramFault}

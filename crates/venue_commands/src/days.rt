@@ -5,10 +5,11 @@ ghost use Rattle.day_weaving.specs.declared.weaving.WeaveFault.{WeaveFault};
 ghost use Rattle.venue_text.specs.RecordText.{woven_line};
 ghost use Rattle.venue_commands.specs.ThreadedDays as spec;
 
+use day_checks::DayFault;
 use day_weaving::{WeaveFault, weave};
 use input_lines::{ProgramFault, UnkeptDay, UnwovenDay};
 use recorded_days::DayRecord;
-use session_worker::{DayFault, Gate, Point, run_day};
+use session_worker::{Gate, Point, run_day};
 use std::alloc::Global;
 use std::marker::Sync;
 use std::sync::Wait;

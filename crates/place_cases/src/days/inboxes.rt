@@ -3,10 +3,10 @@ use super::answers::put_time;
 use case_lines::{
     Call, CaseFault, Place, piped_bytes_of, push_bytes_line, push_line, stream_fault_name,
 };
+use day_checks::inbox_of;
 use fix_fields::Moment;
 use quote_messages::Message;
 use recorded_days::Inbound;
-use session_worker::inbox_of;
 use std::alloc::Global;
 
 /// The inbox of one firm.

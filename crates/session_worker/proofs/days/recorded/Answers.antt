@@ -4,14 +4,14 @@ use Rattle.std.proofs.lemmas.List.{length-map}
 use Rattle.venue_rows.specs.Rows.{Configuration}
 use Rattle.venue_rows.specs.declared.investor_rows.InvestorRow.{InvestorRow}
 use Rattle.recorded_days.specs.Records.{InvestorLists}
-use Rattle.session_worker.specs.DayActions.{EventsAreOfActions}
-use Rattle.session_worker.specs.DayFaults.{IsFirstOf, IsJoinedOf, JoinedDay, unanswered_of}
-use Rattle.session_worker.specs.DayFaults.{unrelayed_of}
-use Rattle.session_worker.specs.KeptDays.{KeepsDay, rooms_of}
-use Rattle.session_worker.proofs.DayLemmas.{Joined, day_is_kept}
+use Rattle.day_checks.specs.DayActions.{EventsAreOfActions}
+use Rattle.day_checks.specs.DayFaults.{IsFirstOf, IsJoinedOf, JoinedDay, unanswered_of}
+use Rattle.day_checks.specs.DayFaults.{unrelayed_of}
+use Rattle.day_checks.specs.KeptDays.{KeepsDay, rooms_of}
+use Rattle.day_checks.proofs.DayLemmas.{Joined, day_is_kept}
 use Rattle.session_worker.proofs.FaultLemmas.{dealer_is_of, first_is_of, investor_is_of}
 use Rattle.session_worker.proofs.FaultLemmas.{same_fault}
-use Rattle.session_worker.proofs.JoinedLemmas.{joined_is_of}
+use Rattle.day_checks.proofs.JoinedLemmas.{joined_is_of}
 use Rattle.session_worker.proofs.days.recorded.Goals as goal
 
 -- a session for each investor

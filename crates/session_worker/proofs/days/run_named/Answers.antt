@@ -1,6 +1,6 @@
 use Rattle.std.proofs.Common.{rules, ◌≡◌, ◌∙◌, sym, ap, subst, length, map}
 use Rattle.std.proofs.lemmas.List.{length-map}
-use Rattle.session_worker.specs.DayFaults.{IsFaultOf}
+use Rattle.day_checks.specs.DayFaults.{IsFaultOf}
 use Rattle.session_worker.proofs.FaultLemmas.{same_fault}
 use Rattle.session_worker.proofs.days.run_named.Goals as goal
 

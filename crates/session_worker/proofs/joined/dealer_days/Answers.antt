@@ -3,12 +3,12 @@ use Rattle.std.specs.Iterator.Adapters.{zip_first, zip_second}
 use Rattle.std.specs.Vec.Iter.{into_iter_items, into_iter_len}
 use mathlib.Core.List.{IsPrefix}
 use Rattle.recorded_days.specs.Records.{DealerLists}
-use Rattle.session_worker.specs.DayChecks.{came_from_dealer}
-use Rattle.session_worker.specs.KeptDays.{DealerKeeps, DealersKeep, DealersStand, DealerStands}
+use Rattle.day_checks.specs.DayChecks.{came_from_dealer}
+use Rattle.day_checks.specs.KeptDays.{DealerKeeps, DealersKeep, DealersStand, DealerStands}
 use Rattle.session_worker.proofs.FaultLemmas.{dealer_among, same_fault}
-use Rattle.session_worker.proofs.KeepLemmas.{dealer_later, dealers_grow, dealers_later}
-use Rattle.session_worker.proofs.KeepLemmas.{dealers_stand_more}
-use Rattle.session_worker.proofs.MovedLists.{all_moved, both_ended, both_shorter, counted_on, moved}
+use Rattle.day_checks.proofs.KeptLemmas.{dealer_later, dealers_grow, dealers_later}
+use Rattle.day_checks.proofs.KeptLemmas.{dealers_stand_more}
+use Rattle.day_checks.proofs.MovedLists.{all_moved, both_ended, both_shorter, counted_on, moved}
 use Rattle.session_worker.proofs.joined.dealer_days.Goals as goal
 
 -- one dealer more, at the place of its number

@@ -2,8 +2,8 @@ use Rattle.std.proofs.Common.{◌≡◌, ◌+◌, ◌++◌, length, map}
 use Rattle.std.specs.Iterator.Adapters.{zip_first, zip_second}
 use Rattle.std.specs.Vec.Iter.{into_iter_items}
 use Rattle.quote_word.specs.SettleLog.{IsLegal}
-use Rattle.session_worker.specs.KeptDays.{DealersKeep, DealersStand}
-use Rattle.session_worker.proofs.DayLemmas.{dealer_inboxes}
+use Rattle.day_checks.specs.KeptDays.{DealersKeep, DealersStand}
+use Rattle.day_checks.proofs.DayLemmas.{dealer_inboxes}
 use Rattle.session_worker.proofs.joined.dealer_days.Given as goal
 
 abbrev pub invariant-loop-place : goal.invariant-loop-place

@@ -4,13 +4,13 @@ use Rattle.std.specs.Iterator.Adapters.{zip_first, zip_second}
 use Rattle.std.specs.Vec.Iter.{into_iter_items, into_iter_len}
 use Rattle.quote_word.specs.SettleLogLaws.{begins_all}
 use Rattle.recorded_days.specs.Records.{InvestorLists}
-use Rattle.session_worker.specs.DayChecks.{came_from_investor}
-use Rattle.session_worker.specs.KeptDays.{InvestorKeeps, InvestorsKeep, names_of}
-use Rattle.session_worker.specs.LeftResponses.{responses_answered, responses_left}
+use Rattle.day_checks.specs.DayChecks.{came_from_investor}
+use Rattle.day_checks.specs.KeptDays.{InvestorKeeps, InvestorsKeep, names_of}
+use Rattle.day_checks.specs.LeftResponses.{responses_answered, responses_left}
 use Rattle.session_worker.proofs.FaultLemmas.{investor_among, one_among, same_fault}
-use Rattle.session_worker.proofs.KeepLemmas.{investors_grow}
-use Rattle.session_worker.proofs.MovedLists.{all_moved, both_ended, both_shorter, counted_on, moved}
-use Rattle.session_worker.proofs.RoomLemmas.{names_ended, names_moved}
+use Rattle.day_checks.proofs.KeptLemmas.{investors_grow}
+use Rattle.day_checks.proofs.MovedLists.{all_moved, both_ended, both_shorter, counted_on, moved}
+use Rattle.day_checks.proofs.RoomLemmas.{names_ended, names_moved}
 use Rattle.session_worker.proofs.joined.investor_days.Goals as goal
 
 -- one investor more, whose number stands behind those of the dealers

@@ -3,8 +3,8 @@ use Rattle.std.specs.Iterator.Adapters.{zip_first, zip_second}
 use Rattle.std.specs.Vec.Iter.{into_iter_items}
 use mathlib.Core.List.{IsPrefix}
 use Rattle.quote_word.specs.SettleLog.{IsLegal}
-use Rattle.session_worker.specs.KeptDays.{InvestorsKeep, RoomsStand, names_by, names_of}
-use Rattle.session_worker.proofs.DayLemmas.{investor_inboxes}
+use Rattle.day_checks.specs.KeptDays.{InvestorsKeep, RoomsStand, names_by, names_of}
+use Rattle.day_checks.proofs.DayLemmas.{investor_inboxes}
 use Rattle.session_worker.proofs.joined.investor_days.Given as goal
 
 abbrev pub invariant-loop-place : goal.invariant-loop-place

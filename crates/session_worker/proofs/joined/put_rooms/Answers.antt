@@ -1,11 +1,11 @@
 use Rattle.std.proofs.Common.{◌≡◌, sym, ap, subst, suc, length, arith}
 use Rattle.std.specs.Vec.Iter.{into_iter_items}
 use Rattle.quote_word.specs.SettleLogLaws.{begins_all}
-use Rattle.session_worker.specs.DayChecks.{DayRoom}
-use Rattle.session_worker.specs.KeptDays.{RoomStands, RoomsStand}
+use Rattle.day_checks.specs.DayChecks.{DayRoom}
+use Rattle.day_checks.specs.KeptDays.{RoomStands, RoomsStand}
 use Rattle.session_worker.proofs.FaultLemmas.{room_among, same_fault}
-use Rattle.session_worker.proofs.KeepLemmas.{room_later, rooms_later, rooms_stand_more}
-use Rattle.session_worker.proofs.RoomLemmas.{names_pushed}
+use Rattle.day_checks.proofs.KeptLemmas.{room_later, rooms_later, rooms_stand_more}
+use Rattle.day_checks.proofs.RoomLemmas.{names_pushed}
 use Rattle.session_worker.proofs.joined.put_rooms.Goals as goal
 
 -- one room more, by the number of its request

@@ -2,7 +2,7 @@ use Rattle.std.proofs.Common.{◌≡◌, ◌+◌, ◌++◌, length}
 use Rattle.std.specs.Vec.Iter.{into_iter_items}
 use mathlib.Core.List.{IsPrefix}
 use Rattle.quote_word.specs.SettleLog.{IsLegal}
-use Rattle.session_worker.specs.KeptDays.{RoomsStand, names_from, names_of}
+use Rattle.day_checks.specs.KeptDays.{RoomsStand, names_from, names_of}
 use Rattle.session_worker.proofs.joined.put_rooms.Given as goal
 
 abbrev pub invariant-loop-room : goal.invariant-loop-room

@@ -1,7 +1,7 @@
 use Rattle.std.proofs.Common.{◌≡◌, ◌<◌, ◌+◌, ℕ, true, subst, length, get_or, Some, arith, rules}
 use Rattle.std.specs.Prelude.{slice_get}
 use Rattle.venue_rows.specs.Rows.{Configuration, has_room}
-use Rattle.session_worker.proofs.RoomLemmas.{counts_more, rooms_of_row}
+use Rattle.day_checks.proofs.RoomLemmas.{counts_more, rooms_of_row}
 use Rattle.session_worker.proofs.venue.investors_at_start.Goals as goal
 use Rattle.step_replay.specs.PlaceLemmas.{lent}
 

@@ -1,5 +1,5 @@
 use Rattle.std.proofs.Common.{◌≡◌, ◌+◌, length, map, take}
-use Rattle.session_worker.specs.KeptDays.{requests_of}
+use Rattle.day_checks.specs.KeptDays.{requests_of}
 use Rattle.session_worker.proofs.venue.investors_at_start.Given as goal
 
 abbrev pub invariant-loop-row : goal.invariant-loop-row

@@ -1,8 +1,8 @@
 use Rattle.std.proofs.Common.{◌≡◌, ◌∙◌, sym, ap, subst, IsTrue}
-use Rattle.session_worker.specs.DayChecks.{came_from_dealer}
+use Rattle.day_checks.specs.DayChecks.{came_from_dealer}
 use Rattle.recorded_days.specs.Records.{DealerLists}
 use Rattle.session_worker.specs.Locks.{DealerUnderLock}
-use Rattle.session_worker.specs.KeptDays.{DealerStands}
+use Rattle.day_checks.specs.KeptDays.{DealerStands}
 use Rattle.session_worker.proofs.KeepLemmas.{day_keeps, dealer_stands}
 use Rattle.session_worker.proofs.dealers.LockedDealer.day_at.Goals as goal
 

@@ -1,9 +1,9 @@
 use Rattle.std.proofs.Common.{◌≡◌, ◌∙◌, sym, ap, subst, IsTrue}
 use Rattle.investor_desk.specs.InvestorDesk.{DeskEvents}
-use Rattle.session_worker.specs.DayChecks.{came_from_investor}
-use Rattle.session_worker.specs.LeftResponses.{responses_answered, responses_left}
+use Rattle.day_checks.specs.DayChecks.{came_from_investor}
+use Rattle.day_checks.specs.LeftResponses.{responses_answered, responses_left}
 use Rattle.session_worker.specs.Locks.{InvestorUnderLock}
-use Rattle.session_worker.proofs.KeepLemmas.{investor_day_keeps}
+use Rattle.day_checks.proofs.KeptLemmas.{investor_day_keeps}
 use Rattle.session_worker.proofs.investors.LockedInvestor.day_at.Goals as goal
 
 -- what was checked, and what the lock kept

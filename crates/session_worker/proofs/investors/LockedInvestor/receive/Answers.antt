@@ -1,6 +1,6 @@
 use Rattle.std.proofs.Common.{rules, ◌≡◌, ◌∙◌, sym, ap, subst, [], ◌∷◌, ◌++◌, Some, None}
 use Rattle.std.proofs.lemmas.List.{append-nil}
-use Rattle.session_worker.specs.LeftResponseWords.{response_in}
+use Rattle.day_checks.specs.LeftResponseWords.{response_in}
 use Rattle.session_worker.specs.Locks.{KeepsInvestor}
 use Rattle.session_worker.proofs.LockLemmas.{own_kept}
 use Rattle.session_worker.proofs.investors.LockedInvestor.receive.Goals as goal

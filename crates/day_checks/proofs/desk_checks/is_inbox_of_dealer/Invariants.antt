@@ -1,0 +1,10 @@
+use Rattle.std.proofs.Common.{◌≡◌, ◌↔◌, length}
+use Rattle.day_checks.specs.DayChecks.{came_from_dealer}
+use Rattle.day_checks.proofs.desk_checks.is_inbox_of_dealer.Given as goal
+
+abbrev pub invariant-loop-event : goal.invariant-loop-event
+invariant-loop-event l =
+    (came_from_dealer l.fn.events ≡ l.fn.inbox) ↔ (came_from_dealer l.events ≡ l.inbox)
+
+abbrev pub decreases-loop-event : goal.decreases-loop-event
+decreases-loop-event l = length l.events
