@@ -27,6 +27,8 @@ use Rattle.venue_steps.specs.RoomDuties.{duties_of_decline, duties_of_expire, du
 use Rattle.venue_steps.specs.RoomDuties.{duties_of_open, duties_of_pass, duties_of_post}
 use Rattle.venue_steps.specs.RoomDuties.{duties_of_unpost, hit_word}
 use Rattle.venue_steps.specs.WordNumbers.{has_word}
+use Rattle.venue_places.specs.Placed.{desk_of_line, room_of_line}
+use Rattle.venue_places.specs.Table.{line_of}
 use Rattle.venue_places.specs.declared.actors.Actor.{Actor}
 use Rattle.venue_places.specs.declared.actors.Actor.TheVariants as actor
 use Rattle.step_replay.specs.ActionKinds.{event_in, hit_here}
@@ -38,7 +40,6 @@ use Rattle.step_replay.specs.Actions.{where_known, word_for, words_of}
 use Rattle.step_replay.specs.LineActions.{answered_by, declined_by, posted_by, unposted_by}
 use Rattle.step_replay.specs.DealerTrail.{book_by, rooms_by}
 use Rattle.step_replay.specs.DutyEffects.{duty_effect, sweep_effect}
-use Rattle.step_replay.specs.LiveStanding.{desk_of_duty, room_of_duty}
 use Rattle.step_replay.specs.VenueFacts.{Fact, of_dealer, of_room}
 
 -- What may come where it does not matter.
@@ -88,8 +89,9 @@ module _ (Has : ℕ → DealerRow → DealerEvent → List Duty → Type 0)
 
   -- where it is so of every event that may come to the duty's desk
   pub any_dealer : (by : Actor) (d : Duty) → ((number : ℕ) (row : DealerRow) (event : DealerEvent)
-      (left : List Duty) → desk_of_duty by d ≡ Some number → Has number row event left)
-      → DealerMay by d
+      (left : List Duty) → desk_of_line by (line_of config d) ≡ Some number
+      → Has number row event left) → DealerMay by d
+  unfolding line_of
   any_dealer by (duty.Show dealer at ask moment) each =
       λ row found none. each dealer row (at_desk.Shown at ask moment) [] refl
   any_dealer by (duty.Tell dealer at close moment) each =
@@ -119,8 +121,9 @@ module _ (Has : ℕ → InvestorRow → InvestorEvent → Type 0) (config : Conf
 
   -- where it is so of every event that may come to the duty's desk
   pub any_investor : (by : Actor) (d : Duty) → ((number : ℕ) (row : InvestorRow)
-      (event : InvestorEvent) → desk_of_duty by d ≡ Some number → Has number row event)
-      → InvestorMay d
+      (event : InvestorEvent) → desk_of_line by (line_of config d) ≡ Some number
+      → Has number row event) → InvestorMay d
+  unfolding line_of
   any_investor by (duty.Relay at offer moment) each = λ row found. each at.investor row _ refl
   any_investor by (duty.Gone at word moment) each = λ row found. each at.investor row _ refl
   any_investor by (duty.Declined at moment) each =
@@ -158,7 +161,8 @@ module _ (Has : RoomRef → RoomEvent → List Duty → Type 0)
 
   -- where it is so of every event that may come to the duty's room
   pub any_room : (by : Actor) (d : Duty) → ((at : RoomRef) (event : RoomEvent) (left : List Duty)
-      → room_of_duty d ≡ Some at → Has at event left) → RoomMay by d
+      → room_of_line (line_of config d) ≡ Some at → Has at event left) → RoomMay by d
+  unfolding line_of
   any_room by (duty.Open at ask dealers moment) each = each at _ _ refl
   any_room by (duty.Ready at moment) each = each at _ _ refl
   any_room (actor.Firm number) (duty.Post at quote price valid_until moment) each =

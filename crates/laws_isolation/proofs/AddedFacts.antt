@@ -26,6 +26,7 @@ use Rattle.request_room.specs.RoomFacts.{Opened, Posted, RoomFact}
 use Rattle.request_room.specs.declared.ends.End.{End}
 use Rattle.request_room.specs.declared.events.RoomEvent.{RoomEvent}
 use Rattle.request_room.specs.declared.events.RoomEvent.TheVariants as at_room
+use Rattle.venue_places.specs.Table.{line_of}
 use Rattle.venue_places.specs.declared.actors.Actor.{Actor}
 use Rattle.venue_places.specs.declared.actors.Actor.TheVariants as actor
 use Rattle.step_replay.specs.Actions.{Effect, QuoteRef, at_dealer, at_market}
@@ -198,6 +199,7 @@ module _ (side : ℕ → Bool) (config : Configuration) (own : Bool) where
 
     at_dealers : (by : Actor) (d : Duty) → IsOn side config own by d
         → DealerMay DealerAdds config facts by d
+    unfolding line_of
     at_dealers by (duty.Show dealer room ask moment) is = λ row found none.
         desk_adds facts dealer row (at_desk.Shown room ask moment) [] is.desk_on
         (is.named_on ∙ sym is.desk_on)
@@ -219,6 +221,7 @@ module _ (side : ℕ → Bool) (config : Configuration) (own : Bool) where
 
     in_rooms : (by : Actor) (d : Duty) → IsOn side config own by d
         → RoomMay RoomAdds config facts by d
+    unfolding line_of
     in_rooms by (duty.Open room ask dealers moment) is = (is.room_on, is.named_on)
     in_rooms (actor.Firm number) (duty.Post room quote price valid_until moment) is =
         λ row found. (is.room_on, is.named_on)

@@ -19,6 +19,7 @@ use Rattle.investor_desk.specs.declared.verdicts.InvestorVerdict.{InvestorVerdic
 use Rattle.investor_desk.specs.declared.verdicts.InvestorVerdict.TheVariants as on_investor
 use Rattle.request_room.specs.RoomFacts.{request_of}
 use Rattle.venue_steps.specs.RoomSteps.{dealers_of}
+use Rattle.venue_places.specs.Table.{line_of}
 use Rattle.venue_places.specs.declared.actors.Actor.{Actor}
 use Rattle.venue_places.specs.declared.actors.Actor.TheVariants as actor
 use Rattle.step_replay.specs.Actions.{dealer_of, verdict_on}
@@ -60,6 +61,7 @@ module _ (side : ℕ → Bool) (config : Configuration) (own : Bool) (facts : Li
 
   told : (by : Actor) (room : RoomRef) (moment : ℕ) → side room.investor ≡ own
       → AreTold (On by) config facts room moment
+  unfolding line_of
   told by room moment here =
       every_weaker (λ (number : ℕ). side number ≡ own)
       (λ (number : ℕ). (close : Close) → On by (duty.Tell number room close moment))
@@ -78,6 +80,7 @@ module _ (side : ℕ → Bool) (config : Configuration) (own : Bool) (facts : Li
   -- Duties, and a sweep.
 
   on_may : (by : Actor) (d : Duty) → On by d → MayLeave (On by) config facts by d
+  unfolding line_of
   on_may by (duty.Open room ask dealers moment) is = (
     every_weaker (λ (number : ℕ). side number ≡ own)
         (λ (number : ℕ). On by (duty.Show number room ask moment))
@@ -112,6 +115,7 @@ module _ (side : ℕ → Bool) (config : Configuration) (own : Bool) (facts : Li
 
   pub sweep_left : (room : RoomRef) (moment : ℕ) → side room.investor ≡ own
       → Leaves (On actor.Clock) (sweep_effect config facts room moment)
+  unfolding line_of
   sweep_left room moment here =
       sweep_leaves (On actor.Clock) config facts room moment
       (record { desk_on = here; room_on = tt; named_on = tt }) (told actor.Clock room moment here)
@@ -125,6 +129,7 @@ module _ (side : ℕ → Bool) (config : Configuration) (own : Bool) (facts : Li
 
     dealer_may : (row : DealerRow) → dealer_numbered config firm ≡ Some row → (v : DealerVerdict)
         → AcceptOk row v → MaySay Unless config facts firm moment v
+    unfolding line_of
     dealer_may row is (verdict.QuoteAccepted request id quote replaced) within =
         in_rooms Unless firm here (post_of quote) (λ room there none. record {
           desk_on = tt;
@@ -144,6 +149,7 @@ module _ (side : ℕ → Bool) (config : Configuration) (own : Bool) (facts : Li
 
     asker_may : (row : InvestorRow) (v : InvestorVerdict) → AsksFew v
         → IfSome (investor_output.verdict_duty (market_of config firm row) moment v) Unless
+    unfolding line_of
     asker_may row (on_investor.RequestAccepted id request) few = λ none. record {
       desk_on = tt;
       room_on = here;

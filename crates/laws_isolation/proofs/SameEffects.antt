@@ -5,7 +5,6 @@ use Rattle.std.proofs.Common.{IfSome, option_map, is_some, refl, sym, ap, ◌∙
 use Rattle.std.proofs.Common.{if◌then◌else◌}
 use Rattle.market_terms.specs.declared.closes.HitRefusal.{HitRefusal}
 use Rattle.market_terms.specs.declared.duties.Duty.{Duty}
-use Rattle.market_terms.specs.declared.duties.Duty.TheVariants as duty
 use Rattle.market_terms.specs.declared.rooms.ResponseRef.{ResponseRef}
 use Rattle.market_terms.specs.declared.rooms.RoomRef.{RoomRef}
 use Rattle.quote_word.specs.declared.settled.Settled.{Settled}
@@ -18,7 +17,8 @@ use Rattle.request_room.specs.Book.{event_facts, hit_outcome, hit_refusal, word_
 use Rattle.request_room.specs.declared.events.RoomEvent.TheVariants as at_room
 use Rattle.venue_steps.specs.RoomSteps.{duties_of_hit, hit_word, word_asked_by}
 use Rattle.venue_steps.specs.Words.{has_word}
-use Rattle.venue_places.specs.Table.{Line, acting, brings, drops, line_of, quoting}
+use Rattle.venue_places.specs.Placed.{desk_for, desk_of_line, room_for, room_of_line}
+use Rattle.venue_places.specs.Table.{Line, acting_in, brings, drops, line_of, telling}
 use Rattle.venue_places.specs.declared.actors.Actor.{Actor}
 use Rattle.venue_places.specs.declared.actors.Actor.TheVariants as actor
 use Rattle.venue_places.specs.declared.arrivals.ForDealer.{ForDealer}
@@ -31,14 +31,13 @@ use Rattle.venue_places.specs.declared.arrivals.Placement.{Placement}
 use Rattle.venue_places.specs.declared.arrivals.Placement.TheVariants as arrival
 use Rattle.step_replay.specs.Actions.{Dealer, Effect, QuoteRef, acting_dealer, answer_to_hit}
 use Rattle.step_replay.specs.Actions.{dealer_at, dealer_of, done_by}
-use Rattle.step_replay.specs.Actions.{dropped_by, has_word_for, hit_in, lifting, nothing}
+use Rattle.step_replay.specs.Actions.{dropped_by, hit_in, lifting, nothing}
 use Rattle.step_replay.specs.Actions.{quote_asked, quote_with_word, received_by_dealer}
 use Rattle.step_replay.specs.Actions.{received_by_investor, words_of}
 use Rattle.step_replay.specs.Coming.{arrival_effect, dealer_gets, investor_gets, room_gets}
 use Rattle.step_replay.specs.Coming.{room_gets_where}
 use Rattle.step_replay.specs.DutyEffects.{duty_effect, line_effect, message_effect, sweep_effect}
 use Rattle.step_replay.specs.Lists.{Every}
-use Rattle.step_replay.specs.LiveStanding.{firm_of}
 use Rattle.step_replay.specs.VenueFacts.{Fact, InRoom, of_room}
 use Rattle.laws_days.specs.ActionCases.{by_both, invested_both, message_of, numbered_both}
 use Rattle.laws_days.specs.ActionCases.{told_to_same}
@@ -142,18 +141,6 @@ module _ (side : ℕ → Bool) (config : Configuration) (facts : List Fact) wher
   room_gets_same may room (to_room.Ready moment) is = rw (room_same side facts room is) refl
   room_gets_same may room other is = rw (room_same side facts room is) refl
 
-  -- the desk for which something is, and the room
-  abbrev desk_at : Placement → Option ℕ
-  desk_at (arrival.Dealer firm what) = Some firm
-  desk_at (arrival.Drop firm last moment) = Some firm
-  desk_at (arrival.Investor firm what) = Some firm
-  desk_at other = None
-
-  abbrev room_at : Placement → Option RoomRef
-  room_at (arrival.Room room what) = Some room
-  room_at (arrival.Hit room response word moment) = Some room
-  room_at other = None
-
   -- a desk and a room, where there is one, are on this side
   abbrev AreOn : Option ℕ → Option RoomRef → Type 0
   AreOn desk room =
@@ -161,7 +148,7 @@ module _ (side : ℕ → Bool) (config : Configuration) (facts : List Fact) wher
       × IfSome room (λ (one : RoomRef). side one.investor ≡ true)
 
   abbrev ComesOn : Placement → Type 0
-  ComesOn coming = AreOn (desk_at coming) (room_at coming)
+  ComesOn coming = AreOn (desk_for coming) (room_for coming)
 
   dropped_same : (number last moment : ℕ) → side number ≡ true
       → done_by (dealer_at config number) (dropped_by config facts last moment)
@@ -186,28 +173,16 @@ module _ (side : ℕ → Bool) (config : Configuration) (facts : List Fact) wher
 
   -- All duties, by the lines of the table.
 
-  abbrev LineOn : Actor → Line → Type 0
-  LineOn by (brings coming) = ComesOn coming
-  LineOn by (acting bring) = (dealer : Dealer) → ComesOn (bring dealer)
-  LineOn by (quoting quote room bring) = AreOn None (Some room)
-  LineOn by (drops last moment) = AreOn (firm_of by) None
-
-  line_on : (by : Actor) (d : Duty) → IsOn side config true by d → LineOn by (line_of config d)
-  unfolding line_of
-  line_on by (duty.Decline room moment) is = λ dealer. (is.desk_on, is.room_on)
-  line_on by (duty.Declined room moment) is = λ dealer. (is.desk_on, is.room_on)
-  line_on by other is = (is.desk_on, is.room_on)
-
-  line_same : FactsOn side config facts → (by : Actor) (line : Line) → LineOn by line
+  line_same : FactsOn side config facts → (by : Actor) (line : Line)
+      → AreOn (desk_of_line by line) (room_of_line line)
       → line_effect config facts by line ≡ line_effect config here by line
   line_same on by (brings coming) is = arrival_same on coming is
-  line_same on by (acting bring) is =
-      act_same by (λ l dealer. arrival_effect config l (bring dealer))
-      (λ dealer. arrival_same on (bring dealer) (is dealer))
-  line_same on by (quoting quote room bring) is =
-      act_same by (λ l dealer.
-      room_gets_where config l (has_word_for config dealer quote) room (bring dealer))
-      (λ dealer. room_gets_same (has_word_for config dealer quote) room (bring dealer) is.1)
+  line_same on by (acting_in room may bring) is =
+      act_same by (λ l dealer. room_gets_where config l (may dealer) room (bring dealer))
+      (λ dealer. room_gets_same (may dealer) room (bring dealer) is.1)
+  line_same on by (telling firm bring) is =
+      act_same by (λ l dealer. arrival_effect config l (arrival.Investor firm (bring dealer)))
+      (λ dealer. arrival_same on (arrival.Investor firm (bring dealer)) is)
   line_same on (actor.Firm number) (drops last moment) is = dropped_same number last moment is.0
   line_same on actor.Clock (drops last moment) is = refl
 
@@ -215,7 +190,7 @@ module _ (side : ℕ → Bool) (config : Configuration) (facts : List Fact) wher
       → IsOn side config true by d
       → duty_effect config facts by d ≡ duty_effect config here by d
   unfolding duty_effect
-  duty_same by d on is = line_same on by (line_of config d) (line_on by d is)
+  duty_same by d on is = line_same on by (line_of config d) (is.desk_on, is.room_on)
 
   pub sweep_same : (room : RoomRef) (moment : ℕ) → side room.investor ≡ true
       → sweep_effect config facts room moment ≡ sweep_effect config here room moment

@@ -6,6 +6,7 @@ use Rattle.market_terms.specs.declared.duties.Duty.{Duty}
 use Rattle.market_terms.specs.declared.duties.Duty.TheVariants as duty
 use Rattle.venue_rows.specs.Rows.{Configuration}
 use Rattle.venue_places.specs.Placed.{placed}
+use Rattle.venue_places.specs.Table.{line_of}
 use Rattle.venue_places.specs.declared.actors.Actor.{Actor}
 use Rattle.venue_places.specs.declared.arrivals.Placement.{Placement}
 use Rattle.venue_places.specs.declared.arrivals.Placement.TheVariants as arrival
@@ -53,6 +54,7 @@ module _ (side : ℕ → Bool) (number : ℕ) (here : side number ≡ true) (con
 
   may_bring : (by : Actor) (d : Duty) → IsOn side config false by d
       → MayBring config Elsewhere by d
+  unfolding line_of
   may_bring by (duty.Relay room offer moment) is = other_investor room.investor _ is.desk_on
   may_bring by (duty.Gone room word moment) is = other_investor room.investor _ is.desk_on
   may_bring (actor.Firm dealer) (duty.Declined room moment) is =

@@ -17,13 +17,14 @@ use Rattle.request_room.specs.Book.{book_of, hit_checks, hit_refusal, quote_mean
 use Rattle.request_room.specs.declared.quotes.PostedQuote.{PostedQuote}
 use Rattle.venue_steps.specs.Words.{word_of}
 use Rattle.venue_steps.specs.RoomSteps.{dealers_of}
+use Rattle.venue_places.specs.Placed.{desk_of_line, room_of_line}
+use Rattle.venue_places.specs.Table.{line_of}
 use Rattle.venue_places.specs.declared.actors.Actor.{Actor}
 use Rattle.venue_places.specs.declared.actors.Actor.TheVariants as actor
 use Rattle.step_replay.specs.Actions.{QuoteRef, quote_with_word, quotes_of}
 use Rattle.step_replay.specs.AuditTrail.{AuditTrail}
 use Rattle.step_replay.specs.DealerTrail.{DealerEntry, ShownIn, room_in, rooms_by}
 use Rattle.step_replay.specs.Lists.{Every}
-use Rattle.step_replay.specs.LiveStanding.{desk_of_duty, room_of_duty}
 use Rattle.step_replay.specs.VenueFacts.{Fact, AtDealer, InRoom, AtInvestor, of_dealer, of_room}
 use Rattle.step_replay.specs.VenueFacts.{of_investor, entry_at_dealer, fact_in_room}
 use Rattle.step_replay.specs.VenueFacts.{entry_at_investor}
@@ -75,8 +76,9 @@ NamedOn side config own by other = Unit {0}
 -- a duty of an actor that is on one side, with all that it names
 pub record IsOn (side : ℕ → Bool) (config : Configuration) (own : Bool) (by : Actor) (d : Duty)
     : Type 0 where
-  pub desk_on : IfSome (desk_of_duty by d) (λ (number : ℕ). side number ≡ own)
-  pub room_on : IfSome (room_of_duty d) (λ (room : RoomRef). side room.investor ≡ own)
+  pub desk_on : IfSome (desk_of_line by (line_of config d)) (λ (number : ℕ). side number ≡ own)
+  pub room_on : IfSome (room_of_line (line_of config d))
+      (λ (room : RoomRef). side room.investor ≡ own)
   pub named_on : NamedOn side config own by d
 
 -- a duty in the queue of an actor is on its side; of the clock nothing is said

@@ -13,10 +13,11 @@ use Rattle.venue_rows.specs.declared.dealer_rows.DealerRow.{DealerRow}
 use Rattle.venue_rows.specs.declared.investor_rows.InvestorRow.{InvestorRow}
 use Rattle.investor_desk.specs.InvestorDesk.{market_of}
 use Rattle.investor_desk.specs.InvestorRules.{InvestorMarket}
-use Rattle.venue_places.specs.Dealers.{Dealer, acting_dealer, dealer_of, has_word_for}
+use Rattle.venue_places.specs.Dealers.{Dealer, acting_dealer, dealer_of}
 use Rattle.venue_places.specs.Placed.{has_place, placed_by, where_there}
-use Rattle.venue_places.specs.Table.{Line, acting, brings, drops, line_of, quoting}
+use Rattle.venue_places.specs.Table.{Line, acting_in, brings, drops, line_of, telling}
 use Rattle.venue_places.specs.declared.actors.Actor.TheVariants as actor
+use Rattle.venue_places.specs.declared.arrivals.ForInvestor.{ForInvestor}
 use Rattle.venue_places.specs.declared.arrivals.ForRoom.{ForRoom}
 use Rattle.venue_places.specs.declared.arrivals.ForRoom.TheVariants as to_room
 use Rattle.venue_places.specs.declared.arrivals.Placement.{Placement}
@@ -69,26 +70,26 @@ module _ (config : Configuration) (facts : List Fact) where
       by_test true there = refl
       by_test false none = not_there coming none
 
-  -- A quote without a word does nothing.
+  -- What a room may not get does nothing.
 
   neither : (b : Bool) (effect : Effect) → (if b && false then effect else nothing) ≡ nothing
   neither true effect = refl
   neither false effect = refl
 
-  no_word : (room : RoomRef) (what : ForRoom)
+  may_not : (room : RoomRef) (what : ForRoom)
       → room_gets_where config facts false room what ≡ nothing
   unfolding room_gets_where
-  no_word room (to_room.Ready moment) = neither (has_room config room.investor room.n) _
-  no_word room other = neither (has_room config room.investor room.n) _
+  may_not room (to_room.Ready moment) = neither (has_room config room.investor room.n) _
+  may_not room other = neither (has_room config room.investor room.n) _
 
   -- The table, by the kinds of its lines.
 
-  acting_comes : (bring : Dealer → Placement) (found : Option Dealer)
-      → done_by found (λ dealer. arrival_effect config facts (bring dealer))
-      ≡ effect_where config facts
-      (option_and_then (λ dealer. where_there config (bring dealer)) found)
-  acting_comes bring None = refl
-  acting_comes bring (Some dealer) = place_comes (bring dealer)
+  telling_comes : (firm : ℕ) (bring : Dealer → ForInvestor) (found : Option Dealer)
+      → done_by found (λ dealer. arrival_effect config facts (arrival.Investor firm (bring dealer)))
+      ≡ effect_where config facts (option_and_then (λ dealer.
+      where_there config (arrival.Investor firm (bring dealer))) found)
+  telling_comes firm bring None = refl
+  telling_comes firm bring (Some dealer) = place_comes (arrival.Investor firm (bring dealer))
 
   in_its_room : (room : RoomRef) (what : ForRoom)
       → room_gets_where config facts true room what
@@ -96,22 +97,20 @@ module _ (config : Configuration) (facts : List Fact) where
   unfolding arrival_effect room_gets
   in_its_room room what = refl
 
-  quoting_comes : (quote : ℕ) (room : RoomRef) (bring : Dealer → ForRoom) (found : Option Dealer)
-      → done_by found (λ dealer.
-      room_gets_where config facts (has_word_for config dealer quote) room (bring dealer))
+  acting_comes : (room : RoomRef) (may : Dealer → Bool) (bring : Dealer → ForRoom)
+      (found : Option Dealer)
+      → done_by found (λ dealer. room_gets_where config facts (may dealer) room (bring dealer))
       ≡ effect_where config facts (option_and_then (λ dealer.
-      if has_word_for config dealer quote
-      then where_there config (arrival.Room room (bring dealer))
-      else None) found)
-  quoting_comes quote room bring None = refl
-  quoting_comes quote room bring (Some dealer) = by_word (has_word_for config dealer quote)
+      if may dealer then where_there config (arrival.Room room (bring dealer)) else None) found)
+  acting_comes room may bring None = refl
+  acting_comes room may bring (Some dealer) = by_test (may dealer)
     where
-      by_word : (b : Bool) → room_gets_where config facts b room (bring dealer)
+      by_test : (b : Bool) → room_gets_where config facts b room (bring dealer)
           ≡ effect_where config facts
           (if b then where_there config (arrival.Room room (bring dealer)) else None)
-      by_word true =
+      by_test true =
           in_its_room room (bring dealer) ∙ place_comes (arrival.Room room (bring dealer))
-      by_word false = no_word room (bring dealer)
+      by_test false = may_not room (bring dealer)
 
   own_drop : (last moment number : ℕ) (found : Option DealerRow)
       → dealer_numbered config number ≡ found
@@ -135,9 +134,9 @@ module _ (config : Configuration) (facts : List Fact) where
   line_comes : (by : Actor) (line : Line)
       → line_effect config facts by line ≡ effect_where config facts (placed_by config by line)
   line_comes by (brings coming) = place_comes coming
-  line_comes by (acting bring) = acting_comes bring (acting_dealer config by)
-  line_comes by (quoting quote room bring) =
-      quoting_comes quote room bring (acting_dealer config by)
+  line_comes by (acting_in room may bring) =
+      acting_comes room may bring (acting_dealer config by)
+  line_comes by (telling firm bring) = telling_comes firm bring (acting_dealer config by)
   line_comes by (drops last moment) = drop_comes last moment by
 
   pub duty_comes : (by : Actor) (d : Duty)
@@ -147,7 +146,7 @@ module _ (config : Configuration) (facts : List Fact) where
 
   pub sweep_comes : (room : RoomRef) (moment : ℕ)
       → sweep_effect config facts room moment ≡ effect_where config facts (swept config room moment)
-  unfolding sweep_effect
+  unfolding sweep_effect arrival_effect
   sweep_comes room moment = place_comes (arrival.Room room (to_room.Expire moment))
 
 -- An action by what the table gives for it, or gives not.

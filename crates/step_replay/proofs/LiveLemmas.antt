@@ -108,8 +108,8 @@ pub step_told : (config : Configuration) (trail : AuditTrail) (next : Step)
     (before after : LiveVenue) (start old : List Sent) (room : Option RoomRef)
     (desk had now : Option ℕ) → is_known config (actor_of next) ≡ true
     → VenueStands config trail before → messages_in config trail.facts ≡ start ++ old
-    → room ≡ room_of_step next (next_duty before.replay (actor_of next))
-    → desk ≡ desk_of_step next (next_duty before.replay (actor_of next))
+    → room ≡ room_of_step config next (next_duty before.replay (actor_of next))
+    → desk ≡ desk_of_step config next (next_duty before.replay (actor_of next))
     → ReplayStands config (after_step config trail next) after.replay
     → ((c : Configuration) (facts : List Fact) → Stands c facts before.replay.floor
     → had ≡ deadline_in c facts room)
@@ -126,13 +126,13 @@ step_told config trail next before after start old room desk had now known stood
     rw adds.grown at stands.floor_stands in
     let comes = next_is config (actor_of next) trail before.replay known stood.replay_stands in
     let behind = behind_is config trail.facts adds.more before.replay.floor after.replay.floor
-    floor_stood grown desk (rw (desk_is ∙ ap (desk_of_step next) comes) adds.sent) in
+    floor_stood grown desk (rw (desk_is ∙ ap (desk_of_step config next) comes) adds.sent) in
     record {
       stands = record {
         replay_stands = stands;
         rooms_stand = rw adds.grown (rooms_noted config trail.facts adds.more room had now
             before.open_rooms after.open_rooms stood.rooms_stand
-            (rw (room_is ∙ ap (room_of_step next) comes) adds.inside)
+            (rw (room_is ∙ ap (room_of_step config next) comes) adds.inside)
             (had_is config trail.facts floor_stood) (now_is config (trail.facts ++ adds.more) grown) notes);
       };
       told_is = rw (adds.grown, messages_both, told, append_assoc, behind) refl;

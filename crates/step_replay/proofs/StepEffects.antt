@@ -165,8 +165,8 @@ module _ (config : Configuration) where
   pub record Adds (trail : AuditTrail) (next : Step) : Type 0 where
     pub more : List Fact
     pub grown : (after_step config trail next).facts ≡ trail.facts ++ more
-    pub sent : SendAt (desk_of_step next (first_in (pending (actor_of next) trail))) more
-    pub inside : AreOf (room_of_step next (first_in (pending (actor_of next) trail))) more
+    pub sent : SendAt (desk_of_step config next (first_in (pending (actor_of next) trail))) more
+    pub inside : AreOf (room_of_step config next (first_in (pending (actor_of next) trail))) more
 
   turn_adds : (by : Actor) (trail : AuditTrail) (duties : List Duty) → pending by trail ≡ duties
       → Adds trail (step.Turn by)

@@ -8,7 +8,7 @@ use Rattle.step_replay.proofs.Common.{has_room, Actor, Dealer, Effect, at_dealer
 use Rattle.step_replay.proofs.Common.{dealer_at, done_by, done_for, nothing, told_of, where_known}
 use Rattle.step_replay.proofs.Common.{duty_effect, sweep_effect, AuditTrail, after_step, after_turn}
 use Rattle.step_replay.proofs.Common.{duty_of, is_same_actor, pending, with_effect, after_turns}
-use Rattle.step_replay.proofs.Common.{deadline_by, has_come, is_due, Fact, of_room}
+use Rattle.step_replay.proofs.Common.{has_come, is_due, Fact, of_room}
 use Rattle.step_replay.proofs.Common.{MOST_TURNS_BEHIND, own_pending, own_turned, duty_action}
 use Rattle.step_replay.proofs.Common.{sweep_action, room_stays}
 use Rattle.market_terms.specs.declared.duties.Duty.TheVariants as duty
@@ -19,9 +19,10 @@ use Rattle.request_room.specs.Book.{event_facts, expired, is_past_deadline}
 use Rattle.request_room.specs.RoomFacts.{is_ended, is_ready, request_of}
 use Rattle.request_room.specs.declared.requests.RoomRequest.{RoomRequest}
 use Rattle.venue_steps.specs.RoomSteps.{close_for, dealers_of, told_in}
+use Rattle.venue_places.specs.Placed.{room_of_line}
+use Rattle.venue_places.specs.Table.{line_of}
 use Rattle.venue_places.specs.declared.actors.Actor.TheVariants as actor
 use Rattle.step_replay.specs.Actions.{told_to}
-use Rattle.step_replay.specs.LiveStanding.{room_of_duty}
 use Rattle.step_replay.specs.declared.steps.Step.TheVariants as step
 use Rattle.step_replay.proofs.StartLemmas.{idle_step, idle_turns, swept, turned, turns_keep}
 use Rattle.step_replay.proofs.StepEffects.{AreOf, action_there}
@@ -94,10 +95,12 @@ is_telling other = false
 abbrev AreTellings : List Duty → Type 0
 AreTellings duties = AllByRecursion (λ d. is_telling d ≡ true) duties
 
-nowhere : (d : Duty) → is_telling d ≡ true → room_of_duty d ≡ None
-nowhere (duty.Close room moment) tells = refl
-nowhere (duty.Tell dealer room close moment) tells = refl
-nowhere other tells = cc
+nowhere : (config : Configuration) (d : Duty) → is_telling d ≡ true
+    → room_of_line (line_of config d) ≡ None
+unfolding line_of
+nowhere config (duty.Close room moment) tells = refl
+nowhere config (duty.Tell dealer room close moment) tells = refl
+nowhere config other tells = cc
 
 none_if : (b : Bool) (effect : Effect) → effect.duties ≡ []
     → (if b then effect else nothing).duties ≡ []
@@ -190,7 +193,7 @@ turn_tells config room known trail had = by_duties (pending actor.Clock trail) r
     by_duties (first ∷ later) is all =
         let effect = duty_effect config trail.facts actor.Clock first in
         let there : AreOf None effect.facts =
-        subst (λ (r : Option RoomRef). AreOf r effect.facts) (nowhere first all.0)
+        subst (λ (r : Option RoomRef). AreOf r effect.facts) (nowhere config first all.0)
         (action_there config trail.facts _ _ _ (duty_action config trail.facts actor.Clock first)) in
         let left = own_turned actor.Clock trail effect first later is
         ∙ ap (λ (l : List Duty). later ++ l) (leaves_none config trail.facts actor.Clock first all.0)

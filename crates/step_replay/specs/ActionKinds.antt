@@ -1,12 +1,12 @@
 -- What an action of the venue is, by its kind: nothing, one event at one desk or in one room, or a
--- hit. Each duty, message and sweep is shown to be of a kind here, line by line, and nowhere else: a
--- property that each kind keeps is kept by every action.
+-- hit. Whatever comes to a place, each message and each sweep is shown to be of a kind here, line by
+-- line, and nowhere else, and each duty by its line of the market's table: a property that each kind
+-- keeps is kept by every action.
 use Rattle.std.proofs.Common.{◌≡◌, ℕ, Bool, true, false, if◌then◌else◌, List, [], map}
 use Rattle.std.proofs.Common.{Option, Some, None, option_map, is_some, refl}
 use Rattle.market_terms.specs.declared.asks.Ask.{Ask}
 use Rattle.market_terms.specs.declared.closes.Close.{Close}
 use Rattle.market_terms.specs.declared.duties.Duty.{Duty}
-use Rattle.market_terms.specs.declared.duties.Duty.TheVariants as duty
 use Rattle.market_terms.specs.declared.rooms.ResponseRef.{ResponseRef}
 use Rattle.market_terms.specs.declared.rooms.RoomRef.{RoomRef}
 use Rattle.venue_rows.specs.Rows.{Configuration, dealer_numbered, investor_numbered}
@@ -25,15 +25,25 @@ use Rattle.venue_steps.specs.Replies.{replies_to}
 use Rattle.venue_steps.specs.RoomDuties.{hit_word}
 use Rattle.venue_places.specs.Dealers.{Dealer, acting_dealer, dealer_at, dealer_of}
 use Rattle.venue_places.specs.declared.actors.Actor.{Actor}
+use Rattle.venue_places.specs.Placed.{desk_for, desk_of_line, room_for, room_of_line}
+use Rattle.venue_places.specs.Table.{Line, acting_in, brings, drops, line_of, telling}
 use Rattle.venue_places.specs.declared.actors.Actor.TheVariants as actor
+use Rattle.venue_places.specs.declared.arrivals.ForDealer.{ForDealer}
+use Rattle.venue_places.specs.declared.arrivals.ForDealer.TheVariants as to_dealer
+use Rattle.venue_places.specs.declared.arrivals.ForInvestor.{ForInvestor}
+use Rattle.venue_places.specs.declared.arrivals.ForInvestor.TheVariants as to_investor
+use Rattle.venue_places.specs.declared.arrivals.ForRoom.{ForRoom}
+use Rattle.venue_places.specs.declared.arrivals.ForRoom.TheVariants as to_room
+use Rattle.venue_places.specs.declared.arrivals.Placement.{Placement}
+use Rattle.venue_places.specs.declared.arrivals.Placement.TheVariants as arrival
 use Rattle.step_replay.specs.Actions
-use Rattle.step_replay.specs.LineActions
+use Rattle.step_replay.specs.Coming.{arrival_effect, dealer_gets, investor_gets, room_gets}
+use Rattle.step_replay.specs.Coming.{room_gets_where}
 use Rattle.step_replay.specs.Actions.{Effect, nothing, done_by, done_for, at_dealer, at_market}
 use Rattle.step_replay.specs.Actions.{settlement_of, answer_to_hit, drop_at, hit_with}
 use Rattle.step_replay.specs.Actions.{in_room, quote_asked, told_of, where_known}
-use Rattle.step_replay.specs.DutyEffects.{duty_effect, message_effect, sweep_effect}
+use Rattle.step_replay.specs.DutyEffects.{duty_effect, line_effect, message_effect, sweep_effect}
 use Rattle.step_replay.specs.DealerTrail.{DealerEntry, book_by}
-use Rattle.step_replay.specs.LiveStanding.{desk_of_duty, room_of_duty}
 use Rattle.step_replay.specs.VenueFacts.{Fact, InRoom, of_dealer, of_room}
 
 -- why an event comes to the desk of a dealer with this row and trail
@@ -156,48 +166,73 @@ module _ (config : Configuration) (facts : List Fact) where
       (λ yes. by_dealer number row (at_desk.Told request close moment) [] refl is
       (told request close moment yes refl) refl)
 
-  -- All duties, line by line.
+  -- What comes to a place, line by line.
 
-  pub duty_action : (by : Actor) (d : Duty)
-      → IsAction (desk_of_duty by d) (room_of_duty d) (duty_effect config facts by d)
-  unfolding duty_effect
-  duty_action by (duty.Open room ask dealers moment) = in_a_room None room true _ _
-  duty_action by (duty.Show dealer room ask moment) =
-      numbered None dealer (Actions.shown_to config facts room ask moment)
-      (λ row is. unless_so (Some dealer) None _
-      (at_dealer config facts (dealer_of dealer row) (at_desk.Shown room ask moment) [])
-      (by_dealer dealer row (at_desk.Shown room ask moment) [] refl is
+  to_a_dealer : (number : ℕ) (what : ForDealer) → IsAction (Some number) None
+      (done_by (dealer_at config number) (dealer_gets config facts what))
+  unfolding dealer_gets
+  to_a_dealer number (to_dealer.Show room ask moment) =
+      numbered None number (Actions.shown_to config facts room ask moment)
+      (λ row is. unless_so (Some number) None _
+      (at_dealer config facts (dealer_of number row) (at_desk.Shown room ask moment) [])
+      (by_dealer number row (at_desk.Shown room ask moment) [] refl is
       (shown room ask moment refl) refl))
-  duty_action by (duty.Ready room moment) = in_a_room None room true _ []
-  duty_action by (duty.Post room quote price valid_until moment) =
-      acting None (Some room) by _ (λ dealer. in_a_room None room _ _ _)
-  duty_action by (duty.Relay room offer moment) = known_to None room.investor room.n _
-  duty_action by (duty.Unpost room quote moment) =
-      acting None (Some room) by _ (λ dealer. in_a_room None room _ _ _)
-  duty_action by (duty.Gone room word moment) = known_to None room.investor room.n _
-  duty_action by (duty.Decline room moment) =
-      acting None (Some room) by _ (λ dealer. in_a_room None room _ _ _)
-  duty_action by (duty.Declined room moment) =
-      acting (Some room.investor) None by _ (λ dealer. known_to None room.investor room.n _)
-  duty_action by (duty.Hit room response word moment) =
-      if_so None (Some room) _ (hit_here room response word moment)
-      (λ yes. by_hit room response word moment refl refl)
-  duty_action by (duty.Pass room response moment) = in_a_room None room true _ _
-  duty_action by (duty.Answer room response reply moment) =
-      invested None room.investor (LineActions.answered_by facts room response reply moment)
-      (λ row is. if_so (Some room.investor) None (replies_to response.k reply) _
-      (λ yes. known None room.investor room.n response.k _ row is))
-  duty_action by (duty.Close room moment) = known_to None room.investor room.n _
-  duty_action by (duty.Tell dealer room close moment) =
-      numbered None dealer (Actions.told_to config facts room close moment)
-      (λ row is. told_by dealer row is close moment _)
-  duty_action (actor.Firm number) (duty.Drop last moment) =
+  to_a_dealer number (to_dealer.Tell room close moment) =
+      numbered None number (Actions.told_to config facts room close moment)
+      (λ row is. told_by number row is close moment _)
+
+  dropped_at : (number last moment : ℕ) → IsAction (Some number) None
+      (done_by (dealer_at config number) (Actions.dropped_by config facts last moment))
+  dropped_at number last moment =
       numbered None number (Actions.dropped_by config facts last moment)
       (λ row is. if_so (Some number) None _
       (at_dealer config facts (dealer_of number row) (drop_at (of_dealer number facts) last moment)
       (Actions.left_by_drop config facts last moment (dealer_of number row)))
       (λ yes. by_dealer number row _ _ refl is (dropped last moment refl) refl))
-  duty_action actor.Clock (duty.Drop last moment) = idle refl
+
+  to_an_investor : (number : ℕ) (what : ForInvestor) → IsAction (Some number) None
+      (done_for (market_for config number) (investor_gets facts what))
+  unfolding investor_gets
+  to_an_investor number (to_investor.Answer request response reply moment) =
+      invested None number
+      (investor_gets facts (to_investor.Answer request response reply moment))
+      (λ row is. if_so (Some number) None (replies_to response.k reply) _
+      (λ yes. known None number request response.k _ row is))
+  to_an_investor number other = known_to None number _ _
+
+  to_a_room : (may : Bool) (at : RoomRef) (what : ForRoom)
+      → IsAction None (Some at) (room_gets_where config facts may at what)
+  unfolding room_gets_where
+  to_a_room may at (to_room.Ready moment) = in_a_room None at may _ []
+  to_a_room may at other = in_a_room None at _ _ _
+
+  pub arrival_action : (coming : Placement)
+      → IsAction (desk_for coming) (room_for coming) (arrival_effect config facts coming)
+  unfolding arrival_effect room_gets
+  arrival_action (arrival.Dealer firm what) = to_a_dealer firm what
+  arrival_action (arrival.Drop firm last moment) = dropped_at firm last moment
+  arrival_action (arrival.Investor firm what) = to_an_investor firm what
+  arrival_action (arrival.Room room what) = to_a_room true room what
+  arrival_action (arrival.Hit room response word moment) =
+      if_so None (Some room) _ (hit_here room response word moment)
+      (λ yes. by_hit room response word moment refl refl)
+
+  -- All duties, by the lines of the table.
+
+  line_action : (by : Actor) (line : Line)
+      → IsAction (desk_of_line by line) (room_of_line line) (line_effect config facts by line)
+  line_action by (brings coming) = arrival_action coming
+  line_action by (acting_in room may bring) =
+      acting None (Some room) by _ (λ dealer. to_a_room (may dealer) room (bring dealer))
+  line_action by (telling firm bring) =
+      acting (Some firm) None by _ (λ dealer. arrival_action (arrival.Investor firm (bring dealer)))
+  line_action (actor.Firm number) (drops last moment) = dropped_at number last moment
+  line_action actor.Clock (drops last moment) = idle refl
+
+  pub duty_action : (by : Actor) (d : Duty) → IsAction (desk_of_line by (line_of config d))
+      (room_of_line (line_of config d)) (duty_effect config facts by d)
+  unfolding duty_effect
+  duty_action by d = line_action by (line_of config d)
 
   pub message_action : (firm moment : ℕ) (bytes : List ℕ)
       → IsAction (Some firm) None (message_effect config facts firm moment bytes)
@@ -224,4 +259,4 @@ module _ (config : Configuration) (facts : List Fact) where
   pub sweep_action : (room : RoomRef) (moment : ℕ)
       → IsAction None (Some room) (sweep_effect config facts room moment)
   unfolding sweep_effect
-  sweep_action room moment = in_a_room None room true _ _
+  sweep_action room moment = to_a_room true room (to_room.Expire moment)

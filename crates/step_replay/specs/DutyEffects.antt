@@ -5,8 +5,8 @@ use Rattle.market_terms.specs.declared.duties.Duty.{Duty}
 use Rattle.market_terms.specs.declared.rooms.RoomRef.{RoomRef}
 use Rattle.venue_rows.specs.Rows.{Configuration, dealer_numbered}
 use Rattle.investor_desk.specs.InvestorDesk as investor_desk
-use Rattle.venue_places.specs.Dealers.{dealer_at, acting_dealer, has_word_for}
-use Rattle.venue_places.specs.Table.{Line, acting, brings, drops, line_of, quoting}
+use Rattle.venue_places.specs.Dealers.{dealer_at, acting_dealer}
+use Rattle.venue_places.specs.Table.{Line, acting_in, brings, drops, line_of, telling}
 use Rattle.venue_places.specs.declared.actors.Actor.{Actor}
 use Rattle.venue_places.specs.declared.arrivals.ForRoom.TheVariants as to_room
 use Rattle.venue_places.specs.declared.arrivals.Placement.TheVariants as arrival
@@ -19,11 +19,12 @@ use Rattle.step_replay.specs.Coming.{room_gets_where}
 -- what a line of the market's table does for an actor
 abbrev pub line_effect : Configuration → List Fact → Actor → Line → Effect
 line_effect config facts actor (brings coming) = arrival_effect config facts coming
-line_effect config facts actor (acting bring) =
-    done_by (acting_dealer config actor) (λ dealer. arrival_effect config facts (bring dealer))
-line_effect config facts actor (quoting quote room bring) =
+line_effect config facts actor (acting_in room may bring) =
     done_by (acting_dealer config actor) (λ dealer.
-    room_gets_where config facts (has_word_for config dealer quote) room (bring dealer))
+    room_gets_where config facts (may dealer) room (bring dealer))
+line_effect config facts actor (telling firm bring) =
+    done_by (acting_dealer config actor) (λ dealer.
+    arrival_effect config facts (arrival.Investor firm (bring dealer)))
 line_effect config facts actor (drops last moment) =
     done_by (acting_dealer config actor) (dropped_by config facts last moment)
 
@@ -34,9 +35,8 @@ duty_effect config facts actor duty = line_effect config facts actor (line_of co
 
 -- What a sweep does: an open room ends where its deadline has come.
 unfoldable pub sweep_effect : Configuration → List Fact → RoomRef → ℕ → Effect
-unfolding arrival_effect room_gets
-sweep_effect config facts room moment =
-    arrival_effect config facts (arrival.Room room (to_room.Expire moment))
+unfolding room_gets
+sweep_effect config facts room moment = room_gets config facts room (to_room.Expire moment)
 
 -- What a message of the firm with this number does at its own desk: that of a dealer or of an
 -- investor.

@@ -5,7 +5,6 @@ use Rattle.std.specs.Prelude.{◌≡◌, ℕ, List, [], ◌∷◌, ◌++◌, len
 use Rattle.std.specs.Prelude.{slice_get, fold, replicate, true}
 use Rattle.std.specs.Option.{option_and_then}
 use Rattle.market_terms.specs.declared.duties.Duty.{Duty}
-use Rattle.market_terms.specs.declared.duties.Duty.TheVariants as duty
 use Rattle.market_terms.specs.declared.rooms.RoomRef.{RoomRef}
 use Rattle.venue_rows.specs.Rows.{Configuration}
 use Rattle.step_replay.specs.AuditTrail.{AuditTrail, after_step, pending}
@@ -20,6 +19,8 @@ use Rattle.step_replay.specs.VenueRooms.{sweeps_at, rooms_of}
 use Rattle.step_replay.specs.declared.floor.Floor.{Floor}
 use Rattle.step_replay.specs.declared.live.LiveVenue.{LiveVenue}
 use Rattle.step_replay.specs.declared.replay.Replay.{Replay}
+use Rattle.venue_places.specs.Placed.{desk_of_line, room_of_line}
+use Rattle.venue_places.specs.Table.{line_of}
 use Rattle.venue_places.specs.declared.actors.Actor.{Actor}
 use Rattle.venue_places.specs.declared.actors.Actor.TheVariants as actor
 use Rattle.step_replay.specs.declared.steps.Step.{Step}
@@ -61,29 +62,6 @@ AnswersSweeps config steps moment after told =
 
 -- The desk at which a step may send messages: there is one at most.
 
--- the firm that an actor is
-abbrev pub firm_of : Actor → Option ℕ
-firm_of (actor.Firm number) = Some number
-firm_of actor.Clock = None
-
--- that at which a duty may
-abbrev pub desk_of_duty : Actor → Duty → Option ℕ
-desk_of_duty by (duty.Open room ask dealers moment) = None
-desk_of_duty by (duty.Show dealer room ask moment) = Some dealer
-desk_of_duty by (duty.Ready room moment) = None
-desk_of_duty by (duty.Post room quote price valid_until moment) = None
-desk_of_duty by (duty.Relay room offer moment) = Some room.investor
-desk_of_duty by (duty.Unpost room quote moment) = None
-desk_of_duty by (duty.Gone room word moment) = Some room.investor
-desk_of_duty by (duty.Decline room moment) = None
-desk_of_duty by (duty.Declined room moment) = Some room.investor
-desk_of_duty by (duty.Hit room response word moment) = None
-desk_of_duty by (duty.Pass room response moment) = None
-desk_of_duty by (duty.Answer room response reply moment) = Some room.investor
-desk_of_duty by (duty.Close room moment) = Some room.investor
-desk_of_duty by (duty.Tell dealer room close moment) = Some dealer
-desk_of_duty by (duty.Drop last moment) = firm_of by
-
 -- the duty that stands first in a queue
 abbrev pub first_in : List Duty → Option Duty
 first_in [] = None
@@ -94,37 +72,20 @@ abbrev pub next_duty : Replay → Actor → Option Duty
 next_duty replay by = option_and_then first_in
     (option_and_then (slice_get (duties_in replay)) (index_in (length replay.queues.items) by))
 
--- the desk at which a step may send, where its actor has these duties to do
-abbrev pub desk_of_step : Step → Option Duty → Option ℕ
-desk_of_step (step.In firm moment message) next = Some firm
-desk_of_step (step.Turn by) next = option_and_then (desk_of_duty by) next
-desk_of_step (step.Expire room moment) next = None
+-- the desk at which a step may send, where its actor has this duty to do next
+abbrev pub desk_of_step : Configuration → Step → Option Duty → Option ℕ
+desk_of_step config (step.In firm moment message) next = Some firm
+desk_of_step config (step.Turn by) next =
+    option_and_then (λ d. desk_of_line by (line_of config d)) next
+desk_of_step config (step.Expire room moment) next = None
 
 -- The room in which a step takes place: there is one at most.
 
--- that in which a duty is done
-abbrev pub room_of_duty : Duty → Option RoomRef
-room_of_duty (duty.Open room ask dealers moment) = Some room
-room_of_duty (duty.Show dealer room ask moment) = None
-room_of_duty (duty.Ready room moment) = Some room
-room_of_duty (duty.Post room quote price valid_until moment) = Some room
-room_of_duty (duty.Relay room offer moment) = None
-room_of_duty (duty.Unpost room quote moment) = Some room
-room_of_duty (duty.Gone room word moment) = None
-room_of_duty (duty.Decline room moment) = Some room
-room_of_duty (duty.Declined room moment) = None
-room_of_duty (duty.Hit room response word moment) = Some room
-room_of_duty (duty.Pass room response moment) = Some room
-room_of_duty (duty.Answer room response reply moment) = None
-room_of_duty (duty.Close room moment) = None
-room_of_duty (duty.Tell dealer room close moment) = None
-room_of_duty (duty.Drop last moment) = None
-
--- that of a step, where its actor has these duties to do
-abbrev pub room_of_step : Step → Option Duty → Option RoomRef
-room_of_step (step.In firm moment message) next = None
-room_of_step (step.Turn by) next = option_and_then room_of_duty next
-room_of_step (step.Expire room moment) next = Some room
+-- that of a step, where its actor has this duty to do next
+abbrev pub room_of_step : Configuration → Step → Option Duty → Option RoomRef
+room_of_step config (step.In firm moment message) next = None
+room_of_step config (step.Turn by) next = option_and_then (λ d. room_of_line (line_of config d)) next
+room_of_step config (step.Expire room moment) next = Some room
 
 -- what the code keeps of the messages of a firm
 abbrev pub sent_on_day : Option FirmDay → List (List ℕ)

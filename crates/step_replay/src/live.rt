@@ -12,6 +12,9 @@ ghost use Rattle.step_replay.specs.LiveStanding.{Answers, AnswersSweeps, IsAt, S
 ghost use Rattle.step_replay.specs.LiveStanding.{SendsDuties, SendsStep};
 ghost use Rattle.step_replay.specs.StepFaults as faults;
 ghost use Rattle.step_replay.specs.declared.steps.Step.{Step};
+ghost use Rattle.venue_places.specs.Placed as table;
+ghost use Rattle.venue_places.specs.Placed.{desk_of_line, room_of_line};
+ghost use Rattle.venue_places.specs.Table.{line_of};
 ghost use Rattle.venue_rows.specs.Rows.{Configuration, dealer_numbered};
 
 use crate::deadlines::deadline_at;
@@ -182,7 +185,7 @@ fn do_step(venue: &mut LiveVenue, step: &Step, told: &mut Vec<SentTo>) -> Result
 
 /// The room in which a step takes place, if it does in one.
 fn room_of(replay: &Replay, step: &Step) -> Option<RoomRef>
-    ensures { result ≡ spec.room_of_step step.now
+    ensures { (config : Configuration) → result ≡ spec.room_of_step config step.now
         (spec.next_duty replay.now (live.actor_of step.now)) }
 {
     match step {
@@ -196,8 +199,9 @@ fn room_of(replay: &Replay, step: &Step) -> Option<RoomRef>
 }
 
 /// The room in which a duty is done.
+#[tactic(auto, unfolding(venue_places::specs::Table::line_of))]
 fn room_of_duty(duty: &Duty) -> Option<RoomRef>
-    ensures { result ≡ spec.room_of_duty duty.now }
+    ensures { (config : Configuration) → result ≡ room_of_line (line_of config duty.now) }
 {
     match duty {
         Duty::Open { room, .. } => Some(*room),
@@ -220,7 +224,7 @@ fn room_of_duty(duty: &Duty) -> Option<RoomRef>
 
 /// The desk at which a step may send messages.
 fn desk_of(replay: &Replay, step: &Step) -> Option<u16>
-    ensures { result ≡ spec.desk_of_step step.now
+    ensures { (config : Configuration) → result ≡ spec.desk_of_step config step.now
         (spec.next_duty replay.now (live.actor_of step.now)) }
 {
     match step {
@@ -243,8 +247,9 @@ pub(crate) fn next_duty(replay: &Replay, by: Actor) -> Option<&Duty>
 }
 
 /// The desk at which a duty may send messages.
+#[tactic(auto, unfolding(venue_places::specs::Table::line_of))]
 fn desk_of_duty(by: Actor, duty: &Duty) -> Option<u16>
-    ensures { result ≡ spec.desk_of_duty by duty.now }
+    ensures { (config : Configuration) → result ≡ desk_of_line by (line_of config duty.now) }
 {
     match duty {
         Duty::Show { dealer, .. } => Some(*dealer),
@@ -267,7 +272,7 @@ fn desk_of_duty(by: Actor, duty: &Duty) -> Option<u16>
 
 /// The firm that an actor is.
 fn firm_of(by: Actor) -> Option<u16>
-    ensures { result ≡ spec.firm_of by }
+    ensures { result ≡ table.firm_of by }
 {
     let Actor::Firm(firm) = by else {
         return None;

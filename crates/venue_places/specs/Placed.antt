@@ -9,9 +9,10 @@ use Rattle.market_terms.specs.declared.rooms.RoomRef.{RoomRef}
 use Rattle.venue_rows.specs.Rows.{Configuration, dealer_numbered, has_room, investor_numbered}
 use Rattle.venue_places.specs.Dealers.{Dealer, acting_dealer, has_word_for, offer_of, word_for}
 use Rattle.venue_places.specs.Dealers.{words_of}
-use Rattle.venue_places.specs.Table.{Line, acting, brings, line_of, quoting}
+use Rattle.venue_places.specs.Table.{Line, acting_in, brings, line_of, telling}
 use Rattle.venue_places.specs.Table as table
 use Rattle.venue_places.specs.declared.actors.Actor.{Actor}
+use Rattle.venue_places.specs.declared.actors.Actor.TheVariants as actor
 use Rattle.venue_places.specs.declared.arrivals.Placement.{Placement}
 use Rattle.venue_places.specs.declared.arrivals.Placement.TheVariants as arrival
 use Rattle.venue_places.specs.declared.arrivals.ForDealer.{ForDealer}
@@ -43,13 +44,11 @@ by_dealer config by act = option_and_then act (acting_dealer config by)
 -- what a line of the table brings for an actor
 abbrev pub placed_by : Configuration → Actor → Line → Option Placement
 placed_by config by (brings coming) = where_there config coming
-placed_by config by (acting bring) =
-    by_dealer config by (λ dealer. where_there config (bring dealer))
-placed_by config by (quoting quote room bring) =
+placed_by config by (acting_in room may bring) =
     by_dealer config by (λ dealer.
-    if has_word_for config dealer quote
-    then where_there config (arrival.Room room (bring dealer))
-    else None)
+    if may dealer then where_there config (arrival.Room room (bring dealer)) else None)
+placed_by config by (telling firm bring) =
+    by_dealer config by (λ dealer. where_there config (arrival.Investor firm (bring dealer)))
 placed_by config by (table.drops last moment) =
     by_dealer config by (λ dealer. Some (arrival.Drop dealer.number last moment))
 
@@ -61,6 +60,39 @@ placed config by duty = placed_by config by (line_of config duty)
 -- where a sweep comes
 abbrev pub swept : Configuration → RoomRef → ℕ → Option Placement
 swept config room moment = where_there config (arrival.Room room (to_room.Expire moment))
+
+-- The desk or the room in which something is done: there is one at most.
+
+-- the desk to which this comes
+abbrev pub desk_for : Placement → Option ℕ
+desk_for (arrival.Dealer firm what) = Some firm
+desk_for (arrival.Drop firm last moment) = Some firm
+desk_for (arrival.Investor firm what) = Some firm
+desk_for other = None
+
+-- the room to which this comes
+abbrev pub room_for : Placement → Option RoomRef
+room_for (arrival.Room room what) = Some room
+room_for (arrival.Hit room response word moment) = Some room
+room_for other = None
+
+-- the firm that an actor is
+abbrev pub firm_of : Actor → Option ℕ
+firm_of (actor.Firm number) = Some number
+firm_of actor.Clock = None
+
+-- the desk of a line of the table, for an actor
+abbrev pub desk_of_line : Actor → Line → Option ℕ
+desk_of_line by (brings coming) = desk_for coming
+desk_of_line by (acting_in room may bring) = None
+desk_of_line by (telling firm bring) = Some firm
+desk_of_line by (table.drops last moment) = firm_of by
+
+-- the room of a line
+abbrev pub room_of_line : Line → Option RoomRef
+room_of_line (brings coming) = room_for coming
+room_of_line (acting_in room may bring) = Some room
+room_of_line other = None
 
 -- The parts in which the code works that out.
 
