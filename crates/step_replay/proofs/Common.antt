@@ -66,6 +66,7 @@ pub use Rattle.market_terms.specs.declared.rooms.RoomRef.{RoomRef}
 pub use Rattle.venue_places.specs.Placed.{swept}
 unfoldable pub use Rattle.venue_places.specs.Placed.{placed}
 pub use Rattle.venue_places.specs.declared.actors.Actor.{Actor}
+pub use Rattle.venue_places.specs.declared.arrivals.Placement.{Placement}
 unfoldable pub use Rattle.step_replay.specs.DutyEffects.{duty_effect, sweep_effect, message_effect}
 unfoldable pub use Rattle.step_replay.specs.Coming.{dealer_gets, investor_gets, room_gets}
 pub use Rattle.step_replay.specs.PlaceLemmas.{has_item, room_stays, investor_stays, own_trail}
@@ -88,9 +89,8 @@ pub use Rattle.market_terms.specs.declared.closes.Close.{Close}
 pub use Rattle.step_replay.specs.DueList.{due_by_fact}
 pub use Rattle.step_replay.specs.Liftings.{due_by_event, Noted, NotedAt, dues_behind, AreWithin}
 pub use Rattle.step_replay.specs.declared.dues.Due.{Due}
-pub use Rattle.step_replay.specs.LiveStanding.{count_at, sent_behind, SendsAllOf, VenueSends}
-pub use Rattle.step_replay.specs.LiveStanding.{desk_of_step, first_in, IsAt, VenueStands}
-pub use Rattle.step_replay.specs.LiveStanding.{room_of_step}
+pub use Rattle.step_replay.specs.LiveStanding.{sent_behind, SendsAllOf, VenueSends}
+pub use Rattle.step_replay.specs.LiveStanding.{first_in, IsAt, VenueStands}
 unfoldable pub use Rattle.step_replay.specs.LiveStanding.{after_turns}
 pub use Rattle.step_replay.specs.InvestorGrowth.{desk_of}
 pub use Rattle.step_replay.specs.ActionKinds.{IsAction, duty_action, message_action, sweep_action}
@@ -99,6 +99,8 @@ pub use Rattle.step_replay.specs.AuditTrail.{is_same_actor, duty_of, no_steps}
 unfoldable pub use Rattle.step_replay.specs.AuditTrail.{after_step, audit_trail}
 pub use Rattle.step_replay.specs.Queues.{is_known, queue_of, QueuesStand, QueueHas}
 pub use Rattle.step_replay.specs.Following.{ReplayStands, duties_in}
+pub use Rattle.step_replay.specs.DonePlaces.{IsDone}
+pub use Rattle.step_replay.specs.declared.done.Done.{Done}
 pub use Rattle.step_replay.specs.declared.replay.Replay.{Replay}
 pub use Rattle.step_replay.specs.QueueLemmas.{own_turned, other_turned, own_pending, other_pending}
 pub use Rattle.step_replay.specs.QueueLemmas.{same_either}
@@ -122,7 +124,7 @@ pub use Rattle.step_replay.specs.declared.floor.Lifting.{Lifting}
 pub use Rattle.step_replay.specs.declared.live.LiveVenue.{LiveVenue}
 pub use Rattle.step_replay.specs.declared.steps.Step.{Step}
 pub use Rattle.step_replay.specs.declared.steps.TheConstants.{MOST_TURNS_BEHIND}
-pub use Rattle.step_replay.specs.OpenRooms.{IsEmpty, Notes, deadline_in, RoomsStand, has_come}
+pub use Rattle.step_replay.specs.OpenRooms.{IsEmpty, Notes, RoomsStand, has_come}
 pub use Rattle.step_replay.specs.OpenRooms.{room_cmp, any_due, entry_cmp, is_due, deadline_by}
 pub use Rattle.step_replay.specs.Deadlines.{deadline_of}
 pub use Rattle.step_replay.specs.VenueRooms.{rooms_of, sweeps_at}

@@ -5,7 +5,7 @@ use Rattle.step_replay.proofs.Common.{◌∙◌, arith, zero, suc, nat_lt, if◌
 use Rattle.step_replay.proofs.Common.{drop, nat_tests, filter_map-append, slice_get, same_Some}
 use Rattle.step_replay.proofs.Common.{Configuration, is_dealer, messages_in, sent_by_facts, sent_in}
 use Rattle.step_replay.proofs.Common.{Fact, AtDealer, InRoom, AtInvestor, of_dealer, of_investor}
-use Rattle.step_replay.proofs.Common.{FirmDay, firm_days, count_at, sent_behind, Stands, firms_of}
+use Rattle.step_replay.proofs.Common.{FirmDay, firm_days, sent_behind, Stands, firms_of}
 use Rattle.step_replay.proofs.Common.{Floor}
 use Rattle.std.proofs.Common.{option_and_then}
 use Rattle.std.specs.List.{cons_option}
@@ -14,7 +14,7 @@ use Rattle.step_replay.specs.DealerTrail as dealer_trail
 use Rattle.step_replay.specs.InvestorTrail as investor_trail
 use Rattle.step_replay.specs.LiveDays.{message_for, messages_for}
 use Rattle.step_replay.specs.VenueFacts.{entry_at_dealer, entry_at_investor}
-use Rattle.step_replay.specs.LiveStanding.{sent_on_day, sent_on_floor}
+use Rattle.step_replay.specs.FloorDays.{sent_on_day, sent_on_floor}
 use Rattle.step_replay.proofs.StepEffects.{messages_both, to, SendAt, own, quiet}
 use Rattle.step_replay.proofs.DayLemmas.{days_stand, no_day, sent_on_its_day}
 
@@ -166,18 +166,16 @@ module _ (config : Configuration) (facts more : List Fact) (before after : Floor
       ∙ drop_nothing (length (sent_on_floor before desk))
 
   -- what stands behind is what facts more send
-  pub behind_is : (desk : Option ℕ) → SendAt config desk more
-      → messages_in config more ≡ sent_behind after desk (count_at before desk)
-  behind_is None (quiet none) = none
-  behind_is None (own firm is known sent) = cc
-  behind_is (Some desk) (quiet none) =
+  pub behind_is : (desk : ℕ) → SendAt config (Some desk) more
+      → messages_in config more ≡ sent_behind after desk (length (sent_on_floor before desk))
+  behind_is desk (quiet none) =
       none ∙ sym (ap (map (to desk)) (more_sent desk (nat_lt desk (firms_of config)) refl
       ∙ by_known (nat_lt desk (firms_of config))))
     where
       by_known : (b : Bool) → (if b then sent_by_facts config desk more else []) ≡ []
       by_known true = sym (own_part config desk more) ∙ ap (messages_for desk) none
       by_known false = refl
-  behind_is (Some desk) (own firm is known sent) =
+  behind_is desk (own firm is known sent) =
       let same : desk ≡ firm = same_Some desk firm is in
       sent ∙ ap (λ (n : ℕ). map (to n) (sent_by_facts config n more)) (sym same)
       ∙ ap (map (to desk)) (sym (more_sent desk true

@@ -11,15 +11,18 @@ use Rattle.step_replay.proofs.Common.{AuditTrail, after_turn, pending, with_effe
 use Rattle.step_replay.proofs.Common.{is_same_actor, duty_of, pending, with_effect, AreOneOf}
 use Rattle.step_replay.proofs.Common.{ActsOnce, Does, is_known, queue_of, QueuesStand, QueueHas}
 use Rattle.step_replay.proofs.Common.{is_known, queue_of, ReplayStands, duties_in, Replay}
+use Rattle.step_replay.proofs.Common.{Floor, Done, IsDone, placed}
 use Rattle.step_replay.proofs.Common.{nat_tests, firms_of, get_set_same, lent, own_turned}
 use Rattle.step_replay.proofs.Common.{other_turned, own_pending, other_pending, same_either}
 use Rattle.std.proofs.lemmas.List.{length-set}
 use Rattle.std.proofs.lemmas.Option.{slice_get-map}
+use Rattle.step_replay.specs.DonePlaces.{IsTurnDone}
 use Rattle.step_replay.specs.Following.{index_in, index_in}
 use Rattle.step_replay.specs.StepLemmas.{action_keeps}
 use Rattle.step_replay.specs.WordLemmas.{IsOneOf, one_is_kept}
 use Rattle.step_replay.proofs.LiftLemmas.{set_same}
 use Rattle.venue_places.specs.declared.actors.Actor.TheVariants as actor
+use Rattle.step_replay.specs.declared.done.Done.TheVariants as place
 use Rattle.step_replay.specs.PlaceLemmas.{get_set_other}
 use Rattle.step_replay.specs.QueueLemmas.{turned, own_within, other_within, grown_within, one_actor}
 
@@ -202,6 +205,21 @@ module _ {config : Configuration} {trail : AuditTrail} {replay : Replay} {index 
         are_one_of = before.are_one_of;
         queues_stand = rw same before.queues_stand;
       })
+
+  -- where a turn was done
+  pub full_told : (after : Floor) (done : Done) {duty : Duty} {rest : List Duty}
+      → queue ≡ duty ∷ rest → IsDone replay.floor after (placed replay.floor.config by duty) done
+      → IsTurnDone config by (pending by trail) replay.floor after done
+  full_told after done {duty} {rest} is_queue done_is =
+      let was : pending by trail ≡ duty ∷ rest = had ∙ is_queue in
+      rw was (subst (λ (venue : Configuration).
+      IsDone replay.floor after (placed venue by duty) done) before.floor_stands.config_is done_is)
+
+  pub idle_told : (after : Floor) {done : Done} → queue ≡ [] → done ≡ place.Nowhere
+      → IsTurnDone config by (pending by trail) replay.floor after done
+  idle_told after is_queue done_is =
+      let was : pending by trail ≡ [] = had ∙ is_queue in
+      rw was done_is
 
   -- a step that is no turn
   pub step_follows : {after : Replay} {effect : Effect} {left : List Duty} {desk : Option ℕ}

@@ -5,6 +5,7 @@ mod Common
 mod DayLemmas
 mod DealerActionLemmas
 mod DealerAsks
+mod DoneLemmas
 mod DueListLemmas
 mod FirmSent
 mod FloorLemmas

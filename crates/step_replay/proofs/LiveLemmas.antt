@@ -2,29 +2,28 @@
 -- stands.
 use Rattle.step_replay.proofs.Common.{◌≡◌, ◌≤◌, ℕ, ◌+◌, ◌-◌, true, false, List, [], ◌∷◌, ◌++◌}
 use Rattle.step_replay.proofs.Common.{length, fold, Option, Some, None, refl, sym, ap, ◌∙◌, arith}
-use Rattle.step_replay.proofs.Common.{slice_get, nat_tests, append-nil, append_assoc, length-map}
-use Rattle.step_replay.proofs.Common.{fold-append, Duty, Configuration, Actor, RoomRef, AuditTrail}
+use Rattle.step_replay.proofs.Common.{slice_get, nat_tests, append-nil, length-map}
+use Rattle.step_replay.proofs.Common.{fold-append, Duty, Configuration, Actor, AuditTrail}
 use Rattle.step_replay.proofs.Common.{after_step, after_turn, audit_trail, no_steps, is_same_actor}
 use Rattle.step_replay.proofs.Common.{pending, ReplayStands, duties_in, Sent, actor_of, live_steps}
 use Rattle.step_replay.proofs.Common.{live_trail, messages_in, SendsAllOf, VenueSends, after_turns}
-use Rattle.step_replay.proofs.Common.{count_at, desk_of_step, first_in, sent_behind, IsAt}
-use Rattle.step_replay.proofs.Common.{VenueStands, room_of_step, QueueHas, is_known, queue_of}
-use Rattle.step_replay.proofs.Common.{Stands, fault_of, firms_of, Fact, LiveVenue, Replay, Step}
+use Rattle.step_replay.proofs.Common.{first_in, IsAt, VenueStands, QueueHas, is_known, queue_of}
+use Rattle.step_replay.proofs.Common.{Stands, fault_of, firms_of, LiveVenue, Replay, Step}
 use Rattle.step_replay.proofs.Common.{MOST_TURNS_BEHIND, duty_effect, message_effect, sweep_effect}
-use Rattle.step_replay.proofs.Common.{IsEmpty, Notes, deadline_in, other_pending, other_turned}
+use Rattle.step_replay.proofs.Common.{IsEmpty, other_pending, other_turned, Done}
 use Rattle.step_replay.proofs.Common.{same_either}
 use Rattle.std.specs.Prelude.{nat_lt}
 use Rattle.std.specs.Option.{option_and_then}
 use Rattle.std.proofs.lemmas.List.Concat.{flat_map-append}
 use Rattle.venue_places.specs.declared.actors.Actor.TheVariants as actor
 use Rattle.step_replay.specs.LiveDays.{with_turns}
-use Rattle.step_replay.specs.LiveStanding.{next_duty, Answers}
+use Rattle.step_replay.specs.DonePlaces.{IsStepDone}
+use Rattle.step_replay.specs.LiveStanding.{next_duty, Answers, TakesIn}
 use Rattle.step_replay.specs.declared.steps.Step.TheVariants as step
 use Rattle.step_replay.proofs.FollowLemmas.{has_queue}
-use Rattle.step_replay.proofs.StepEffects.{messages_both, step_adds}
 use Rattle.step_replay.proofs.StartLemmas.{known_actor, idle_turns, turns_both, turns_keep}
-use Rattle.step_replay.proofs.FirmSent.{behind_is}
-use Rattle.step_replay.proofs.OpenRoomLemmas.{rooms_begin, rooms_noted}
+use Rattle.step_replay.proofs.DoneLemmas.{step_adds, taken}
+use Rattle.step_replay.proofs.OpenRoomLemmas.{rooms_begin}
 
 -- The duty that comes next.
 
@@ -103,39 +102,26 @@ live_more config steps next =
     ∙ fold-append (after_step config) no_steps (live_steps steps) (with_turns next ++ [])
     ∙ ap (fold (after_step config) (live_trail config steps)) (append-nil (with_turns next))
 
--- A step is done: what it sent is told, and where it takes place in a room its deadline is noted.
+-- A step is done, and what it did is taken in.
 pub step_told : (config : Configuration) (trail : AuditTrail) (next : Step)
-    (before after : LiveVenue) (start old : List Sent) (room : Option RoomRef)
-    (desk had now : Option ℕ) → is_known config (actor_of next) ≡ true
+    (before after : LiveVenue) (start old new : List Sent) (done : Done)
     → VenueStands config trail before → messages_in config trail.facts ≡ start ++ old
-    → room ≡ room_of_step config next (next_duty before.replay (actor_of next))
-    → desk ≡ desk_of_step config next (next_duty before.replay (actor_of next))
     → ReplayStands config (after_step config trail next) after.replay
-    → ((c : Configuration) (facts : List Fact) → Stands c facts before.replay.floor
-    → had ≡ deadline_in c facts room)
-    → ((c : Configuration) (facts : List Fact) → Stands c facts after.replay.floor
-    → now ≡ deadline_in c facts room)
-    → Notes room had now before.open_rooms after.open_rooms
-    → VenueSends config (after_step config trail next) after
-    (start ++ (old ++ sent_behind after.replay.floor desk (count_at before.replay.floor desk)))
-step_told config trail next before after start old room desk had now known stood told room_is desk_is
-    stands had_is now_is notes =
+    → IsStepDone next config trail before.replay.floor after.replay.floor done
+    → TakesIn done after.replay.floor old new before.open_rooms after.open_rooms
+    → VenueSends config (after_step config trail next) after (start ++ new)
+step_told config trail next before after start old new done stood told stands done_is takes =
     let adds = step_adds config trail next in
-    let floor_stood = stood.replay_stands.floor_stands in
     let grown : Stands config (trail.facts ++ adds.more) after.replay.floor =
     rw adds.grown at stands.floor_stands in
-    let comes = next_is config (actor_of next) trail before.replay known stood.replay_stands in
-    let behind = behind_is config trail.facts adds.more before.replay.floor after.replay.floor
-    floor_stood grown desk (rw (desk_is ∙ ap (desk_of_step config next) comes) adds.sent) in
+    let all = taken config trail.facts adds.more before.replay.floor after.replay.floor done start
+    old new before.open_rooms after.open_rooms
+    (adds.says before.replay.floor after.replay.floor stood.replay_stands.floor_stands grown done
+    done_is)
+    takes stood.rooms_stand told in
     record {
-      stands = record {
-        replay_stands = stands;
-        rooms_stand = rw adds.grown (rooms_noted config trail.facts adds.more room had now
-            before.open_rooms after.open_rooms stood.rooms_stand
-            (rw (room_is ∙ ap (room_of_step config next) comes) adds.inside)
-            (had_is config trail.facts floor_stood) (now_is config (trail.facts ++ adds.more) grown) notes);
-      };
-      told_is = rw (adds.grown, messages_both, told, append_assoc, behind) refl;
+      stands = record { replay_stands = stands; rooms_stand = rw adds.grown all.1 };
+      told_is = rw adds.grown all.0;
     }
 
 -- The clock has no duty but behind its own steps.

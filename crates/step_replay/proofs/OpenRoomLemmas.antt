@@ -1,12 +1,12 @@
 -- The rooms that are opening or open, by their deadlines, as the code keeps them and by the facts.
-use Rattle.step_replay.proofs.Common.{◌≡◌, ◌<◌, ◌≤◌, ℕ, Bool, true, false, ◌&&◌, ◌||◌, cond, nat_le}
+use Rattle.step_replay.proofs.Common.{◌≡◌, ◌≤◌, ℕ, Bool, true, false, ◌&&◌, ◌||◌, cond, nat_le}
 use Rattle.step_replay.proofs.Common.{List, [], ◌∷◌, ◌++◌, ◌==◌, Option, Some, None, if◌then◌else◌}
 use Rattle.step_replay.proofs.Common.{refl, sym, ap, ◌∙◌, subst, arith, eq-eqb, AllByRecursion}
 use Rattle.step_replay.proofs.Common.{list_any, IsStrictlySortedBy, deref, is_eq, Less, or-false}
 use Rattle.step_replay.proofs.Common.{nat_tests, same_from_decides, rest_more, RoomRef}
-use Rattle.step_replay.proofs.Common.{is_same_room, RoomFact, room_after, RoomEvent, Configuration}
+use Rattle.step_replay.proofs.Common.{is_same_room, RoomFact, Configuration}
 use Rattle.step_replay.proofs.Common.{has_room, any_due, entry_cmp, is_due, room_cmp, has_come}
-use Rattle.step_replay.proofs.Common.{IsEmpty, Notes, RoomsStand, deadline_by, deadline_in}
+use Rattle.step_replay.proofs.Common.{IsEmpty, Notes, RoomsStand, deadline_by}
 use Rattle.step_replay.proofs.Common.{OpenRooms, same_room, deadline_of, Fact, of_room, room_stays}
 use denote.Ref.{Bor}
 use Rattle.std.specs.Map.Iter.{TakesFirst}
@@ -210,14 +210,18 @@ module _ (config : Configuration) (facts : List Fact) where
       ap (λ (l : List RoomFact). if has_room config room.investor room.n then deadline_of l else None)
       (room_stays room facts more (are.elsewhere room other))
 
-  pub rooms_noted : (more : List Fact) (at : Option RoomRef) (had now : Option ℕ)
-      (before after : OpenRooms) → RoomsStand config facts before → AreOf at more
-      → had ≡ deadline_in config facts at → now ≡ deadline_in config (facts ++ more) at
-      → Notes at had now before after → RoomsStand config (facts ++ more) after
-  rooms_noted more None had now before after stands are had_is now_is notes entry =
-      ap (λ (rooms : OpenRooms). holds rooms entry) notes ∙ stands entry
+  -- nothing came to a room
+  pub rooms_rest : (more : List Fact) (rooms : OpenRooms) → RoomsStand config facts rooms
+      → AreOf None more → RoomsStand config (facts ++ more) rooms
+  rooms_rest more rooms stands are entry =
+      stands entry
       ∙ ap (λ (d : Option ℕ). is_deadline d entry.0) (sym (deadline_kept more None entry.1 are refl))
-  rooms_noted more (Some room) had now before after stands are had_is now_is notes entry =
+
+  pub rooms_noted : (more : List Fact) (room : RoomRef) (had now : Option ℕ)
+      (before after : OpenRooms) → RoomsStand config facts before → AreOf (Some room) more
+      → had ≡ deadline_by config facts room → now ≡ deadline_by config (facts ++ more) room
+      → Notes room had now before after → RoomsStand config (facts ++ more) after
+  rooms_noted more room had now before after stands are had_is now_is notes entry =
       notes (λ e same. rw (had_is ∙ ap (deadline_by config facts) (same_room room e.1 same)) (stands e))
       entry ∙ by_test (is_same_room room entry.1) refl
     where

@@ -1,26 +1,24 @@
--- What a step adds to the facts of rooms, it adds in the one room in which it takes place, and what it
--- sends, it sends to one firm.
+-- What an action adds to the facts of rooms, it adds in the one room in which it takes place, and what
+-- it sends, it sends to one firm.
 use Rattle.step_replay.proofs.Common.{◌≡◌, ℕ, Bool, false, List, [], ◌∷◌, ◌++◌, map, Option, Some}
 use Rattle.step_replay.proofs.Common.{None, refl, sym, ap, ◌∙◌, ◌<◌, true, nat_lt, length}
-use Rattle.step_replay.proofs.Common.{filter_map, arith, ap₂, nat_tests, append-nil}
+use Rattle.step_replay.proofs.Common.{filter_map, arith, ap₂, nat_tests}
 use Rattle.step_replay.proofs.Common.{filter_map-append, slice_get_past, slice_get_within, RoomRef}
 use Rattle.step_replay.proofs.Common.{HitRefusal, RoomFact, End, Configuration, dealer_numbered}
-use Rattle.step_replay.proofs.Common.{investor_numbered, is_same_room, Duty, DealerRow, InvestorRow}
-use Rattle.step_replay.proofs.Common.{Actor, IsAction, duty_action, message_action, sweep_action}
+use Rattle.step_replay.proofs.Common.{investor_numbered, is_same_room, DealerRow, InvestorRow}
+use Rattle.step_replay.proofs.Common.{IsAction}
 use Rattle.step_replay.proofs.Common.{Effect, QuoteRef, lifting, quote_with_word, DealerEntry}
 use Rattle.step_replay.proofs.Common.{InvestorEntry, Fact, AtDealer, InRoom, AtInvestor, of_room}
 use Rattle.step_replay.proofs.Common.{other_room, room_at_dealer, room_at_investor, room_grown}
-use Rattle.step_replay.proofs.Common.{behind_dealers, own_trail, own_investor, AuditTrail}
-use Rattle.step_replay.proofs.Common.{after_step, after_turn, pending, duty_effect, message_effect}
-use Rattle.step_replay.proofs.Common.{sweep_effect, Sent, actor_of, is_dealer, messages_in}
-use Rattle.step_replay.proofs.Common.{sent_by_facts, sent_in, desk_of_step, first_in, room_of_step}
-use Rattle.step_replay.proofs.Common.{firms_of, Step}
+use Rattle.step_replay.proofs.Common.{behind_dealers, own_trail, own_investor}
+use Rattle.step_replay.proofs.Common.{Sent, is_dealer, messages_in}
+use Rattle.step_replay.proofs.Common.{sent_by_facts, sent_in}
+use Rattle.step_replay.proofs.Common.{firms_of}
 use Rattle.std.specs.Prelude.{Result, is_some}
 use Rattle.step_replay.specs.ActionKinds.{by_dealer, by_hit, by_investor, by_room, idle}
 use Rattle.step_replay.specs.PlaceLemmas.{nothing_of, investor_within}
 use Rattle.step_replay.specs.DealerTrail as dealer_trail
 use Rattle.step_replay.specs.InvestorTrail as investor_trail
-use Rattle.step_replay.specs.declared.steps.Step.TheVariants as step
 
 -- whether a room is the one in which something takes place
 abbrev pub is_there : Option RoomRef → RoomRef → Bool
@@ -145,7 +143,7 @@ module _ (config : Configuration) where
   nothing_sent = refl
 
   -- all actions, by their kinds
-  action_at : (facts : List Fact) (desk : Option ℕ) (room : Option RoomRef) (effect : Effect)
+  pub action_at : (facts : List Fact) (desk : Option ℕ) (room : Option RoomRef) (effect : Effect)
       → IsAction config facts desk room effect → SendAt desk effect.facts
   action_at facts desk room effect (idle is) = rw is (quiet nothing_sent)
   action_at facts desk room effect (by_dealer number row event duties at found comes is) =
@@ -158,46 +156,3 @@ module _ (config : Configuration) where
       rw is (quiet (messages_both (lifting _ _) (map (InRoom at) _)
       ∙ ap₂ (λ (l m : List Sent). l ++ m) (lifting_quiet (quote_with_word config word) _)
       (room_quiet at _)))
-
-  -- All steps.
-
-  -- what a step adds
-  pub record Adds (trail : AuditTrail) (next : Step) : Type 0 where
-    pub more : List Fact
-    pub grown : (after_step config trail next).facts ≡ trail.facts ++ more
-    pub sent : SendAt (desk_of_step config next (first_in (pending (actor_of next) trail))) more
-    pub inside : AreOf (room_of_step config next (first_in (pending (actor_of next) trail))) more
-
-  turn_adds : (by : Actor) (trail : AuditTrail) (duties : List Duty) → pending by trail ≡ duties
-      → Adds trail (step.Turn by)
-  unfolding after_step
-  turn_adds by trail [] is = record {
-    more = [];
-    grown = ap (λ (d : List Duty). (after_turn config by trail d).facts) is
-        ∙ sym (append-nil trail.facts);
-    sent = quiet nothing_sent;
-    inside = nothing_there _;
-  }
-  turn_adds by trail (first ∷ later) is = record {
-    more = (duty_effect config trail.facts by first).facts;
-    grown = ap (λ (d : List Duty). (after_turn config by trail d).facts) is;
-    sent = rw is (action_at trail.facts _ _ _ (duty_action config trail.facts by first));
-    inside = rw is (action_there config trail.facts _ _ _ (duty_action config trail.facts by first));
-  }
-
-  pub step_adds : (trail : AuditTrail) (next : Step) → Adds trail next
-  unfolding after_step
-  step_adds trail (step.In firm moment message) = record {
-    more = (message_effect config trail.facts firm moment message).facts;
-    grown = refl;
-    sent = action_at trail.facts _ _ _ (message_action config trail.facts firm moment message);
-    inside = action_there config trail.facts _ _ _
-        (message_action config trail.facts firm moment message);
-  }
-  step_adds trail (step.Turn by) = turn_adds by trail (pending by trail) refl
-  step_adds trail (step.Expire room moment) = record {
-    more = (sweep_effect config trail.facts room moment).facts;
-    grown = refl;
-    sent = action_at trail.facts _ _ _ (sweep_action config trail.facts room moment);
-    inside = action_there config trail.facts _ _ _ (sweep_action config trail.facts room moment);
-  }

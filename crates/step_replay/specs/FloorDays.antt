@@ -1,5 +1,5 @@
 -- How the code keeps the day of each firm: names for private functions alone.
-use Rattle.std.specs.Prelude.{List, ◌++◌, map}
+use Rattle.std.specs.Prelude.{ℕ, List, [], ◌++◌, map, slice_get, Option, Some, None}
 use Rattle.market_terms.specs.DayLines.{OfDealer, OfInvestor}
 use Rattle.dealer_desk.specs.DealerDesk.{book_at}
 use Rattle.dealer_desk.specs.DealerOutput.{dealer_output}
@@ -29,3 +29,11 @@ investor_day_at place = record {
 -- the days of the firms at their places
 abbrev pub days_of_floor : Floor → List FirmDay
 days_of_floor floor = map dealer_day_at floor.dealers.items ++ map investor_day_at floor.investors.items
+
+-- what the code keeps of the messages of a firm
+abbrev pub sent_on_day : Option FirmDay → List (List ℕ)
+sent_on_day None = []
+sent_on_day (Some day) = day.sent
+
+abbrev pub sent_on_floor : Floor → ℕ → List (List ℕ)
+sent_on_floor floor firm = sent_on_day (slice_get (days_of_floor floor) firm)

@@ -6,6 +6,7 @@ pub mod Deadlines
 pub mod DealerGrowth
 pub mod DealerTrail
 pub mod DealerView
+pub mod DonePlaces
 pub mod DoneSteps
 pub mod DueList
 pub mod DutyEffects

@@ -8,19 +8,19 @@ use Rattle.market_terms.specs.declared.duties.Duty.{Duty}
 use Rattle.market_terms.specs.declared.rooms.RoomRef.{RoomRef}
 use Rattle.venue_rows.specs.Rows.{Configuration}
 use Rattle.step_replay.specs.AuditTrail.{AuditTrail, after_step, pending}
-use Rattle.step_replay.specs.FirmDays.{FirmDay}
-use Rattle.step_replay.specs.FloorDays.{days_of_floor}
+use Rattle.step_replay.specs.FloorDays.{sent_on_floor}
 use Rattle.step_replay.specs.Following.{ReplayStands, duties_in, index_in}
 use Rattle.step_replay.specs.LiveDays.{Sent, actor_of, live_messages, live_trail, messages_in}
-use Rattle.step_replay.specs.OpenRooms.{RoomsStand}
+use Rattle.step_replay.specs.OpenRooms.{Notes, RoomsStand}
 use Rattle.step_replay.specs.Queues.{is_known}
 use Rattle.step_replay.specs.StepFaults.{fault_of}
 use Rattle.step_replay.specs.VenueRooms.{sweeps_at, rooms_of}
+use Rattle.step_replay.specs.declared.done.Done.{Done}
+use Rattle.step_replay.specs.declared.done.Done.TheVariants as place
 use Rattle.step_replay.specs.declared.floor.Floor.{Floor}
 use Rattle.step_replay.specs.declared.live.LiveVenue.{LiveVenue}
+use Rattle.step_replay.specs.declared.open_rooms.OpenRooms.{OpenRooms}
 use Rattle.step_replay.specs.declared.replay.Replay.{Replay}
-use Rattle.venue_places.specs.Placed.{desk_of_line, room_of_line}
-use Rattle.venue_places.specs.Table.{line_of}
 use Rattle.venue_places.specs.declared.actors.Actor.{Actor}
 use Rattle.venue_places.specs.declared.actors.Actor.TheVariants as actor
 use Rattle.step_replay.specs.declared.steps.Step.{Step}
@@ -60,8 +60,6 @@ abbrev pub AnswersSweeps : Configuration → List Step → ℕ → LiveVenue →
 AnswersSweeps config steps moment after told =
     AnswersSweepsOf config steps moment (rooms_of config) after told
 
--- The desk at which a step may send messages: there is one at most.
-
 -- the duty that stands first in a queue
 abbrev pub first_in : List Duty → Option Duty
 first_in [] = None
@@ -72,38 +70,18 @@ abbrev pub next_duty : Replay → Actor → Option Duty
 next_duty replay by = option_and_then first_in
     (option_and_then (slice_get (duties_in replay)) (index_in (length replay.queues.items) by))
 
--- the desk at which a step may send, where its actor has this duty to do next
-abbrev pub desk_of_step : Configuration → Step → Option Duty → Option ℕ
-desk_of_step config (step.In firm moment message) next = Some firm
-desk_of_step config (step.Turn by) next =
-    option_and_then (λ d. desk_of_line by (line_of config d)) next
-desk_of_step config (step.Expire room moment) next = None
+-- the messages of a firm behind so many
+abbrev pub sent_behind : Floor → ℕ → ℕ → List Sent
+sent_behind floor firm from = map (λ message. (firm, message)) (drop from (sent_on_floor floor firm))
 
--- The room in which a step takes place: there is one at most.
-
--- that of a step, where its actor has this duty to do next
-abbrev pub room_of_step : Configuration → Step → Option Duty → Option RoomRef
-room_of_step config (step.In firm moment message) next = None
-room_of_step config (step.Turn by) next = option_and_then (λ d. room_of_line (line_of config d)) next
-room_of_step config (step.Expire room moment) next = Some room
-
--- what the code keeps of the messages of a firm
-abbrev pub sent_on_day : Option FirmDay → List (List ℕ)
-sent_on_day None = []
-sent_on_day (Some day) = day.sent
-
-abbrev pub sent_on_floor : Floor → ℕ → List (List ℕ)
-sent_on_floor floor firm = sent_on_day (slice_get (days_of_floor floor) firm)
-
--- the messages at a desk behind so many
-abbrev pub sent_behind : Floor → Option ℕ → ℕ → List Sent
-sent_behind floor None from = []
-sent_behind floor (Some firm) from = map (λ message. (firm, message)) (drop from (sent_on_floor floor firm))
-
--- how many messages there are at a desk
-abbrev pub count_at : Floor → Option ℕ → ℕ
-count_at floor None = 0
-count_at floor (Some firm) = length (sent_on_floor floor firm)
+-- what is taken in of a step: the messages that were sent at its desk are told behind the others, or
+-- the deadline of its room is noted
+abbrev pub TakesIn : Done → Floor → List Sent → List Sent → OpenRooms → OpenRooms → Type 0
+TakesIn place.Nowhere floor old new before after = (new ≡ old) × (after ≡ before)
+TakesIn (place.AtDesk firm count) floor old new before after =
+    (new ≡ old ++ sent_behind floor firm count) × (after ≡ before)
+TakesIn (place.InRoom room had now) floor old new before after =
+    (new ≡ old) × Notes room had now before after
 
 -- A step is done and what it sent is told, wherever the day stood and whatever was told before.
 pub record VenueSends (config : Configuration) (trail : AuditTrail) (after : LiveVenue)

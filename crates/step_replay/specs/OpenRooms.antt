@@ -70,10 +70,9 @@ abbrev pub Puts : RoomRef → Option ℕ → OpenRooms → OpenRooms → Type 0
 Puts room deadline before after = (entry : Entry)
     → holds after entry ≡ (is_entry room deadline entry || holds before entry)
 
--- the deadline of a room, where there is one, is noted, where that which it had stood there
-abbrev pub Notes : Option RoomRef → Option ℕ → Option ℕ → OpenRooms → OpenRooms → Type 0
-Notes None had now before after = after ≡ before
-Notes (Some room) had now before after =
+-- the deadline of a room, where it has one, is noted, where that which it had stood there
+abbrev pub Notes : RoomRef → Option ℕ → Option ℕ → OpenRooms → OpenRooms → Type 0
+Notes room had now before after =
     ((entry : Entry) → is_same_room room entry.1 ≡ true
     → holds before entry ≡ is_deadline had entry.0)
     → (entry : Entry) → holds after entry
@@ -83,11 +82,6 @@ Notes (Some room) had now before after =
 abbrev pub deadline_by : Configuration → List Fact → RoomRef → Option ℕ
 deadline_by config facts room =
     if has_room config room.investor room.n then deadline_of (of_room room facts) else None
-
--- the same of the room in which something takes place, if it does in one
-abbrev pub deadline_in : Configuration → List Fact → Option RoomRef → Option ℕ
-deadline_in config facts None = None
-deadline_in config facts (Some room) = deadline_by config facts room
 
 -- whether a deadline, where there is one, has come
 abbrev pub has_come : ℕ → Option ℕ → Bool

@@ -1,25 +1,18 @@
 //! The deadlines of the requests that have not ended.
-ghost use Rattle.std.specs.Prelude.{◌≡◌, List};
-ghost use Rattle.venue_rows.specs.Rows.{Configuration};
+ghost use Rattle.std.specs.Prelude.{◌≡◌};
 ghost use Rattle.request_room.specs.Book.{room_after};
 ghost use Rattle.step_replay.specs.Deadlines as spec;
-ghost use Rattle.step_replay.specs.OpenRooms.{deadline_in};
-ghost use Rattle.step_replay.specs.Standing.{Stands};
-ghost use Rattle.step_replay.specs.VenueFacts.{Fact};
+ghost use Rattle.step_replay.specs.DonePlaces.{IsDeadline};
 
 use crate::floor::Floor;
 use fix_fields::Moment;
 use market_terms::RoomRef;
 use request_room::Room;
 
-/// The deadline of a room of the venue, where there is one, that is opening or open.
-pub(crate) fn deadline_at(floor: &Floor, room: Option<RoomRef>) -> Option<Moment>
-    ensures { (config : Configuration) (facts : List Fact) → Stands config facts floor.now
-        → result ≡ deadline_in config facts room }
+/// The deadline of a room of the venue that is opening or open.
+pub(crate) fn deadline_at(floor: &Floor, room: RoomRef) -> Option<Moment>
+    ensures { IsDeadline floor.now room result }
 {
-    let Some(room) = room else {
-        return None;
-    };
     let Some((investor, index)) = floor.room_place(room) else {
         return None;
     };

@@ -77,6 +77,7 @@
 mod deadlines;
 mod dealer_actions;
 mod dealer_view;
+mod done;
 mod due_lists;
 mod dues;
 mod duties;

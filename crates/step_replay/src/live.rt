@@ -12,12 +12,9 @@ ghost use Rattle.step_replay.specs.LiveStanding.{Answers, AnswersSweeps, IsAt, S
 ghost use Rattle.step_replay.specs.LiveStanding.{SendsDuties, SendsStep};
 ghost use Rattle.step_replay.specs.StepFaults as faults;
 ghost use Rattle.step_replay.specs.declared.steps.Step.{Step};
-ghost use Rattle.venue_places.specs.Placed as table;
-ghost use Rattle.venue_places.specs.Placed.{desk_of_line, room_of_line};
-ghost use Rattle.venue_places.specs.Table.{line_of};
 ghost use Rattle.venue_rows.specs.Rows.{Configuration, dealer_numbered};
 
-use crate::deadlines::deadline_at;
+use crate::done::Done;
 use crate::due_lists::dues_at;
 use crate::dues::Due;
 use crate::faults::{ReplayFault, fault_of};
@@ -28,7 +25,7 @@ use crate::sent_to::SentTo;
 use crate::steps::{MOST_TURNS_BEHIND, Step};
 use crate::world::World;
 use fix_fields::{Memory, Moment};
-use market_terms::{Duty, RoomRef};
+use market_terms::Duty;
 use quote_messages::SentMessage;
 use std::alloc::Global;
 use venue_places::Actor;
@@ -172,68 +169,17 @@ fn do_step(venue: &mut LiveVenue, step: &Step, told: &mut Vec<SentTo>) -> Result
     ensures { OnOk result
         (SendsStep step.now venue.old venue.new told.old.items told.new.items) }
 {
-    let room = room_of(&venue.replay, step);
-    let before = deadline_at(&venue.replay.floor, room);
-    let desk = desk_of(&venue.replay, step);
-    let count = count_at(&venue.replay.floor, desk);
-    venue.replay.step(step)?;
-    push_behind(told, &venue.replay.floor, desk, count)?;
-    let after = deadline_at(&venue.replay.floor, room);
-    venue.open_rooms.note(room, before, after)?;
-    Ok(())
-}
-
-/// The room in which a step takes place, if it does in one.
-fn room_of(replay: &Replay, step: &Step) -> Option<RoomRef>
-    ensures { (config : Configuration) → result ≡ spec.room_of_step config step.now
-        (spec.next_duty replay.now (live.actor_of step.now)) }
-{
-    match step {
-        Step::In(_, _, _) => None,
-        Step::Turn(by) => {
-            let duty = next_duty(replay, *by)?;
-            room_of_duty(duty)
+    let done = venue.replay.step(step)?;
+    match done {
+        Done::Nowhere => Ok(()),
+        Done::AtDesk(firm, count) => {
+            push_behind(told, &venue.replay.floor, firm, count)?;
+            Ok(())
         }
-        Step::Expire(room, _) => Some(*room),
-    }
-}
-
-/// The room in which a duty is done.
-#[tactic(auto, unfolding(venue_places::specs::Table::line_of))]
-fn room_of_duty(duty: &Duty) -> Option<RoomRef>
-    ensures { (config : Configuration) → result ≡ room_of_line (line_of config duty.now) }
-{
-    match duty {
-        Duty::Open { room, .. } => Some(*room),
-        Duty::Ready { room, .. } => Some(*room),
-        Duty::Post { room, .. } => Some(*room),
-        Duty::Unpost { room, .. } => Some(*room),
-        Duty::Decline { room, .. } => Some(*room),
-        Duty::Hit { room, .. } => Some(*room),
-        Duty::Pass { room, .. } => Some(*room),
-        Duty::Show { .. } => None,
-        Duty::Tell { .. } => None,
-        Duty::Relay { .. } => None,
-        Duty::Gone { .. } => None,
-        Duty::Declined { .. } => None,
-        Duty::Answer { .. } => None,
-        Duty::Close { .. } => None,
-        Duty::Drop { .. } => None,
-    }
-}
-
-/// The desk at which a step may send messages.
-fn desk_of(replay: &Replay, step: &Step) -> Option<u16>
-    ensures { (config : Configuration) → result ≡ spec.desk_of_step config step.now
-        (spec.next_duty replay.now (live.actor_of step.now)) }
-{
-    match step {
-        Step::In(firm, _, _) => Some(*firm),
-        Step::Turn(by) => {
-            let duty = next_duty(replay, *by)?;
-            desk_of_duty(*by, duty)
+        Done::InRoom(room, before, now) => {
+            venue.open_rooms.note(room, before, now)?;
+            Ok(())
         }
-        Step::Expire(_, _) => None,
     }
 }
 
@@ -244,40 +190,6 @@ pub(crate) fn next_duty(replay: &Replay, by: Actor) -> Option<&Duty>
     let index = replay.index_of(by)?;
     let queue = replay.queues.get(index)?;
     queue.front()
-}
-
-/// The desk at which a duty may send messages.
-#[tactic(auto, unfolding(venue_places::specs::Table::line_of))]
-fn desk_of_duty(by: Actor, duty: &Duty) -> Option<u16>
-    ensures { (config : Configuration) → result ≡ desk_of_line by (line_of config duty.now) }
-{
-    match duty {
-        Duty::Show { dealer, .. } => Some(*dealer),
-        Duty::Tell { dealer, .. } => Some(*dealer),
-        Duty::Relay { room, .. } => Some(room.investor),
-        Duty::Gone { room, .. } => Some(room.investor),
-        Duty::Declined { room, .. } => Some(room.investor),
-        Duty::Answer { room, .. } => Some(room.investor),
-        Duty::Close { room, .. } => Some(room.investor),
-        Duty::Drop { .. } => firm_of(by),
-        Duty::Open { .. } => None,
-        Duty::Ready { .. } => None,
-        Duty::Post { .. } => None,
-        Duty::Unpost { .. } => None,
-        Duty::Decline { .. } => None,
-        Duty::Hit { .. } => None,
-        Duty::Pass { .. } => None,
-    }
-}
-
-/// The firm that an actor is.
-fn firm_of(by: Actor) -> Option<u16>
-    ensures { result ≡ table.firm_of by }
-{
-    let Actor::Firm(firm) = by else {
-        return None;
-    };
-    Some(firm)
 }
 
 /// The messages that the firm with this number was sent, or none where no firm has it.
@@ -293,39 +205,18 @@ pub(crate) fn sent_on(floor: &Floor, firm: u16) -> Option<&[SentMessage]>
     Some(place.desk.sent())
 }
 
-/// How many messages there are at a desk.
-fn count_at(floor: &Floor, desk: Option<u16>) -> usize
-    ensures { result ≡ spec.count_at floor.now desk }
-{
-    let Some(firm) = desk else {
-        return 0;
-    };
-    let Some(messages) = sent_on(floor, firm) else {
-        return 0;
-    };
-    messages.len()
-}
-
-/// Tells the messages at a desk behind so many.
-fn push_behind(
-    told: &mut Vec<SentTo>,
-    floor: &Floor,
-    desk: Option<u16>,
-    count: usize,
-) -> Result<(), Memory>
+/// Tells the messages of a firm behind so many, where the venue has it.
+fn push_behind(told: &mut Vec<SentTo>, floor: &Floor, firm: u16, count: usize) -> Result<(), Memory>
     ensures { OnOk result (told.new.items
-        ≡ told.old.items ++ spec.sent_behind floor.now desk count) }
+        ≡ told.old.items ++ spec.sent_behind floor.now firm count) }
 {
-    let Some(firm) = desk else {
-        return Ok(());
-    };
     let Some(messages) = sent_on(floor, firm) else {
         return Ok(());
     };
     push_from(told, firm, messages, count)
 }
 
-/// Tells the messages of a firm behind so many.
+/// Tells these messages of a firm behind so many.
 fn push_from(
     told: &mut Vec<SentTo>,
     firm: u16,

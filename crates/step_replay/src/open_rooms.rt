@@ -49,19 +49,15 @@ impl OpenRooms {
         Ok(rooms)
     }
 
-    /// What was a room's deadline, where there is a room, is another now, or none: it was opened, or
-    /// it ended.
+    /// What was a room's deadline may be another now, or none: it was opened, or it ended.
     pub(crate) fn note(
         &mut self,
-        room: Option<RoomRef>,
+        room: RoomRef,
         before: Option<Moment>,
         now: Option<Moment>,
     ) -> Result<(), Memory>
         ensures { OnOk result (spec.Notes room before now self.old self.new) }
     {
-        let Some(room) = room else {
-            return Ok(());
-        };
         if before == now {
             return Ok(());
         }

@@ -2,12 +2,15 @@
 ghost use Rattle.std.specs.Prelude.{◌≡◌, true, None, [], length, map, replicate, IfOk, OnOk};
 ghost use Rattle.step_replay.specs.DutyEffects.{message_effect, sweep_effect};
 ghost use Rattle.step_replay.specs.AuditTrail as venue;
+ghost use Rattle.step_replay.specs.DonePlaces.{IsMessageDone, IsStepDone, IsSweepDone, IsTurnDone};
+ghost use Rattle.step_replay.specs.DonePlaces.{Tells};
 ghost use Rattle.step_replay.specs.DoneSteps.{AreKnown, after_steps};
 ghost use Rattle.step_replay.specs.Following as spec;
 ghost use Rattle.step_replay.specs.Following.{Follows, ReplayStands};
 ghost use Rattle.step_replay.specs.Queues.{is_known};
 ghost use Rattle.step_replay.specs.StepFaults.{fault_of};
 
+use crate::done::Done;
 use crate::duties::{act, receive, sweep};
 use crate::floor::Floor;
 use crate::queues::leave;
@@ -40,25 +43,40 @@ impl Replay {
         Ok(Replay { floor, queues })
     }
 
-    /// A step is done.
-    pub(crate) fn step(&mut self, step: &Step) -> Result<(), Memory>
+    /// A step is done: where, and what the venue had there.
+    pub(crate) fn step(&mut self, step: &Step) -> Result<Done, Memory>
+        ensures follows { OnOk result (Follows (λ config. fault_of config 0 step.now ≡ None)
+            (λ config trail. venue.after_step config trail step.now)
+            self.old self.new) }
+        ensures done { IfOk result (Tells (λ config. fault_of config 0 step.now ≡ None)
+            (IsStepDone step.now) self.old self.new) }
+    {
+        match step {
+            Step::In(firm, moment, message) => {
+                let done = self.receive(*firm, *moment, message.as_bytes())?;
+                Ok(done)
+            }
+            Step::Turn(by) => {
+                let done = self.turn(*by)?;
+                Ok(done)
+            }
+            Step::Expire(room, moment) => {
+                let done = self.sweep(*room, *moment)?;
+                Ok(done)
+            }
+        }
+    }
+
+    /// The same for whoever does not ask where.
+    // A match: the prover can't carry a `Done` past a `?` that drops it.
+    pub(crate) fn follow(&mut self, step: &Step) -> Result<(), Memory>
         ensures { OnOk result (Follows (λ config. fault_of config 0 step.now ≡ None)
             (λ config trail. venue.after_step config trail step.now)
             self.old self.new) }
     {
-        match step {
-            Step::In(firm, moment, message) => {
-                self.receive(*firm, *moment, message.as_bytes())?;
-                Ok(())
-            }
-            Step::Turn(by) => {
-                self.turn(*by)?;
-                Ok(())
-            }
-            Step::Expire(room, moment) => {
-                self.sweep(*room, *moment)?;
-                Ok(())
-            }
+        match self.step(step) {
+            Ok(_) => Ok(()),
+            Err(memory) => Err(memory),
         }
     }
 
@@ -69,7 +87,7 @@ impl Replay {
             (Follows (AreKnown steps.items) (after_steps steps.items) self.old self.new) }
     {
         for step in steps {
-            self.step(&step)?;
+            self.follow(&step)?;
         }
         Ok(())
     }
@@ -88,62 +106,73 @@ impl Replay {
     }
 
     /// An actor does the oldest of its duties, where it has one.
-    pub(crate) fn turn(&mut self, by: Actor) -> Result<(), Memory>
-        ensures { OnOk result (Follows (λ config. is_known config by ≡ true)
+    pub(crate) fn turn(&mut self, by: Actor) -> Result<Done, Memory>
+        ensures follows { OnOk result (Follows (λ config. is_known config by ≡ true)
             (λ config trail. venue.after_turn config by trail (venue.pending by trail))
             self.old self.new) }
+        ensures done { IfOk result (Tells (λ config. is_known config by ≡ true)
+            (λ config trail. IsTurnDone config by (venue.pending by trail)) self.old self.new) }
     {
         let Some(index) = self.index_of(by) else {
-            return Ok(());
+            return Ok(Done::Nowhere);
         };
         let Some(queue) = self.queues.get_mut(index) else {
-            return Ok(());
+            return Ok(Done::Nowhere);
         };
         let Some(duty) = queue.pop_front() else {
-            return Ok(());
+            return Ok(Done::Nowhere);
         };
-        let duties = act(&mut self.floor, by, duty)?;
+        let acted = act(&mut self.floor, by, duty)?;
         let Some(queue) = self.queues.get_mut(index) else {
-            return Ok(());
+            return Ok(acted.done);
         };
-        leave(queue, duties)?;
-        Ok(())
+        leave(queue, acted.duties)?;
+        Ok(acted.done)
     }
 
     /// A message of a firm comes to its own desk.
-    pub(crate) fn receive(&mut self, firm: u16, moment: Moment, bytes: &[u8]) -> Result<(), Memory>
-        ensures { OnOk result (Follows (λ config. is_known config (Actor.Firm firm) ≡ true)
+    pub(crate) fn receive(
+        &mut self,
+        firm: u16,
+        moment: Moment,
+        bytes: &[u8],
+    ) -> Result<Done, Memory>
+        ensures follows { OnOk result (Follows (λ config. is_known config (Actor.Firm firm) ≡ true)
             (λ config trail. venue.with_effect (Actor.Firm firm) trail
             (message_effect config trail.facts firm moment bytes.now))
             self.old self.new) }
+        ensures done { IfOk result (Tells (λ config. is_known config (Actor.Firm firm) ≡ true)
+            (λ config trail. IsMessageDone firm) self.old self.new) }
     {
         let Some(index) = self.index_of(Actor::Firm(firm)) else {
-            return Ok(());
+            return Ok(Done::Nowhere);
         };
-        let duties = receive(&mut self.floor, firm, moment, bytes)?;
+        let acted = receive(&mut self.floor, firm, moment, bytes)?;
         let Some(queue) = self.queues.get_mut(index) else {
-            return Ok(());
+            return Ok(acted.done);
         };
-        leave(queue, duties)?;
-        Ok(())
+        leave(queue, acted.duties)?;
+        Ok(acted.done)
     }
 
     /// The clock sweeps a room.
-    pub(crate) fn sweep(&mut self, room: RoomRef, moment: Moment) -> Result<(), Memory>
-        ensures { OnOk result (Follows (λ config. is_known config Actor.Clock ≡ true)
+    pub(crate) fn sweep(&mut self, room: RoomRef, moment: Moment) -> Result<Done, Memory>
+        ensures follows { OnOk result (Follows (λ config. is_known config Actor.Clock ≡ true)
             (λ config trail. venue.with_effect Actor.Clock trail
             (sweep_effect config trail.facts room moment))
             self.old self.new) }
+        ensures done { IfOk result (Tells (λ config. is_known config Actor.Clock ≡ true)
+            (λ config trail. IsSweepDone config room moment) self.old self.new) }
     {
         let Some(index) = self.index_of(Actor::Clock) else {
-            return Ok(());
+            return Ok(Done::Nowhere);
         };
-        let duties = sweep(&mut self.floor, room, moment)?;
+        let acted = sweep(&mut self.floor, room, moment)?;
         let Some(queue) = self.queues.get_mut(index) else {
-            return Ok(());
+            return Ok(acted.done);
         };
-        leave(queue, duties)?;
-        Ok(())
+        leave(queue, acted.duties)?;
+        Ok(acted.done)
     }
 }
 

@@ -52,7 +52,7 @@ impl SteppedVenue {
         if let Some(fault) = fault_of(config, 1, step) {
             return Err(fault);
         }
-        self.replay.step(step)?;
+        self.replay.follow(step)?;
         Ok(())
     }
 

@@ -187,7 +187,7 @@ fn replayed(alloc: Global, config: &VenueConfig, steps: &[Step]) -> Result<Floor
 {
     let mut replay = Replay::new(alloc, config)?;
     for step in steps {
-        replay.step(step)?;
+        replay.follow(step)?;
     }
     let Replay { floor, .. } = replay;
     Ok(floor)

@@ -1,16 +1,28 @@
-use Rattle.step_replay.proofs.Common.{placed}
+use Rattle.step_replay.proofs.Common.{Option, subst, IsDone, Placement, placed}
 use Rattle.step_replay.proofs.ComingLemmas.{duty_comes, nothing_comes, something_comes}
 use Rattle.step_replay.proofs.duties.act.Goals as goal
 
-pub returns-in_default : goal.returns-in_default
-returns-in_default c =
+pub returns-in_default-clause-acts : goal.returns-in_default-clause-acts
+returns-in_default-clause-acts c =
     nothing_comes (λ config. placed config c.args.by c.args.duty)
     (λ config facts. duty_comes config facts c.args.by c.args.duty) c.args.floor.now
-    c.nothing.result.items c.in_default.ensures c.nothing.ensures
+    c.idle.result.duties.items c.in_default.ensures c.idle.ensures.duties
 
-pub returns : goal.returns
-returns c =
+pub returns-in_default-clause-done : goal.returns-in_default-clause-done
+returns-in_default-clause-done c =
+    subst (λ (coming : Option Placement).
+    IsDone c.args.floor.now c.args.floor.now coming c.idle.result.done) c.in_default.ensures
+    c.idle.ensures.done
+
+pub returns-clause-acts : goal.returns-clause-acts
+returns-clause-acts c =
     something_comes (λ config. placed config c.args.by c.args.duty)
     (λ config facts. duty_comes config facts c.args.by c.args.duty) c.args.floor.now
-    c.bring.new.floor c.in_ok-duties.duties.items c.in-Some.arrival c.in-Some.ensures
-    c.in_ok-duties.ensures
+    c.bring.new.floor c.in_ok-acted.acted.duties.items c.in-Some.arrival c.in-Some.ensures
+    c.in_ok-acted.ensures.acts
+
+pub returns-clause-done : goal.returns-clause-done
+returns-clause-done c =
+    subst (λ (coming : Option Placement).
+    IsDone c.args.floor.now c.bring.new.floor coming c.in_ok-acted.acted.done) c.in-Some.ensures
+    c.in_ok-acted.ensures.done

@@ -4,16 +4,16 @@ use Rattle.step_replay.proofs.ComingLemmas.{dealer_here}
 use Rattle.step_replay.proofs.FoundDealers.{no_dealer}
 use Rattle.step_replay.proofs.duties.receive.Goals as goal
 
-pub returns-then-from-len : goal.returns-then-from-len
+pub returns-then-from-len-clause-acts : goal.returns-then-from-len-clause-acts
 unfolding message_effect
-returns-then-from-len c config facts stands =
+returns-then-from-len-clause-acts c config facts stands =
     let within : c.args.firm < length c.args.floor.now.dealers.items =
     grind (arith, nat_tests, c.if-from-len.true, c.from.ensures, c.len.ensures) in
     rw (dealer_here c.args.firm stands within) (c.in_ok-duties.ensures config facts stands)
 
-pub returns : goal.returns
+pub returns-clause-acts : goal.returns-clause-acts
 unfolding message_effect
-returns c config facts stands =
+returns-clause-acts c config facts stands =
     let beyond : length c.args.floor.now.dealers.items ≤ c.args.firm =
     grind (arith, nat_tests, c.if-from-len.false, c.from.ensures, c.len.ensures) in
     let none : is_some (dealer_numbered config c.args.firm) ≡ false =

@@ -12,7 +12,7 @@ loop-step-preserved c =
     let steps = c.args.steps.now in
     let at = c.loop-step.step-index in
     rw (day_more config steps at c.step-item.result c.loop-step-test.true c.step-item.is)
-    (c.in_ok-step.ensures config (audit_trail config (take at steps))
+    (c.in_ok-follow.ensures config (audit_trail config (take at steps))
     (no_fault_at config steps at c.step-item.result c.requires c.loop-step-test.true
     c.step-item.is)
     c.loop-step.invariant)

@@ -15,8 +15,8 @@ loop-step-preserved c config trail known stands =
     c.args.steps.items (search rules) (search rules)) done c.loop-step.step-iterator
     c.loop-step.yielded_by c.next.result c.next.new.self step c.in-Some.is
     c.next.ensures.steps in
-    step_done config trail c.args.steps.items done step c.loop-step.self c.step.new.self known
-    turn.0 turn.1 c.in_ok-step.ensures (c.loop-step.invariant config trail known stands)
+    step_done config trail c.args.steps.items done step c.loop-step.self c.follow.new.self known
+    turn.0 turn.1 c.in_ok-follow.ensures (c.loop-step.invariant config trail known stands)
 
 pub returns : goal.returns
 returns c config trail known stands =

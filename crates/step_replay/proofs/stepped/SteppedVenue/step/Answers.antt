@@ -13,5 +13,5 @@ returns-clause-ok c steps at =
     let none = any_place config 1 c.args.step.now (sym c.in_default.ensures) in
     record {
       stands = rw (one_step_more config steps c.args.step.now)
-          (c.in_ok-step.ensures config (audit_trail config steps) none at.stands);
+          (c.in_ok-follow.ensures config (audit_trail config steps) none at.stands);
     }
