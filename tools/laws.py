@@ -247,7 +247,7 @@ DEFINITIONS = {
         "step_replay/AuditTrail",
         "step_replay/Actions",
         "step_replay/DutyEffects",
-        "venue_places/Table",
+        "venue_steps/Table",
         "step_replay/Coming",
         "step_replay/VenueFacts",
         "step_replay/DealerTrail",

@@ -43,7 +43,6 @@ CALLERS = {
     "command_arguments": ("venue_commands/src/program.rt", "run_program"),
     "venue_text": ("live_runs/src/stages.rt", "answer_step"),
     "venue_commands": ("rfq_venue/src/main.rt", "main"),
-    "venue_places": ("session_worker/src/duties.rt", "act"),
     "blotter": ("venue_text/src/blotter_command.rt", "lines_text"),
     "session_worker": ("venue_commands/src/days.rt", "day_text"),
     "day_checks": ("session_worker/src/days.rt", "recorded"),

@@ -19,7 +19,7 @@ use std::sync::Wait;
 use std::test::Fail;
 use step_replay::{Actor, Step};
 use venue_config::{VenueConfig, read_config};
-use venue_places::words_of;
+use venue_steps::words_of;
 
 /// A gate that looks at what stands before it, and holds nobody.
 struct Looks;

@@ -6,7 +6,7 @@ use Rattle.std.proofs.Common.{◌∷◌, Option, Some, None, is_some, if◌then�
 use Rattle.std.proofs.lemmas.Bool.{and_parts}
 use Rattle.std.specs.List.{list_all}
 use Rattle.step_replay.specs.Lists.{Every}
-use Rattle.venue_places.specs.declared.actors.Actor.{Actor}
+use Rattle.venue_steps.specs.declared.actors.Actor.{Actor}
 use Rattle.recorded_days.specs.Records.{ActionRef, DealerLists, InvestorLists, RecordedDay}
 use Rattle.recorded_days.specs.Records.{RoomLists, action_in}
 use Rattle.recorded_days.specs.declared.actions.Action.{Action}

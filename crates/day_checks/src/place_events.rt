@@ -12,7 +12,7 @@ use step_replay::Actor;
 /// An event at a desk or in a room.
 pub(crate) trait PlaceEvent {
     ghost use Rattle.std.specs.Prelude.{Bool};
-    ghost use Rattle.venue_places.specs.declared.actors.Actor.{Actor};
+    ghost use Rattle.venue_steps.specs.declared.actors.Actor.{Actor};
     ghost use Rattle.recorded_days.specs.declared.actions.Action.{Action};
 
     /// Whether an action of an actor is the one that left it.

@@ -12,8 +12,8 @@ use std::marker::Brand;
 use std::process::Abort;
 use std::sync::Wait;
 use std::test::Fail;
-use venue_places::words_of;
 use venue_rows::VenueConfig;
+use venue_steps::words_of;
 
 // INV1 asks DLR2, which quotes and cancels; then the clock sweeps the room before its deadline, and at
 // it.

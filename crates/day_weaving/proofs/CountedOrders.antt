@@ -12,7 +12,7 @@ use Rattle.std.proofs.lemmas.List.Sums.{sum_by-cons}
 use Rattle.std.proofs.lemmas.Option.{slice_get_within}
 use Rattle.step_replay.specs.AuditTrail.{is_same_actor}
 use Rattle.step_replay.specs.QueueLemmas.{one_actor, same_actor}
-use Rattle.venue_places.specs.declared.actors.Actor.{Actor}
+use Rattle.venue_steps.specs.declared.actors.Actor.{Actor}
 use Rattle.recorded_days.specs.Records.{ActionRef, RecordedDay, action_in, actions_of}
 use Rattle.recorded_days.specs.declared.actions.Action.{Action}
 use Rattle.day_weaving.specs.DayForm.{AreNamedOnce}

@@ -5,8 +5,8 @@ use Rattle.std.specs.Prelude.{option_and_then}
 use Rattle.std.specs.List.{list_any}
 use Rattle.std.specs.Option.{option_map}
 use Rattle.venue_rows.specs.Rows.{Configuration}
-use Rattle.venue_places.specs.declared.actors.Actor.TheVariants as actor
-use Rattle.venue_places.specs.declared.actors.Actor.{Actor}
+use Rattle.venue_steps.specs.declared.actors.Actor.TheVariants as actor
+use Rattle.venue_steps.specs.declared.actors.Actor.{Actor}
 use Rattle.day_weaving.specs.DayForm.{AreMisnamed, AreNamedOnce, ClockTakesMessage, IsWellFormed}
 use Rattle.day_weaving.specs.DayForm.{Misnamed, NamedNowhere, NamedTwice, NamesNoAction}
 use Rattle.day_weaving.specs.DayForm.{OtherDealers, OtherInvestors, DeskIsSwept, FirmSweeps}

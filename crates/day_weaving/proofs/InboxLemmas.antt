@@ -9,8 +9,8 @@ use Rattle.std.proofs.lemmas.List.Folds.{list_any_at}
 use Rattle.std.proofs.lemmas.Option.{get_or_from_slice_get, slice_get_within}
 use Rattle.market_terms.specs.declared.rooms.RoomRef.{RoomRef}
 use Rattle.venue_rows.specs.Rows.{Configuration}
-use Rattle.venue_places.specs.declared.actors.Actor.{Actor}
-use Rattle.venue_places.specs.declared.actors.Actor.TheVariants as actor
+use Rattle.venue_steps.specs.declared.actors.Actor.{Actor}
+use Rattle.venue_steps.specs.declared.actors.Actor.TheVariants as actor
 use Rattle.day_weaving.specs.DayForm.{IsWellFormed, names_sweep, sweeps, takes_message}
 use Rattle.day_weaving.specs.DayOrder.{StandsAt, is_by}
 use Rattle.day_weaving.specs.OrderCounts.{AreOfInboxes, Counts, IsNext, count_in, inbound_at}

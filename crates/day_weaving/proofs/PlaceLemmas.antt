@@ -8,7 +8,7 @@ use Rattle.std.proofs.lemmas.List.Folds.{list_any-append}
 use Rattle.std.proofs.lemmas.Option.{slice_get_within}
 use Rattle.std.proofs.lemmas.Bool.{cases_eq}
 use Rattle.step_replay.specs.AuditTrail.{is_same_actor}
-use Rattle.venue_places.specs.declared.actors.Actor.{Actor}
+use Rattle.venue_steps.specs.declared.actors.Actor.{Actor}
 use Rattle.day_weaving.specs.DayOrder.{ComesInTurn, is_by, is_granted, is_refused}
 use Rattle.day_weaving.specs.OrderCounts.{AreOfActors, count_in, key_of}
 use Rattle.day_weaving.specs.OrderSearch.{Grows, HasCome, HasOrder, IsOnWay, IsReady, IsSlot}

@@ -11,8 +11,8 @@ use Rattle.std.proofs.lemmas.Bool.Decides.{nat_tests}
 use Rattle.venue_rows.specs.Rows.{Configuration, has_room, investor_numbered, may_request}
 use Rattle.venue_rows.specs.declared.investor_rows.InvestorRow.{InvestorRow}
 use Rattle.step_replay.specs.StepFaults.{firms_of}
-use Rattle.venue_places.specs.declared.actors.Actor.{Actor}
-use Rattle.venue_places.specs.declared.actors.Actor.TheVariants as actor
+use Rattle.venue_steps.specs.declared.actors.Actor.{Actor}
+use Rattle.venue_steps.specs.declared.actors.Actor.TheVariants as actor
 use Rattle.day_weaving.specs.DayForm.{AreMisnamed, AreNamedOnce, HasFirmsOf, IsNamed, NamedNowhere}
 use Rattle.day_weaving.specs.DayForm.{NamedTwice}
 use Rattle.day_weaving.specs.DayOrder.{StandsAt, order_at}

@@ -4,7 +4,7 @@ use Rattle.std.proofs.Common.{Some, arith, refl, sym, ap, subst, ◌∙◌}
 use Rattle.std.proofs.lemmas.List.{length-set}
 use Rattle.std.proofs.lemmas.Option.{slice_get_within}
 use Rattle.std.proofs.lemmas.Bool.{cases_eq}
-use Rattle.venue_places.specs.declared.actors.Actor.{Actor}
+use Rattle.venue_steps.specs.declared.actors.Actor.{Actor}
 use Rattle.day_weaving.specs.DayOrder.{IsDirectlyBefore}
 use Rattle.day_weaving.specs.OrderCounts.{count_in, key_of}
 use Rattle.day_weaving.specs.OrderSearch.{HasCome, IsAction, IsLeft, IsOnWay, IsReady, IsSlot}

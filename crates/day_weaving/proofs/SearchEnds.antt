@@ -6,7 +6,7 @@ use Rattle.std.specs.List.{sum_by}
 use Rattle.std.proofs.lemmas.List.Sums.{get_or-le-sum_by, sum_by-cons}
 use Rattle.std.proofs.lemmas.Option.{get_or_from_slice_get}
 use Rattle.std.proofs.lemmas.List.{length-replicate}
-use Rattle.venue_places.specs.declared.actors.Actor.{Actor}
+use Rattle.venue_steps.specs.declared.actors.Actor.{Actor}
 use Rattle.day_weaving.specs.DayOrder.{KeepsOrder}
 use Rattle.day_weaving.specs.OrderCounts.{count_in, key_of}
 use Rattle.day_weaving.specs.OrderSearch.{HasCome, HasOrder, IsAction, IsTable, Stands, index_in}

@@ -14,8 +14,8 @@ use Rattle.step_replay.specs.StepFaults.{fault_of, fault_of_firm, first_fault, f
 use Rattle.step_replay.specs.StepFaults.{firms_of, or_else}
 use Rattle.step_replay.specs.declared.faults.ReplayFault.{ReplayFault}
 use Rattle.step_replay.specs.declared.faults.ReplayFault.TheVariants as fault
-use Rattle.venue_places.specs.declared.actors.Actor.{Actor}
-use Rattle.venue_places.specs.declared.actors.Actor.TheVariants as actor
+use Rattle.venue_steps.specs.declared.actors.Actor.{Actor}
+use Rattle.venue_steps.specs.declared.actors.Actor.TheVariants as actor
 use Rattle.step_replay.specs.declared.steps.Step.{Step}
 use Rattle.step_replay.specs.declared.steps.Step.TheVariants as step
 use Rattle.day_weaving.specs.DayForm.{HasFirmsOf, IsWellFormed}

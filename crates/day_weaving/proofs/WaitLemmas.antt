@@ -7,7 +7,7 @@ use Rattle.std.proofs.lemmas.Bool.Decides.{nat_tests}
 use Rattle.std.proofs.lemmas.Bool.{and_parts}
 use Rattle.quote_word.specs.declared.settled.Settled.{Settled}
 use Rattle.step_replay.specs.AuditTrail.{is_same_actor}
-use Rattle.venue_places.specs.declared.actors.Actor.{Actor}
+use Rattle.venue_steps.specs.declared.actors.Actor.{Actor}
 use Rattle.day_weaving.specs.DayOrder.{Asked, ByActor, IsBehind, IsNextAtSite, OfOneWord, StandsAt}
 use Rattle.day_weaving.specs.DayOrder.{grants, is_as_wished, is_granted, refuses}
 use Rattle.day_weaving.specs.OrderCounts.{AreOfActors, Counts, count_in, key_of}

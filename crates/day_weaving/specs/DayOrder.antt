@@ -7,7 +7,7 @@ use Rattle.std.specs.Option.{option_map, option_map_or}
 use Rattle.quote_word.specs.declared.settled.Settled.{Settled}
 use Rattle.quote_word.specs.declared.settled.Settled.TheVariants as settled
 use Rattle.step_replay.specs.AuditTrail.{is_same_actor}
-use Rattle.venue_places.specs.declared.actors.Actor.{Actor}
+use Rattle.venue_steps.specs.declared.actors.Actor.{Actor}
 use Rattle.recorded_days.specs.Records.{ActionRef, FirmLists, RecordedDay, RoomLists, actions_of}
 use Rattle.recorded_days.specs.Records.{action_in, firm_in, room_in}
 use Rattle.recorded_days.specs.declared.actions.Action.{Action}

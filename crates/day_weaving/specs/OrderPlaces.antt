@@ -4,7 +4,7 @@ use Rattle.std.specs.HashMap.{get, HashMap}
 use Rattle.std.specs.declared.hash.BuildHasherDefault.{BuildHasherDefault}
 use Rattle.std.specs.declared.hash.FoldHasher.{FoldHasher}
 use Rattle.venue_rows.specs.Rows.{Configuration, has_room}
-use Rattle.venue_places.specs.declared.actors.Actor.{Actor}
+use Rattle.venue_steps.specs.declared.actors.Actor.{Actor}
 use Rattle.day_weaving.specs.DayOrder.{StandsAt}
 use Rattle.day_weaving.specs.OrderCounts.{key_of}
 use Rattle.recorded_days.specs.Records.{ActionRef, RecordedDay, action_in}

@@ -4,7 +4,7 @@ use Rattle.std.specs.Prelude.{List, [], ◌∷◌, ◌++◌, length, take, slice
 use Rattle.std.specs.Prelude.{Option, Some, None, is_some}
 use Rattle.std.specs.List.{list_any, sum_by}
 use Rattle.std.specs.Option.{option_map_or}
-use Rattle.venue_places.specs.declared.actors.Actor.{Actor}
+use Rattle.venue_steps.specs.declared.actors.Actor.{Actor}
 use Rattle.day_weaving.specs.DayForm.{AreNamedOnce}
 use Rattle.day_weaving.specs.DayOrder.{ComesInTurn, IsCycle, IsDirectlyBefore, IsNextAtSite}
 use Rattle.day_weaving.specs.DayOrder.{KeepsOrder, StandsAt, grants, is_granted}

@@ -7,7 +7,7 @@ use Rattle.market_terms.specs.declared.rooms.RoomRef.{RoomRef}
 use Rattle.step_replay.specs.AuditTrail.{audit_trail}
 use Rattle.step_replay.specs.FirmDays.{FirmDay, firm_days}
 use Rattle.step_replay.specs.StepFaults.{firms_of}
-use Rattle.venue_places.specs.declared.actors.Actor.TheVariants as actor
+use Rattle.venue_steps.specs.declared.actors.Actor.TheVariants as actor
 use Rattle.step_replay.specs.declared.steps.Step.TheVariants as step
 use Rattle.step_replay.specs.declared.steps.Step.{Step}
 use Rattle.recorded_days.specs.Records.{FirmLists, RecordedDay, action_in, firm_in}

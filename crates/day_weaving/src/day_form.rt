@@ -5,7 +5,7 @@ ghost use Rattle.std.specs.List.{list_any};
 ghost use Rattle.day_weaving.specs.DayForm as spec;
 ghost use Rattle.day_weaving.specs.OrderPlaces as noted;
 ghost use Rattle.recorded_days.specs.Records.{FirmLists, InvestorLists, firm_in};
-ghost use Rattle.venue_places.specs.declared.actors.Actor.{Actor};
+ghost use Rattle.venue_steps.specs.declared.actors.Actor.{Actor};
 ghost use Rattle.venue_rows.specs.Rows.{Configuration};
 
 use crate::day_reading::action_in;

@@ -6,7 +6,7 @@ ghost use Rattle.day_weaving.specs.DayOrder as spec;
 ghost use Rattle.day_weaving.specs.OrderPlaces as noted;
 ghost use Rattle.day_weaving.specs.declared.sites.Site.{Site};
 ghost use Rattle.day_weaving.specs.declared.sites.Site.TheVariants as site;
-ghost use Rattle.venue_places.specs.declared.actors.Actor.{Actor};
+ghost use Rattle.venue_steps.specs.declared.actors.Actor.{Actor};
 
 use crate::day_reading::{action_at, action_in, is_same_site, order_at};
 use crate::order_counts::key_of;

@@ -3,7 +3,7 @@ ghost use Rattle.std.specs.Prelude.{IfOk, ℕ};
 ghost use Rattle.day_weaving.specs.DayForm as form;
 ghost use Rattle.day_weaving.specs.OrderPlaces as noted;
 ghost use Rattle.day_weaving.specs.OrderSearch as sought;
-ghost use Rattle.venue_places.specs.declared.actors.Actor.{Actor};
+ghost use Rattle.venue_steps.specs.declared.actors.Actor.{Actor};
 
 use crate::name_checks::Places;
 use crate::weave_plan::Slot;

@@ -4,7 +4,7 @@ ghost use Rattle.day_weaving.specs.DayForm as form;
 ghost use Rattle.day_weaving.specs.DayOrder as spec;
 ghost use Rattle.day_weaving.specs.OrderPlaces as noted;
 ghost use Rattle.day_weaving.specs.OrderSearch as sought;
-ghost use Rattle.venue_places.specs.declared.actors.Actor.{Actor};
+ghost use Rattle.venue_steps.specs.declared.actors.Actor.{Actor};
 
 use crate::day_reading::{action_in, granted_word};
 use crate::name_checks::{Places, place_of};

@@ -10,7 +10,7 @@ ghost use Rattle.recorded_days.specs.declared.actions.Inbound.{Inbound};
 ghost use Rattle.day_weaving.specs.declared.sites.Site.TheVariants as site;
 ghost use Rattle.day_weaving.specs.declared.weave_plan.Slot.{Slot};
 ghost use Rattle.market_terms.specs.declared.rooms.RoomRef.{RoomRef};
-ghost use Rattle.venue_places.specs.declared.actors.Actor.TheVariants as actor;
+ghost use Rattle.venue_steps.specs.declared.actors.Actor.TheVariants as actor;
 ghost use Rattle.step_replay.specs.declared.steps.Step.{Step};
 ghost use Rattle.venue_rows.specs.Rows.{Configuration};
 

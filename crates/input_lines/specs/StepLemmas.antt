@@ -3,8 +3,8 @@ use Rattle.std.proofs.Common.{◌≡◌, ℕ, ◌+◌, true, List, [], ◌∷◌
 use Rattle.std.proofs.Common.{Result, Ok, Err, append_assoc, replicate, zero, suc, nat_lt}
 use Rattle.venue_rows.specs.Rows.{ConfigValues, Configuration, values_of}
 use Rattle.step_replay.specs.StepFaults.{first_fault, first_fault_from, firms_of}
-use Rattle.venue_places.specs.declared.actors.Actor.{Actor}
-use Rattle.venue_places.specs.declared.actors.Actor.TheVariants as actor
+use Rattle.venue_steps.specs.declared.actors.Actor.{Actor}
+use Rattle.venue_steps.specs.declared.actors.Actor.TheVariants as actor
 use Rattle.step_replay.specs.declared.steps.Step.{Step}
 use Rattle.step_replay.specs.declared.steps.Step.TheVariants as step
 use Rattle.input_lines.specs.ResultSteps.{◌>>=◌}

@@ -5,8 +5,8 @@ use Rattle.fix_fields.specs.Envelope.{Cutting}
 use Rattle.fix_fields.specs.declared.fault.StreamFault.{StreamFault}
 use Rattle.venue_rows.specs.Rows.{ConfigValues, Configuration, has_room}
 use Rattle.step_replay.specs.StepFaults.{firms_of}
-use Rattle.venue_places.specs.declared.actors.Actor.{Actor}
-use Rattle.venue_places.specs.declared.actors.Actor.TheVariants as actor
+use Rattle.venue_steps.specs.declared.actors.Actor.{Actor}
+use Rattle.venue_steps.specs.declared.actors.Actor.TheVariants as actor
 use Rattle.step_replay.specs.declared.steps.Step.{Step}
 use Rattle.step_replay.specs.declared.steps.Step.TheVariants as step
 use Rattle.input_lines.specs.StepLines.{Heard, in_steps, number_for, with_number, Read}

@@ -12,14 +12,14 @@ use Rattle.market_terms.specs.declared.rooms.ResponseRef.{ResponseRef}
 use Rattle.market_terms.specs.declared.rooms.RoomRef.{RoomRef}
 use Rattle.venue_rows.specs.Rows.{Configuration, has_room, dealer_numbered, investor_numbered}
 use Rattle.venue_rows.specs.declared.dealer_rows.DealerRow.{DealerRow}
-use Rattle.venue_places.specs.Dealers.{Dealer, acting_dealer, dealer_of, has_word_for}
-use Rattle.venue_places.specs.Placed.{at_investor, by_dealer, declined, placed, placed_if}
-use Rattle.venue_places.specs.declared.actors.Actor.{Actor}
-use Rattle.venue_places.specs.declared.actors.Actor.TheVariants as actor
-use Rattle.venue_places.specs.declared.arrivals.Placement.{Placement}
-use Rattle.venue_places.specs.declared.arrivals.Placement.TheVariants as arrival
-use Rattle.venue_places.specs.declared.arrivals.ForInvestor.{ForInvestor}
-use Rattle.venue_places.specs.declared.arrivals.ForInvestor.TheVariants as to_investor
+use Rattle.venue_steps.specs.Dealers.{Dealer, acting_dealer, dealer_of, has_word_for}
+use Rattle.venue_steps.specs.Placed.{at_investor, by_dealer, declined, placed, placed_if}
+use Rattle.venue_steps.specs.declared.actors.Actor.{Actor}
+use Rattle.venue_steps.specs.declared.actors.Actor.TheVariants as actor
+use Rattle.venue_steps.specs.declared.arrivals.Placement.{Placement}
+use Rattle.venue_steps.specs.declared.arrivals.Placement.TheVariants as arrival
+use Rattle.venue_steps.specs.declared.arrivals.ForInvestor.{ForInvestor}
+use Rattle.venue_steps.specs.declared.arrivals.ForInvestor.TheVariants as to_investor
 use Rattle.investor_views.specs.Comings.{For, at_desk_of}
 use Rattle.investor_dues.specs.Followed.{at_desk, brought}
 

@@ -12,8 +12,8 @@ use investor_desk::{InvestorDesk, InvestorNote};
 use market_terms::{Offer, Reply, ResponseRef};
 use quote_messages::SentMessage;
 use std::alloc::Global;
-use venue_places::{ForInvestor, bring_to_investor};
 use venue_rows::Name;
+use venue_steps::{ForInvestor, bring_to_investor};
 
 /// Every message that an investor is sent on a day, for what it sees of the venue and what is due
 /// to it, and nothing else. An item about a request that was not accepted, or an answer that fits

@@ -1,7 +1,7 @@
 //! What comes to the desk of one investor.
 use fix_fields::Moment;
 use quote_messages::Message;
-use venue_places::ForInvestor;
+use venue_steps::ForInvestor;
 
 /// What comes to an investor's desk by a step.
 #[derive(Drop)]

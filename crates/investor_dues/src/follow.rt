@@ -25,8 +25,8 @@ use market_terms::ResponseRef;
 use quote_messages::Message;
 use std::alloc::Global;
 use step_replay::{Actor, MOST_TURNS_BEHIND, Step, SteppedVenue, World};
-use venue_places::{ForInvestor, bring_to_investor};
 use venue_rows::VenueConfig;
+use venue_steps::{ForInvestor, bring_to_investor};
 
 /// A day of a venue that is followed for one investor, step by step. A contract says where it
 /// stands by `IsFollowed`; once memory was refused nothing is known of it any more.

@@ -1,13 +1,13 @@
 //! Which duties are done at the desk of one investor, and what comes there for them.
 ghost use Rattle.std.specs.Prelude.{◌≡◌, true, is_some};
 ghost use Rattle.investor_dues.specs.Followed.{at_desk, brought};
-ghost use Rattle.venue_places.specs.Placed as table;
+ghost use Rattle.venue_steps.specs.Placed as table;
 ghost use Rattle.venue_rows.specs.Rows.{investor_numbered};
 
 use fix_fields::Moment;
 use market_terms::{Duty, Offer, Reply, ResponseRef, RoomRef};
-use venue_places::{Actor, ForInvestor};
 use venue_rows::VenueConfig;
+use venue_steps::{Actor, ForInvestor};
 
 /// What comes to the desk of the investor with this number for a duty of an actor, where something
 /// does.

@@ -11,12 +11,12 @@ use Rattle.investor_desk.specs.InvestorDesk.{DeskEvents, book_at, market_for, ma
 use Rattle.investor_desk.specs.declared.events.InvestorEvent.{InvestorEvent}
 use Rattle.investor_desk.specs.declared.events.InvestorEvent.TheVariants as event
 use Rattle.venue_steps.specs.InvestorSteps.{replies_to, with_event_if}
-use Rattle.venue_places.specs.Brought.{investor_with}
-use Rattle.venue_places.specs.Dealers.{dealer_at}
-use Rattle.venue_places.specs.declared.arrivals.Placement.{Placement}
-use Rattle.venue_places.specs.declared.arrivals.Placement.TheVariants as arrival
-use Rattle.venue_places.specs.declared.arrivals.ForInvestor.{ForInvestor}
-use Rattle.venue_places.specs.declared.arrivals.ForInvestor.TheVariants as to_investor
+use Rattle.venue_steps.specs.Brought.{investor_with}
+use Rattle.venue_steps.specs.Dealers.{dealer_at}
+use Rattle.venue_steps.specs.declared.arrivals.Placement.{Placement}
+use Rattle.venue_steps.specs.declared.arrivals.Placement.TheVariants as arrival
+use Rattle.venue_steps.specs.declared.arrivals.ForInvestor.{ForInvestor}
+use Rattle.venue_steps.specs.declared.arrivals.ForInvestor.TheVariants as to_investor
 use Rattle.step_replay.specs.Actions.{Effect, at_market, done_for, dropped_by, nothing}
 use Rattle.step_replay.specs.Coming.{arrival_effect, dealer_gets, investor_gets}
 use Rattle.step_replay.specs.WhereComing.{effect_where}

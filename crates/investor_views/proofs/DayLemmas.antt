@@ -15,11 +15,11 @@ use Rattle.investor_desk.specs.InvestorRules.{InvestorMarket}
 use Rattle.investor_desk.specs.InvestorDesk.{DeskEvents, market_for, market_of, no_events}
 use Rattle.investor_desk.specs.InvestorOutput.{DeskState, investor_notes, investor_output}
 use Rattle.investor_desk.specs.declared.events.InvestorEvent.TheVariants as event
-use Rattle.venue_places.specs.Dealers.{dealer_at}
-use Rattle.venue_places.specs.Placed.{placed, swept, placed_if}
-use Rattle.venue_places.specs.declared.actors.Actor.{Actor}
-use Rattle.venue_places.specs.declared.arrivals.Placement.TheVariants as arrival
-use Rattle.venue_places.specs.declared.arrivals.ForRoom.TheVariants as to_room
+use Rattle.venue_steps.specs.Dealers.{dealer_at}
+use Rattle.venue_steps.specs.Placed.{placed, swept, placed_if}
+use Rattle.venue_steps.specs.declared.actors.Actor.{Actor}
+use Rattle.venue_steps.specs.declared.arrivals.Placement.TheVariants as arrival
+use Rattle.venue_steps.specs.declared.arrivals.ForRoom.TheVariants as to_room
 use Rattle.step_replay.specs.Actions.{Effect, done_by, done_for, received_by_dealer}
 use Rattle.step_replay.specs.Actions.{received_by_investor}
 use Rattle.step_replay.specs.DutyEffects.{duty_effect, message_effect, sweep_effect}

@@ -15,11 +15,11 @@ use Rattle.request_room.specs.RoomFacts.{RoomFact}
 use Rattle.request_room.specs.declared.ends.End.{End}
 use Rattle.request_room.specs.declared.events.RoomEvent.{RoomEvent}
 use Rattle.request_room.specs.declared.events.RoomEvent.TheVariants as at_room
-use Rattle.venue_places.specs.Dealers.{Dealer, QuoteRef, quote_with_word}
-use Rattle.venue_places.specs.declared.arrivals.ForDealer.{ForDealer}
-use Rattle.venue_places.specs.declared.arrivals.ForDealer.TheVariants as to_dealer
-use Rattle.venue_places.specs.declared.arrivals.ForRoom.{ForRoom}
-use Rattle.venue_places.specs.declared.arrivals.ForRoom.TheVariants as to_room
+use Rattle.venue_steps.specs.Dealers.{Dealer, QuoteRef, quote_with_word}
+use Rattle.venue_steps.specs.declared.arrivals.ForDealer.{ForDealer}
+use Rattle.venue_steps.specs.declared.arrivals.ForDealer.TheVariants as to_dealer
+use Rattle.venue_steps.specs.declared.arrivals.ForRoom.{ForRoom}
+use Rattle.venue_steps.specs.declared.arrivals.ForRoom.TheVariants as to_room
 use Rattle.step_replay.specs.Actions.{Effect, at_dealer, done_by, dropped_by, hit_in, hit_with}
 use Rattle.step_replay.specs.Actions.{in_room, left_by, left_by_drop, lifting, nothing}
 use Rattle.step_replay.specs.Actions.{received_by_dealer, told_of, verdict_on}

@@ -15,8 +15,8 @@ use Rattle.investor_desk.specs.declared.events.InvestorEvent.{InvestorEvent}
 use Rattle.investor_desk.specs.declared.events.InvestorEvent.TheVariants as event
 use Rattle.quote_messages.specs.Written.{written}
 use Rattle.venue_steps.specs.InvestorSteps.{replies_to, with_event_if}
-use Rattle.venue_places.specs.Brought.{investor_with}
-use Rattle.venue_places.specs.declared.arrivals.ForInvestor.TheVariants as to_investor
+use Rattle.venue_steps.specs.Brought.{investor_with}
+use Rattle.venue_steps.specs.declared.arrivals.ForInvestor.TheVariants as to_investor
 use Rattle.investor_views.specs.Comings.{Coming, Own, For, after_coming, desk_by}
 use Rattle.investor_views.specs.DeskView.{coming_of, event_dues, event_dues_from, with_item}
 use Rattle.investor_views.specs.InvestorDues.{due_by, dues_from, number_of, quote_meant}

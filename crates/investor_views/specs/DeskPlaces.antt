@@ -10,16 +10,16 @@ use Rattle.market_terms.specs.declared.rooms.ResponseRef.{ResponseRef}
 use Rattle.market_terms.specs.declared.rooms.RoomRef.{RoomRef}
 use Rattle.venue_rows.specs.Rows.{Configuration, dealer_numbered}
 use Rattle.venue_rows.specs.declared.dealer_rows.DealerRow.{DealerRow}
-use Rattle.venue_places.specs.Dealers.{Dealer, dealer_of, has_word_for}
-use Rattle.venue_places.specs.Placed.{by_dealer, declined, declines, drops, placed, posted}
-use Rattle.venue_places.specs.Placed.{unposted, placed_if}
-use Rattle.venue_places.specs.declared.actors.Actor.{Actor}
-use Rattle.venue_places.specs.declared.actors.Actor.TheVariants as actor
-use Rattle.venue_places.specs.declared.arrivals.ForDealer.{ForDealer}
-use Rattle.venue_places.specs.declared.arrivals.ForInvestor.TheVariants as to_investor
-use Rattle.venue_places.specs.declared.arrivals.ForRoom.{ForRoom}
-use Rattle.venue_places.specs.declared.arrivals.Placement.{Placement}
-use Rattle.venue_places.specs.declared.arrivals.Placement.TheVariants as arrival
+use Rattle.venue_steps.specs.Dealers.{Dealer, dealer_of, has_word_for}
+use Rattle.venue_steps.specs.Placed.{by_dealer, declined, declines, drops, placed, posted}
+use Rattle.venue_steps.specs.Placed.{unposted, placed_if}
+use Rattle.venue_steps.specs.declared.actors.Actor.{Actor}
+use Rattle.venue_steps.specs.declared.actors.Actor.TheVariants as actor
+use Rattle.venue_steps.specs.declared.arrivals.ForDealer.{ForDealer}
+use Rattle.venue_steps.specs.declared.arrivals.ForInvestor.TheVariants as to_investor
+use Rattle.venue_steps.specs.declared.arrivals.ForRoom.{ForRoom}
+use Rattle.venue_steps.specs.declared.arrivals.Placement.{Placement}
+use Rattle.venue_steps.specs.declared.arrivals.Placement.TheVariants as arrival
 
 module _ (config : Configuration) (R : Option Placement → Type 0) where
   -- it is so where nothing comes, and of all that comes to no desk of an investor

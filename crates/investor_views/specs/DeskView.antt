@@ -6,7 +6,7 @@ use Rattle.investor_desk.specs.InvestorDesk.{DeskEvents, book_at, no_events, wit
 use Rattle.investor_desk.specs.InvestorRules.{InvestorMarket}
 use Rattle.investor_desk.specs.declared.events.InvestorEvent.{InvestorEvent}
 use Rattle.investor_desk.specs.declared.events.InvestorEvent.TheVariants as event
-use Rattle.venue_places.specs.declared.arrivals.ForInvestor.TheVariants as to_investor
+use Rattle.venue_steps.specs.declared.arrivals.ForInvestor.TheVariants as to_investor
 use Rattle.investor_views.specs.Comings.{Coming, Own, For}
 use Rattle.investor_views.specs.InvestorDues.{due_by}
 use Rattle.investor_views.specs.InvestorView.{SeenMarket, coming_by, market_seen, sent_at}

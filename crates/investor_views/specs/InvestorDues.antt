@@ -9,7 +9,7 @@ use Rattle.investor_desk.specs.InvestorFacts.{open_request}
 use Rattle.investor_desk.specs.InvestorDesk.{DeskEvents, book_at, market_for, no_events}
 use Rattle.investor_desk.specs.InvestorRules.{InvestorMarket}
 use Rattle.investor_desk.specs.declared.standing.ShownOffer.{ShownOffer}
-use Rattle.venue_places.specs.declared.arrivals.ForInvestor.TheVariants as to_investor
+use Rattle.venue_steps.specs.declared.arrivals.ForInvestor.TheVariants as to_investor
 use Rattle.step_replay.specs.declared.steps.Step.{Step}
 use Rattle.investor_views.specs.Comings.{Coming, Own, For, after_coming, comings}
 use Rattle.investor_views.specs.declared.dues.InvestorDue.{InvestorDue}

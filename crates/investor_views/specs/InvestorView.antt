@@ -9,7 +9,7 @@ use Rattle.investor_desk.specs.InvestorFacts.{InvestorBook, offers_shown}
 use Rattle.investor_desk.specs.InvestorDesk.{DeskEvents, book_at, no_events}
 use Rattle.investor_desk.specs.InvestorOutput.{investor_output}
 use Rattle.investor_desk.specs.InvestorRules.{InvestorMarket}
-use Rattle.venue_places.specs.declared.arrivals.ForInvestor.TheVariants as to_investor
+use Rattle.venue_steps.specs.declared.arrivals.ForInvestor.TheVariants as to_investor
 use Rattle.investor_views.specs.Comings.{Coming, Own, For, after_coming}
 use Rattle.investor_views.specs.declared.dues.InvestorDue.{InvestorDue}
 use Rattle.investor_views.specs.declared.dues.InvestorDue.TheVariants as due

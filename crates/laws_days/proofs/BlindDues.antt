@@ -12,7 +12,7 @@ use Rattle.laws_days.proofs.Common.{IsPricedByAnother}
 use Rattle.std.proofs.lemmas.List.{drop-map}
 use Rattle.market_terms.specs.declared.closes.Close.TheVariants as closes
 use Rattle.fix_fields.specs.Frame.{IsFrame}
-use Rattle.venue_places.specs.declared.actors.Actor.TheVariants as actor
+use Rattle.venue_steps.specs.declared.actors.Actor.TheVariants as actor
 use Rattle.step_replay.specs.AuditTrail.{due_to, with_effect}
 use Rattle.step_replay.specs.declared.dues.Due.{Due}
 use Rattle.step_replay.specs.declared.dues.Due.TheVariants as due

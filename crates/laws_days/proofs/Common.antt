@@ -59,7 +59,7 @@ pub use mathlib.Core.List.{map-map}
 pub use Rattle.market_terms.specs.Unpriced.{uncovered, unpriced_duty}
 pub use Rattle.market_terms.specs.declared.duties.Duty.{Duty}
 pub use Rattle.fix_fields.specs.Frame.{Field, frame_of, value_of, times_of}
-pub use Rattle.venue_places.specs.declared.actors.Actor.{Actor}
+pub use Rattle.venue_steps.specs.declared.actors.Actor.{Actor}
 unfoldable pub use Rattle.step_replay.specs.DutyEffects.{duty_effect, message_effect, sweep_effect}
 pub use Rattle.laws_days.specs.PriceAlike.{IsPricedByAnother, ArePricesOf, IsOneOrPriced}
 pub use Rattle.laws_days.specs.PriceAlike.{is_price_tag, bond_meant}

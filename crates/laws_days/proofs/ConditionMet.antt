@@ -21,7 +21,7 @@ use Rattle.market_terms.specs.declared.duties.Duty.TheVariants as duty
 use Rattle.request_room.specs.Book.{book_of, word_or}
 use Rattle.venue_steps.specs.RoomSteps.{word_asked_by}
 use Rattle.venue_steps.specs.Words.{has_word}
-use Rattle.venue_places.specs.declared.actors.Actor.TheVariants as actor
+use Rattle.venue_steps.specs.declared.actors.Actor.TheVariants as actor
 use Rattle.step_replay.specs.Actions.{has_word_for, quotes_of, words_of}
 use Rattle.laws_days.proofs.ListLemmas.{cases_some, found_in, slice_holds, some_of}
 use Rattle.laws_days.proofs.NoticeLemmas.{told_if_closed}

@@ -47,10 +47,10 @@ use Rattle.request_room.specs.declared.events.RoomEvent.{RoomEvent}
 use Rattle.request_room.specs.declared.events.RoomEvent.TheVariants as at_room
 use Rattle.request_room.proofs.KeptLemmas.{refused_none}
 use Rattle.venue_steps.specs.RoomSteps.{hit_word, word_asked_by}
-use Rattle.venue_places.specs.Dealers.{Dealer, QuoteRef, acting_dealer, dealer_of}
-use Rattle.venue_places.specs.Dealers.{quote_with_word}
-use Rattle.venue_places.specs.declared.actors.Actor.{Actor}
-use Rattle.venue_places.specs.declared.actors.Actor.TheVariants as actor
+use Rattle.venue_steps.specs.Dealers.{Dealer, QuoteRef, acting_dealer, dealer_of}
+use Rattle.venue_steps.specs.Dealers.{quote_with_word}
+use Rattle.venue_steps.specs.declared.actors.Actor.{Actor}
+use Rattle.venue_steps.specs.declared.actors.Actor.TheVariants as actor
 use Rattle.step_replay.specs.Actions.{Effect, answer_to_drop, answer_to_hit}
 use Rattle.step_replay.specs.Actions.{at_dealer, at_market, done_by}
 use Rattle.step_replay.specs.Actions.{left_by, left_by_drop}

@@ -16,8 +16,8 @@ use Rattle.quote_word.specs.declared.settled.Settled.{Settled}
 use Rattle.venue_rows.specs.Rows.{Configuration, dealer_numbered, investor_numbered}
 use Rattle.venue_rows.specs.declared.dealer_rows.DealerRow.{DealerRow}
 use Rattle.venue_rows.specs.declared.investor_rows.InvestorRow.{InvestorRow}
-use Rattle.venue_places.specs.declared.actors.Actor.{Actor}
-use Rattle.venue_places.specs.declared.actors.Actor.TheVariants as actor
+use Rattle.venue_steps.specs.declared.actors.Actor.{Actor}
+use Rattle.venue_steps.specs.declared.actors.Actor.TheVariants as actor
 use Rattle.dealer_desk.specs.DealerFacts as at_dealer
 use Rattle.dealer_desk.specs.DealerOutput as dealer_output
 use Rattle.dealer_desk.specs.DealerOutput.{event_facts, event_message}

@@ -18,7 +18,7 @@ use Rattle.request_room.specs.RoomFacts.{hears, is_opening, is_vacant}
 use Rattle.request_room.specs.declared.events.RoomEvent.{RoomEvent}
 use Rattle.request_room.specs.declared.events.RoomEvent.TheVariants as at_room
 use Rattle.venue_steps.specs.InvestorSteps.{replies_to}
-use Rattle.venue_places.specs.declared.actors.Actor.{Actor}
+use Rattle.venue_steps.specs.declared.actors.Actor.{Actor}
 use Rattle.step_replay.specs.Actions.{Dealer, Effect, acting_dealer}
 use Rattle.step_replay.specs.Actions.{dealer_at, done_by, done_for, dropped_by}
 use Rattle.step_replay.specs.Actions.{has_word_for, in_room, nothing}

@@ -11,7 +11,7 @@ use Rattle.laws_days.proofs.Common.{Step}
 use Rattle.market_terms.specs.declared.duties.Duty.TheVariants as duty
 use Rattle.request_room.specs.Book.{event_facts, may_unpost, quote_posted}
 use Rattle.request_room.specs.RoomFacts.{Noted, Unposted, takes_quotes}
-use Rattle.venue_places.specs.declared.actors.Actor.TheVariants as actor
+use Rattle.venue_steps.specs.declared.actors.Actor.TheVariants as actor
 use Rattle.step_replay.specs.Actions.{answer_to_hit, quote_asked}
 use Rattle.step_replay.specs.StepLemmas.{duty_keeps, message_keeps, sweep_keeps}
 use Rattle.step_replay.specs.declared.steps.Step.TheVariants as step

@@ -20,7 +20,7 @@ use Rattle.dealer_desk.specs.DealerOutput.{unpost_dropped, verdict_duty, word_as
 use Rattle.dealer_desk.specs.declared.events.DealerEvent.TheVariants as event
 use Rattle.dealer_desk.specs.declared.standing.Withdrawal.TheVariants as by_way
 use Rattle.dealer_desk.specs.declared.verdicts.DealerVerdict.TheVariants as verdict
-use Rattle.venue_places.specs.declared.actors.Actor.TheVariants as actor
+use Rattle.venue_steps.specs.declared.actors.Actor.TheVariants as actor
 use Rattle.step_replay.specs.Actions.{left_by, left_by_drop}
 use Rattle.laws_days.proofs.ListLemmas.{cases_some, slice_holds}
 use Rattle.laws_days.proofs.PlainFacts.{event_plain, settled_plain, verdict_plain}

@@ -16,7 +16,7 @@ use Rattle.market_terms.specs.declared.duties.Duty.TheVariants as duty
 use Rattle.request_room.specs.Book.{event_facts, expired, is_past_deadline, may_expire, passed}
 use Rattle.request_room.specs.declared.events.RoomEvent.TheVariants as at_room
 use Rattle.venue_steps.specs.RoomSteps.{dealers_of, duties_of_pass, reply_to_pass, told_in}
-use Rattle.venue_places.specs.declared.actors.Actor.TheVariants as actor
+use Rattle.venue_steps.specs.declared.actors.Actor.TheVariants as actor
 use Rattle.laws_days.proofs.ListLemmas.{found_in, in_map, in_named, named_in, none_some, some_of}
 use Rattle.laws_days.proofs.PlainFacts.{AreQuiet, is_quiet}
 use Rattle.laws_days.proofs.VenueInvariant.{RespondsIn}

@@ -12,7 +12,7 @@ use Rattle.laws_days.proofs.Common.{AtInvestor, Fact, InRoom, of_dealer, of_room
 use Rattle.market_terms.specs.declared.closes.Close.TheVariants as closes
 use Rattle.market_terms.specs.declared.duties.Duty.TheVariants as duty
 use Rattle.request_room.specs.declared.quotes.PostedQuote.{PostedQuote as BookQuote}
-use Rattle.venue_places.specs.declared.actors.Actor.TheVariants as actor
+use Rattle.venue_steps.specs.declared.actors.Actor.TheVariants as actor
 use Rattle.laws_days.proofs.KnownDesks.{DeskFit}
 use Rattle.laws_days.proofs.NoticeLemmas.{IsNoticed}
 use Rattle.laws_days.proofs.VenueParts.{BearsLimits, IsOpened, KnownIn, LiftedIn, MarkOk}

@@ -12,7 +12,7 @@ use Rattle.venue_rows.specs.Rows.{may_request}
 use Rattle.investor_desk.specs.InvestorOutput.{DeskState, event_facts, verdict_duty}
 use Rattle.investor_desk.specs.declared.events.InvestorEvent.TheVariants as at_investor
 use Rattle.investor_desk.specs.declared.verdicts.InvestorVerdict.TheVariants as verdict
-use Rattle.venue_places.specs.declared.actors.Actor.TheVariants as actor
+use Rattle.venue_steps.specs.declared.actors.Actor.TheVariants as actor
 use Rattle.step_replay.specs.Actions.{at_market, left_by_investor, received_by_investor}
 use Rattle.step_replay.specs.InvestorGrowth.{trail_push}
 use Rattle.step_replay.specs.InvestorTrail.{entries_of}

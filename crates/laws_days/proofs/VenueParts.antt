@@ -16,7 +16,7 @@ use Rattle.market_terms.specs.declared.closes.Close.TheVariants as closes
 use Rattle.market_terms.specs.declared.duties.Duty.TheVariants as duty
 use Rattle.request_room.specs.declared.ends.EndKind.{EndKind}
 use Rattle.request_room.specs.declared.ends.EndKind.TheVariants as ends
-use Rattle.venue_places.specs.declared.actors.Actor.TheVariants as actor
+use Rattle.venue_steps.specs.declared.actors.Actor.TheVariants as actor
 use Rattle.step_replay.specs.GrowthLemmas.{named_before, named_grown, number_grown, said_grown}
 use Rattle.step_replay.specs.InvestorTrail as investor_trail
 use Rattle.laws_days.proofs.KnownDesks.{knows_grown}

@@ -5,7 +5,7 @@ use Rattle.std.specs.List.{list_any}
 use Rattle.market_terms.specs.declared.duties.Duty.{Duty}
 use Rattle.market_terms.specs.declared.duties.Duty.TheVariants as duty
 use Rattle.venue_rows.specs.Rows.{Configuration, dealer_numbered}
-use Rattle.venue_places.specs.declared.actors.Actor.TheVariants as actor
+use Rattle.venue_steps.specs.declared.actors.Actor.TheVariants as actor
 use Rattle.dealer_desk.specs.DealerFacts as at_dealer
 use Rattle.investor_desk.specs.InvestorFacts as at_investor
 use Rattle.step_replay.specs.AuditTrail.{AuditTrail, Caused, sent_to}

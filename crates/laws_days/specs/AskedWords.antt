@@ -10,9 +10,9 @@ use Rattle.venue_rows.specs.declared.dealer_rows.DealerRow.{DealerRow}
 use Rattle.dealer_desk.specs.DealerFacts.{number_to_drop}
 use Rattle.dealer_desk.specs.DealerOutput.{word_asked}
 use Rattle.venue_steps.specs.RoomDuties.{hit_word}
-use Rattle.venue_places.specs.Dealers.{dealer_of}
-use Rattle.venue_places.specs.declared.actors.Actor.{Actor}
-use Rattle.venue_places.specs.declared.actors.Actor.TheVariants as actor
+use Rattle.venue_steps.specs.Dealers.{dealer_of}
+use Rattle.venue_steps.specs.declared.actors.Actor.{Actor}
+use Rattle.venue_steps.specs.declared.actors.Actor.TheVariants as actor
 use Rattle.step_replay.specs.Actions.{quote_asked, verdict_on}
 use Rattle.step_replay.specs.AuditTrail.{AuditTrail, audit_trail, pending}
 use Rattle.step_replay.specs.DealerTrail.{book_by}

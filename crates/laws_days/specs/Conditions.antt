@@ -23,7 +23,7 @@ use Rattle.step_replay.specs.Actions.{word_for, words_of}
 use Rattle.step_replay.specs.DealerTrail.{DealerEntry, book_by, rooms_by}
 use Rattle.step_replay.specs.InvestorTrail as investor_trail
 use Rattle.step_replay.specs.VenueFacts.{Fact, of_dealer, of_investor, of_room}
-use Rattle.venue_places.specs.declared.actors.Actor.{Actor}
+use Rattle.venue_steps.specs.declared.actors.Actor.{Actor}
 
 -- whether there is something of which a test holds
 abbrev pub holds_for : {A : Type 0} → Option A → (A → Bool) → Bool

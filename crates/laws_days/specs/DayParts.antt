@@ -9,8 +9,8 @@ use Rattle.std.proofs.lemmas.Bool.{both_ways, cond_both, false_from_ne_true, or_
 use Rattle.std.proofs.lemmas.List.Folds.{list_any-append}
 use Rattle.market_terms.specs.declared.duties.Duty.{Duty}
 use Rattle.venue_rows.specs.Rows.{Configuration}
-use Rattle.venue_places.specs.declared.actors.Actor.{Actor}
-use Rattle.venue_places.specs.declared.actors.Actor.TheVariants as actor
+use Rattle.venue_steps.specs.declared.actors.Actor.{Actor}
+use Rattle.venue_steps.specs.declared.actors.Actor.TheVariants as actor
 use Rattle.step_replay.specs.Actions.{Effect}
 use Rattle.step_replay.specs.AuditTrail.{AuditTrail, Caused, after_step, after_turn, duty_of}
 use Rattle.step_replay.specs.AuditTrail.{is_same_actor, pending, with_effect}

@@ -27,10 +27,10 @@ use Rattle.venue_steps.specs.RoomDuties.{duties_of_decline, duties_of_expire, du
 use Rattle.venue_steps.specs.RoomDuties.{duties_of_open, duties_of_pass, duties_of_post}
 use Rattle.venue_steps.specs.RoomDuties.{duties_of_unpost, hit_word}
 use Rattle.venue_steps.specs.WordNumbers.{has_word}
-use Rattle.venue_places.specs.Placed.{desk_of_line, room_of_line}
-use Rattle.venue_places.specs.Table.{line_of}
-use Rattle.venue_places.specs.declared.actors.Actor.{Actor}
-use Rattle.venue_places.specs.declared.actors.Actor.TheVariants as actor
+use Rattle.venue_steps.specs.Placed.{desk_of_line, room_of_line}
+use Rattle.venue_steps.specs.Table.{line_of}
+use Rattle.venue_steps.specs.declared.actors.Actor.{Actor}
+use Rattle.venue_steps.specs.declared.actors.Actor.TheVariants as actor
 use Rattle.step_replay.specs.ActionKinds.{event_in, hit_here}
 use Rattle.step_replay.specs.Actions.{Effect, answer_to_hit, at_dealer}
 use Rattle.step_replay.specs.Actions.{at_market, dealer_at, dealer_of, done_by, done_for}

@@ -6,8 +6,8 @@ use Rattle.market_terms.specs.declared.duties.Duty.{Duty}
 use Rattle.market_terms.specs.declared.duties.Duty.TheVariants as duty
 use Rattle.market_terms.specs.declared.rooms.RoomRef.{RoomRef}
 use Rattle.venue_rows.specs.Rows.{Configuration}
-use Rattle.venue_places.specs.declared.actors.Actor.{Actor}
-use Rattle.venue_places.specs.declared.actors.Actor.TheVariants as actor
+use Rattle.venue_steps.specs.declared.actors.Actor.{Actor}
+use Rattle.venue_steps.specs.declared.actors.Actor.TheVariants as actor
 use Rattle.request_room.specs.RoomFacts.{request_of}
 use Rattle.venue_steps.specs.RoomDuties.{dealers_of}
 use Rattle.step_replay.specs.DealerTrail.{rooms_by}

@@ -16,8 +16,8 @@ use Rattle.request_room.specs.Book.{expired, hit_outcome, may_expire, passed, re
 use Rattle.request_room.specs.RoomFacts.{is_open, is_vacant}
 use Rattle.request_room.specs.declared.events.RoomEvent.{RoomEvent}
 use Rattle.venue_steps.specs.RoomDuties.{shown_then_ready, told_in}
-use Rattle.venue_places.specs.declared.actors.Actor.{Actor}
-use Rattle.venue_places.specs.declared.actors.Actor.TheVariants as actor
+use Rattle.venue_steps.specs.declared.actors.Actor.{Actor}
+use Rattle.venue_steps.specs.declared.actors.Actor.TheVariants as actor
 use Rattle.step_replay.specs.Actions.{Effect, at_dealer}
 use Rattle.step_replay.specs.Actions.{dealer_of}
 use Rattle.step_replay.specs.Actions.{left_by, nothing, offer_of}

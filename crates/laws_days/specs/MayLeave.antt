@@ -24,8 +24,8 @@ use Rattle.request_room.specs.RoomFacts.{request_of}
 use Rattle.request_room.specs.declared.ends.End.{End}
 use Rattle.venue_steps.specs.RoomDuties.{close_for, dealers_of, reply_to_pass, told_in, told_of_hit}
 use Rattle.venue_steps.specs.RoomDuties.{where_follows}
-use Rattle.venue_places.specs.declared.actors.Actor.{Actor}
-use Rattle.venue_places.specs.declared.actors.Actor.TheVariants as actor
+use Rattle.venue_steps.specs.declared.actors.Actor.{Actor}
+use Rattle.venue_steps.specs.declared.actors.Actor.TheVariants as actor
 use Rattle.step_replay.specs.Actions.{answer_to_drop, dealer_of, drop_at, left_by_drop}
 use Rattle.step_replay.specs.DealerTrail.{book_by, entries_of, rooms_by}
 use Rattle.step_replay.specs.EachLemmas.{every_both}

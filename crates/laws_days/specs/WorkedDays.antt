@@ -7,7 +7,7 @@ use Rattle.market_terms.specs.declared.closes.Close.TheVariants.{Hit}
 use Rattle.step_replay.specs.AuditTrail.{audit_trail, sent_to, due_to}
 use Rattle.step_replay.specs.declared.dues.Due.{Due}
 use Rattle.step_replay.specs.declared.dues.Due.TheVariants as due
-use Rattle.venue_places.specs.declared.actors.Actor.TheVariants as actor
+use Rattle.venue_steps.specs.declared.actors.Actor.TheVariants as actor
 use Rattle.laws_days.specs.WorkedVenue.{dlr1_of_one_quote, inv1_of_one_request, venue_of, venue}
 use Rattle.laws_days.specs.WorkedParts.{moment, message, say, turns, turn, expire, line}
 use Rattle.laws_days.specs.WorkedParts.{written_from, Day, asks_two, asks_three, first_quotes}

@@ -6,8 +6,8 @@ use Rattle.std.specs.Prelude.{codes, decimal, Option, Some, None, if◌then◌el
 use Rattle.std.specs.Str.Parse.{digits_value}
 use Rattle.fix_fields.specs.Frame.{fields_of, frame_text}
 use Rattle.venue_rows.specs.Rows.{Configuration, firm_number}
-use Rattle.venue_places.specs.declared.actors.Actor.{Actor}
-use Rattle.venue_places.specs.declared.actors.Actor.TheVariants as actor
+use Rattle.venue_steps.specs.declared.actors.Actor.{Actor}
+use Rattle.venue_steps.specs.declared.actors.Actor.TheVariants as actor
 use Rattle.step_replay.specs.declared.steps.Step.{Step}
 use Rattle.step_replay.specs.declared.steps.Step.TheVariants as step
 use Rattle.laws_days.specs.WorkedVenue.{venue}

@@ -6,7 +6,7 @@ ghost use Rattle.venue_rows.specs.declared.dealer_rows.DealerRow.{DealerRow};
 ghost use Rattle.step_replay.specs.Actions.{dealer_of};
 ghost use Rattle.step_replay.specs.AuditTrail as venue;
 ghost use Rattle.laws_days.specs.Conditions.{has_word_asked, is_met};
-ghost use Rattle.venue_places.specs.declared.actors.Actor.{Actor};
+ghost use Rattle.venue_steps.specs.declared.actors.Actor.{Actor};
 ghost use Rattle.step_replay.specs.declared.steps.Step.{Step};
 
 use dealer_desk::{limits_are_kept, what_is_asked_is_of_the_day};

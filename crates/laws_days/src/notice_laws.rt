@@ -17,7 +17,7 @@ ghost use Rattle.step_replay.specs.DealerTrail.{AtDesk, DealerEntry};
 ghost use Rattle.laws_days.specs.Notices.{IsToldOnce, NamesLiftedQuote, notices_of};
 ghost use Rattle.laws_days.specs.Notices.{was_shown};
 ghost use Rattle.step_replay.specs.VenueFacts.{of_dealer, of_room};
-ghost use Rattle.venue_places.specs.declared.actors.Actor.{Actor};
+ghost use Rattle.venue_steps.specs.declared.actors.Actor.{Actor};
 ghost use Rattle.step_replay.specs.declared.steps.Step.{Step};
 
 use dealer_desk::{limits_are_kept, what_is_asked_is_of_the_day, words_are_asked_event_by_event};

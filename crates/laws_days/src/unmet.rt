@@ -2,7 +2,7 @@
 ghost use Rattle.std.specs.Prelude.{◌≡◌, ℕ, false, List};
 ghost use Rattle.market_terms.specs.declared.duties.Duty.{Duty};
 ghost use Rattle.venue_rows.specs.Rows.{Configuration};
-ghost use Rattle.venue_places.specs.declared.actors.Actor.{Actor};
+ghost use Rattle.venue_steps.specs.declared.actors.Actor.{Actor};
 ghost use Rattle.step_replay.specs.Actions.{Dealer, nothing, received_by_dealer};
 ghost use Rattle.step_replay.specs.DutyEffects.{duty_effect};
 ghost use Rattle.step_replay.specs.VenueFacts.{Fact};

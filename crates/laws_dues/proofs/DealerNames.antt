@@ -13,8 +13,8 @@ use Rattle.venue_rows.specs.Rows.{Configuration, KeepsLimits, dealer_numbered, f
 use Rattle.venue_rows.specs.Texts.{same_text}
 use Rattle.venue_rows.specs.declared.dealer_rows.DealerRow.{DealerRow}
 use Rattle.venue_rows.specs.declared.investor_rows.InvestorRow.{InvestorRow}
-use Rattle.venue_places.specs.declared.actors.Actor.{Actor}
-use Rattle.venue_places.specs.declared.actors.Actor.TheVariants as actor
+use Rattle.venue_steps.specs.declared.actors.Actor.{Actor}
+use Rattle.venue_steps.specs.declared.actors.Actor.TheVariants as actor
 use Rattle.step_replay.specs.AuditTrail.{is_same_actor}
 use Rattle.step_replay.specs.PlaceLemmas.{get_first}
 use Rattle.laws_dues.proofs.NumberedDuties.{DutyNumbers, brings, is_quoting, leaves}

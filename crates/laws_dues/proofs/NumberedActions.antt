@@ -19,10 +19,10 @@ use Rattle.venue_steps.specs.RoomSteps.{duties_of_decline, duties_of_expire, dut
 use Rattle.venue_steps.specs.RoomSteps.{duties_of_pass, duties_of_post}
 use Rattle.venue_steps.specs.RoomSteps.{duties_of_unpost, hit_word}
 use Rattle.venue_steps.specs.Words.{has_word}
-use Rattle.venue_places.specs.Dealers.{dealer_of, has_word_for, offer_of}
-use Rattle.venue_places.specs.Dealers.{quote_with_word, word_for, words_of}
-use Rattle.venue_places.specs.declared.actors.Actor.{Actor}
-use Rattle.venue_places.specs.declared.actors.Actor.TheVariants as actor
+use Rattle.venue_steps.specs.Dealers.{dealer_of, has_word_for, offer_of}
+use Rattle.venue_steps.specs.Dealers.{quote_with_word, word_for, words_of}
+use Rattle.venue_steps.specs.declared.actors.Actor.{Actor}
+use Rattle.venue_steps.specs.declared.actors.Actor.TheVariants as actor
 use Rattle.step_replay.specs.Actions.{Effect, answer_to_hit, hit_with, quote_asked}
 use Rattle.step_replay.specs.LineActions.{declined_by, posted_by, unposted_by}
 use Rattle.step_replay.specs.DealerTrail as dealer_trail

@@ -10,8 +10,8 @@ use Rattle.venue_rows.specs.declared.dealer_rows.DealerRow.{DealerRow}
 use Rattle.dealer_desk.specs.DealerFacts.{book_of, quotes_accepted}
 use Rattle.dealer_desk.specs.DealerOutput.{DeskState}
 use Rattle.investor_desk.specs.InvestorFacts.{InvestorFact, Offered, offers_shown}
-use Rattle.venue_places.specs.declared.actors.Actor.{Actor}
-use Rattle.venue_places.specs.declared.actors.Actor.TheVariants as actor
+use Rattle.venue_steps.specs.declared.actors.Actor.{Actor}
+use Rattle.venue_steps.specs.declared.actors.Actor.TheVariants as actor
 use Rattle.step_replay.specs.Actions.{Effect}
 use Rattle.step_replay.specs.AuditTrail.{AuditTrail, Caused, duty_of, is_same_actor, pending, with_effect}
 use Rattle.step_replay.specs.DealerTrail as dealer_trail

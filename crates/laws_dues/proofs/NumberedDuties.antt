@@ -26,8 +26,8 @@ use Rattle.venue_steps.specs.RoomSteps.{duties_of_decline, duties_of_expire}
 use Rattle.venue_steps.specs.RoomSteps.{duties_of_pass, duties_of_post, duties_of_unpost}
 use Rattle.venue_steps.specs.RoomSteps.{hit_duties, reply_to_pass, told_in}
 use Rattle.venue_steps.specs.RoomSteps.{told_to_each, where_follows}
-use Rattle.venue_places.specs.declared.actors.Actor.{Actor}
-use Rattle.venue_places.specs.declared.actors.Actor.TheVariants as actor
+use Rattle.venue_steps.specs.declared.actors.Actor.{Actor}
+use Rattle.venue_steps.specs.declared.actors.Actor.TheVariants as actor
 use Rattle.step_replay.specs.Lists.{Every}
 use Rattle.investor_texts.specs.ReadBack.{is_short_if}
 use Rattle.laws_dues.proofs.RoomCounts.{HasRoom}

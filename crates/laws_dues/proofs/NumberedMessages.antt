@@ -16,9 +16,9 @@ use Rattle.investor_desk.specs.InvestorRules.{InvestorMarket, investor_verdict}
 use Rattle.investor_desk.specs.declared.events.InvestorEvent.TheVariants as at_investor
 use Rattle.investor_desk.specs.declared.verdicts.InvestorVerdict.{InvestorVerdict}
 use Rattle.investor_desk.specs.declared.verdicts.InvestorVerdict.TheVariants as answer
-use Rattle.venue_places.specs.Dealers.{dealer_at, dealer_of}
-use Rattle.venue_places.specs.declared.actors.Actor.{Actor}
-use Rattle.venue_places.specs.declared.actors.Actor.TheVariants as actor
+use Rattle.venue_steps.specs.Dealers.{dealer_at, dealer_of}
+use Rattle.venue_steps.specs.declared.actors.Actor.{Actor}
+use Rattle.venue_steps.specs.declared.actors.Actor.TheVariants as actor
 use Rattle.step_replay.specs.Actions.{Effect, at_dealer, done_by, done_for, left_by}
 use Rattle.step_replay.specs.Actions.{left_by_investor, nothing, received_by_dealer}
 use Rattle.step_replay.specs.Actions.{received_by_investor, settlement_of, verdict_on}

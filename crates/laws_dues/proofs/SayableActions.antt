@@ -19,9 +19,9 @@ use Rattle.investor_desk.specs.declared.events.InvestorEvent.TheVariants as at_i
 use Rattle.request_room.specs.Book.{event_facts}
 use Rattle.request_room.specs.declared.events.RoomEvent.TheVariants as at_room
 use Rattle.venue_steps.specs.RoomSteps.{duties_of_open}
-use Rattle.venue_places.specs.Dealers.{dealer_at, dealer_of}
-use Rattle.venue_places.specs.declared.actors.Actor.{Actor}
-use Rattle.venue_places.specs.declared.actors.Actor.TheVariants as actor
+use Rattle.venue_steps.specs.Dealers.{dealer_at, dealer_of}
+use Rattle.venue_steps.specs.declared.actors.Actor.{Actor}
+use Rattle.venue_steps.specs.declared.actors.Actor.TheVariants as actor
 use Rattle.step_replay.specs.Actions.{Effect, answer_to_drop, at_dealer}
 use Rattle.step_replay.specs.Actions.{done_by, done_for}
 use Rattle.step_replay.specs.Actions.{left_by, left_by_investor}

@@ -26,10 +26,10 @@ use Rattle.request_room.specs.Book.{event_facts, hit_outcome}
 use Rattle.request_room.specs.declared.ends.End.{End}
 use Rattle.request_room.specs.declared.events.RoomEvent.{RoomEvent}
 use Rattle.request_room.specs.declared.events.RoomEvent.TheVariants as at_room
-use Rattle.venue_places.specs.Dealers.{Dealer, QuoteRef, acting_dealer, dealer_at, dealer_of}
-use Rattle.venue_places.specs.Dealers.{quote_with_word}
-use Rattle.venue_places.specs.declared.actors.Actor.{Actor}
-use Rattle.venue_places.specs.declared.actors.Actor.TheVariants as actor
+use Rattle.venue_steps.specs.Dealers.{Dealer, QuoteRef, acting_dealer, dealer_at, dealer_of}
+use Rattle.venue_steps.specs.Dealers.{quote_with_word}
+use Rattle.venue_steps.specs.declared.actors.Actor.{Actor}
+use Rattle.venue_steps.specs.declared.actors.Actor.TheVariants as actor
 use Rattle.step_replay.specs.Actions.{Effect, at_dealer, at_market, done_by, done_for}
 use Rattle.step_replay.specs.Actions.{hit_with, in_room}
 use Rattle.step_replay.specs.Actions.{lifting, nothing}

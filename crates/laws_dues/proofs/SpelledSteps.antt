@@ -10,7 +10,7 @@ use Rattle.market_terms.specs.declared.rooms.RoomRef.{RoomRef}
 use Rattle.venue_rows.specs.Rows.{ConfigValues}
 use Rattle.venue_rows.specs.Texts.{same_text}
 use Rattle.quote_messages.specs.Texts.{number_of}
-use Rattle.venue_places.specs.declared.actors.Actor.{Actor}
+use Rattle.venue_steps.specs.declared.actors.Actor.{Actor}
 use Rattle.step_replay.specs.EachLemmas.{every_both}
 use Rattle.step_replay.specs.Lists.{Every}
 use Rattle.step_replay.specs.LiveDays.{actor_of, live_steps, with_turns}

@@ -26,9 +26,9 @@ use Rattle.request_room.specs.RoomFacts.{Opened, Posted, RoomFact}
 use Rattle.request_room.specs.declared.ends.End.{End}
 use Rattle.request_room.specs.declared.events.RoomEvent.{RoomEvent}
 use Rattle.request_room.specs.declared.events.RoomEvent.TheVariants as at_room
-use Rattle.venue_places.specs.Table.{line_of}
-use Rattle.venue_places.specs.declared.actors.Actor.{Actor}
-use Rattle.venue_places.specs.declared.actors.Actor.TheVariants as actor
+use Rattle.venue_steps.specs.Table.{line_of}
+use Rattle.venue_steps.specs.declared.actors.Actor.{Actor}
+use Rattle.venue_steps.specs.declared.actors.Actor.TheVariants as actor
 use Rattle.step_replay.specs.Actions.{Effect, QuoteRef, at_dealer, at_market}
 use Rattle.step_replay.specs.Actions.{dealer_of, drop_at, lifting, nothing, quote_with_word}
 use Rattle.step_replay.specs.Actions.{settlement_of, verdict_on}

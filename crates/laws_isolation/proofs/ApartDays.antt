@@ -7,7 +7,7 @@ use Rattle.std.proofs.lemmas.List.{append_assoc}
 use Rattle.std.proofs.lemmas.List.Sums.{fold-append}
 use Rattle.venue_rows.specs.Rows.{Configuration, dealer_numbered}
 use Rattle.investor_desk.specs.InvestorDesk.{market_for}
-use Rattle.venue_places.specs.declared.actors.Actor.TheVariants as actor
+use Rattle.venue_steps.specs.declared.actors.Actor.TheVariants as actor
 use Rattle.step_replay.specs.AuditTrail.{AuditTrail, after_step, audit_trail, due_to, no_steps}
 use Rattle.step_replay.specs.AuditTrail.{duty_of, is_same_actor, sent_to}
 use Rattle.step_replay.specs.DealerTrail as dealer_trail

@@ -12,14 +12,14 @@ use Rattle.investor_desk.specs.InvestorFacts.{InvestorBook, knows}
 use Rattle.investor_desk.specs.InvestorDesk.{market_for, market_of}
 use Rattle.investor_desk.specs.InvestorRules.{InvestorMarket}
 use Rattle.venue_steps.specs.InvestorSteps.{replies_to}
-use Rattle.venue_places.specs.Dealers.{acting_dealer}
-use Rattle.venue_places.specs.Placed.{placed}
-use Rattle.venue_places.specs.declared.actors.Actor.{Actor}
-use Rattle.venue_places.specs.declared.actors.Actor.TheVariants as actor
-use Rattle.venue_places.specs.declared.arrivals.Placement.{Placement}
-use Rattle.venue_places.specs.declared.arrivals.Placement.TheVariants as arrival
-use Rattle.venue_places.specs.declared.arrivals.ForInvestor.{ForInvestor}
-use Rattle.venue_places.specs.declared.arrivals.ForInvestor.TheVariants as to_investor
+use Rattle.venue_steps.specs.Dealers.{acting_dealer}
+use Rattle.venue_steps.specs.Placed.{placed}
+use Rattle.venue_steps.specs.declared.actors.Actor.{Actor}
+use Rattle.venue_steps.specs.declared.actors.Actor.TheVariants as actor
+use Rattle.venue_steps.specs.declared.arrivals.Placement.{Placement}
+use Rattle.venue_steps.specs.declared.arrivals.Placement.TheVariants as arrival
+use Rattle.venue_steps.specs.declared.arrivals.ForInvestor.{ForInvestor}
+use Rattle.venue_steps.specs.declared.arrivals.ForInvestor.TheVariants as to_investor
 use Rattle.step_replay.specs.InvestorTrail.{book_by}
 use Rattle.step_replay.specs.VenueFacts.{Fact, of_investor}
 use Rattle.laws_days.specs.Conditions.{holds_for, is_known, is_known_to, is_met}

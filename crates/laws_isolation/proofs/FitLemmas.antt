@@ -9,8 +9,8 @@ use Rattle.investor_desk.specs.InvestorRules.{InvestorMarket}
 use Rattle.investor_desk.specs.declared.events.InvestorEvent.{InvestorEvent}
 use Rattle.investor_desk.specs.declared.events.InvestorEvent.TheVariants as event
 use Rattle.venue_steps.specs.InvestorSteps.{replies_to, with_event_if}
-use Rattle.venue_places.specs.Brought.{investor_with}
-use Rattle.venue_places.specs.declared.arrivals.ForInvestor.TheVariants as to_investor
+use Rattle.venue_steps.specs.Brought.{investor_with}
+use Rattle.venue_steps.specs.declared.arrivals.ForInvestor.TheVariants as to_investor
 use Rattle.investor_views.specs.Comings.{Coming, Own, For, after_coming, desk_by}
 use Rattle.investor_views.specs.DeskView.{coming_of, desk_view, event_dues, event_dues_from}
 use Rattle.investor_views.specs.DeskView.{event_of, seen_at}

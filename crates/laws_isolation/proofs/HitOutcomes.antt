@@ -24,7 +24,7 @@ use Rattle.request_room.specs.RoomFacts.{RoomFact, Ended}
 use Rattle.request_room.specs.declared.ends.End.{End}
 use Rattle.request_room.specs.declared.quotes.PostedQuote.{PostedQuote}
 use Rattle.venue_steps.specs.RoomSteps.{close_for, hit_word, told_of_hit}
-use Rattle.venue_places.specs.declared.actors.Actor.{Actor}
+use Rattle.venue_steps.specs.declared.actors.Actor.{Actor}
 use Rattle.step_replay.specs.Actions.{Effect, QuoteRef, answer_to_hit, lifting, quote_asked}
 use Rattle.step_replay.specs.Actions.{quote_with_word}
 use Rattle.step_replay.specs.DutyEffects.{duty_effect}

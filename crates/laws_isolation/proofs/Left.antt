@@ -22,8 +22,8 @@ use Rattle.investor_desk.specs.InvestorRules.{response_to}
 use Rattle.investor_desk.specs.declared.standing.RequestClose.TheVariants as close
 use Rattle.request_room.specs.Book.{expired}
 use Rattle.request_room.specs.RoomFacts.{RoomFact, Ended, Noted, Posted, Unposted}
-use Rattle.venue_places.specs.declared.actors.Actor.{Actor}
-use Rattle.venue_places.specs.declared.actors.Actor.TheVariants as actor
+use Rattle.venue_steps.specs.declared.actors.Actor.{Actor}
+use Rattle.venue_steps.specs.declared.actors.Actor.TheVariants as actor
 use Rattle.step_replay.specs.Actions.{Dealer, Effect, acting_dealer, dealer_at, dealer_of, done_by}
 use Rattle.step_replay.specs.Actions.{nothing}
 use Rattle.step_replay.specs.DealerTrail.{AtDesk, DealerEntry, Sent}

@@ -19,9 +19,9 @@ use Rattle.investor_desk.specs.declared.verdicts.InvestorVerdict.{InvestorVerdic
 use Rattle.investor_desk.specs.declared.verdicts.InvestorVerdict.TheVariants as on_investor
 use Rattle.request_room.specs.RoomFacts.{request_of}
 use Rattle.venue_steps.specs.RoomSteps.{dealers_of}
-use Rattle.venue_places.specs.Table.{line_of}
-use Rattle.venue_places.specs.declared.actors.Actor.{Actor}
-use Rattle.venue_places.specs.declared.actors.Actor.TheVariants as actor
+use Rattle.venue_steps.specs.Table.{line_of}
+use Rattle.venue_steps.specs.declared.actors.Actor.{Actor}
+use Rattle.venue_steps.specs.declared.actors.Actor.TheVariants as actor
 use Rattle.step_replay.specs.Actions.{dealer_of, verdict_on}
 use Rattle.step_replay.specs.DealerTrail.{facts_of, rooms_by}
 use Rattle.step_replay.specs.DutyEffects.{duty_effect, message_effect, sweep_effect}

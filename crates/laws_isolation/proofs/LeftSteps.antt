@@ -23,7 +23,7 @@ use Rattle.venue_steps.specs.InvestorSteps.{replies_to}
 use Rattle.venue_steps.specs.RoomSteps.{duties_of_post, duties_of_unpost, duties_of_decline}
 use Rattle.venue_steps.specs.RoomSteps.{duties_of_open, duties_of_pass, duties_of_expire}
 use Rattle.laws_days.specs.Conditions.{holds_for, is_known, is_known_to, is_met, may_reply}
-use Rattle.venue_places.specs.declared.actors.Actor.{Actor}
+use Rattle.venue_steps.specs.declared.actors.Actor.{Actor}
 use Rattle.step_replay.specs.Actions.{Dealer, where_known, word_for, has_word_for}
 use Rattle.step_replay.specs.Actions.{offer_of}
 use Rattle.step_replay.specs.Actions.{acting_dealer, dealer_at, done_for}

@@ -8,8 +8,8 @@ use Rattle.market_terms.specs.declared.closes.Reply.TheVariants as reply
 use Rattle.market_terms.specs.declared.duties.Duty.{Duty}
 use Rattle.market_terms.specs.declared.duties.Duty.TheVariants as duty
 use Rattle.venue_rows.specs.Rows.{Configuration}
-use Rattle.venue_places.specs.declared.actors.Actor.{Actor}
-use Rattle.venue_places.specs.declared.actors.Actor.TheVariants as actor
+use Rattle.venue_steps.specs.declared.actors.Actor.{Actor}
+use Rattle.venue_steps.specs.declared.actors.Actor.TheVariants as actor
 use Rattle.step_replay.specs.Actions.{Effect}
 use Rattle.step_replay.specs.AuditTrail.{AuditTrail, after_step, after_turn, is_same_actor}
 use Rattle.step_replay.specs.AuditTrail.{pending, with_effect}

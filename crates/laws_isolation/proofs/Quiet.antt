@@ -12,8 +12,8 @@ use Rattle.venue_rows.specs.Rows.{Configuration, dealer_numbered}
 use Rattle.venue_rows.specs.declared.dealer_rows.DealerRow.{DealerRow}
 use Rattle.investor_desk.specs.InvestorFacts.{InvestorFact, Offered, Gone}
 use Rattle.request_room.specs.RoomFacts.{RoomFact, Posted, Unposted, Noted}
-use Rattle.venue_places.specs.declared.actors.Actor.{Actor}
-use Rattle.venue_places.specs.declared.actors.Actor.TheVariants as actor
+use Rattle.venue_steps.specs.declared.actors.Actor.{Actor}
+use Rattle.venue_steps.specs.declared.actors.Actor.TheVariants as actor
 use Rattle.step_replay.specs.AuditTrail.{AuditTrail}
 use Rattle.step_replay.specs.InvestorTrail.{InvestorEntry, AtDesk, Sent}
 use Rattle.step_replay.specs.VenueFacts.{Fact, AtDealer, InRoom, AtInvestor}

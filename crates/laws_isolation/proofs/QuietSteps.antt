@@ -22,7 +22,7 @@ use Rattle.request_room.specs.RoomFacts.{RoomFact, hears}
 use Rattle.request_room.specs.declared.events.RoomEvent.TheVariants as at_room
 use Rattle.venue_steps.specs.RoomSteps.{duties_of_post, duties_of_unpost, duties_of_decline}
 use Rattle.venue_steps.specs.RoomSteps.{duties_of_open, duties_of_pass, duties_of_expire}
-use Rattle.venue_places.specs.declared.actors.Actor.{Actor}
+use Rattle.venue_steps.specs.declared.actors.Actor.{Actor}
 use Rattle.step_replay.specs.Actions.{Dealer, Effect, where_known, word_for}
 use Rattle.step_replay.specs.Actions.{has_word_for, offer_of}
 use Rattle.step_replay.specs.Actions.{received_by_investor, left_by_investor, shown_to}

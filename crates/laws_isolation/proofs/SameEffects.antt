@@ -17,18 +17,18 @@ use Rattle.request_room.specs.Book.{event_facts, hit_outcome, hit_refusal, word_
 use Rattle.request_room.specs.declared.events.RoomEvent.TheVariants as at_room
 use Rattle.venue_steps.specs.RoomSteps.{duties_of_hit, hit_word, word_asked_by}
 use Rattle.venue_steps.specs.Words.{has_word}
-use Rattle.venue_places.specs.Placed.{desk_for, desk_of_line, room_for, room_of_line}
-use Rattle.venue_places.specs.Table.{Line, acting_in, brings, drops, line_of, telling}
-use Rattle.venue_places.specs.declared.actors.Actor.{Actor}
-use Rattle.venue_places.specs.declared.actors.Actor.TheVariants as actor
-use Rattle.venue_places.specs.declared.arrivals.ForDealer.{ForDealer}
-use Rattle.venue_places.specs.declared.arrivals.ForDealer.TheVariants as to_dealer
-use Rattle.venue_places.specs.declared.arrivals.ForInvestor.{ForInvestor}
-use Rattle.venue_places.specs.declared.arrivals.ForInvestor.TheVariants as to_investor
-use Rattle.venue_places.specs.declared.arrivals.ForRoom.{ForRoom}
-use Rattle.venue_places.specs.declared.arrivals.ForRoom.TheVariants as to_room
-use Rattle.venue_places.specs.declared.arrivals.Placement.{Placement}
-use Rattle.venue_places.specs.declared.arrivals.Placement.TheVariants as arrival
+use Rattle.venue_steps.specs.Placed.{desk_for, desk_of_line, room_for, room_of_line}
+use Rattle.venue_steps.specs.Table.{Line, acting_in, brings, drops, line_of, telling}
+use Rattle.venue_steps.specs.declared.actors.Actor.{Actor}
+use Rattle.venue_steps.specs.declared.actors.Actor.TheVariants as actor
+use Rattle.venue_steps.specs.declared.arrivals.ForDealer.{ForDealer}
+use Rattle.venue_steps.specs.declared.arrivals.ForDealer.TheVariants as to_dealer
+use Rattle.venue_steps.specs.declared.arrivals.ForInvestor.{ForInvestor}
+use Rattle.venue_steps.specs.declared.arrivals.ForInvestor.TheVariants as to_investor
+use Rattle.venue_steps.specs.declared.arrivals.ForRoom.{ForRoom}
+use Rattle.venue_steps.specs.declared.arrivals.ForRoom.TheVariants as to_room
+use Rattle.venue_steps.specs.declared.arrivals.Placement.{Placement}
+use Rattle.venue_steps.specs.declared.arrivals.Placement.TheVariants as arrival
 use Rattle.step_replay.specs.Actions.{Dealer, Effect, QuoteRef, acting_dealer, answer_to_hit}
 use Rattle.step_replay.specs.Actions.{dealer_at, dealer_of, done_by}
 use Rattle.step_replay.specs.Actions.{dropped_by, hit_in, lifting, nothing}

@@ -5,13 +5,13 @@ use Rattle.std.proofs.Common.{if◌then◌else◌, List, [], ◌∷◌, ◌++◌
 use Rattle.market_terms.specs.declared.duties.Duty.{Duty}
 use Rattle.market_terms.specs.declared.duties.Duty.TheVariants as duty
 use Rattle.venue_rows.specs.Rows.{Configuration}
-use Rattle.venue_places.specs.Placed.{placed}
-use Rattle.venue_places.specs.Table.{line_of}
-use Rattle.venue_places.specs.declared.actors.Actor.{Actor}
-use Rattle.venue_places.specs.declared.arrivals.Placement.{Placement}
-use Rattle.venue_places.specs.declared.arrivals.Placement.TheVariants as arrival
-use Rattle.venue_places.specs.declared.arrivals.ForInvestor.{ForInvestor}
-use Rattle.venue_places.specs.declared.actors.Actor.TheVariants as actor
+use Rattle.venue_steps.specs.Placed.{placed}
+use Rattle.venue_steps.specs.Table.{line_of}
+use Rattle.venue_steps.specs.declared.actors.Actor.{Actor}
+use Rattle.venue_steps.specs.declared.arrivals.Placement.{Placement}
+use Rattle.venue_steps.specs.declared.arrivals.Placement.TheVariants as arrival
+use Rattle.venue_steps.specs.declared.arrivals.ForInvestor.{ForInvestor}
+use Rattle.venue_steps.specs.declared.actors.Actor.TheVariants as actor
 use Rattle.step_replay.specs.Actions.{Effect}
 use Rattle.step_replay.specs.AuditTrail.{AuditTrail, after_step, after_turn, pending, with_effect}
 use Rattle.step_replay.specs.DutyEffects.{duty_effect, message_effect, sweep_effect}

@@ -3,7 +3,7 @@ use Rattle.std.proofs.Common.{◌≡◌, ℕ, zero, suc, Bool, true, false, List
 use Rattle.std.proofs.Common.{Option, refl, sym, ap, ◌∙◌, subst}
 use Rattle.std.specs.Option.{option_to_list}
 use Rattle.venue_rows.specs.Rows.{Configuration}
-use Rattle.venue_places.specs.declared.actors.Actor.TheVariants as actor
+use Rattle.venue_steps.specs.declared.actors.Actor.TheVariants as actor
 use Rattle.step_replay.specs.AuditTrail.{AuditTrail, after_step, pending}
 use Rattle.step_replay.specs.Lists.{Every}
 use Rattle.step_replay.specs.LiveDays.{actor_of, with_turns}

@@ -13,8 +13,8 @@ use Rattle.investor_desk.specs.InvestorDesk.{market_of}
 use Rattle.investor_desk.specs.declared.events.InvestorEvent.{InvestorEvent}
 use Rattle.investor_desk.specs.declared.events.InvestorEvent.TheVariants as at_investor
 use Rattle.request_room.specs.declared.events.RoomEvent.TheVariants as at_room
-use Rattle.venue_places.specs.declared.actors.Actor.{Actor}
-use Rattle.venue_places.specs.declared.actors.Actor.TheVariants as actor
+use Rattle.venue_steps.specs.declared.actors.Actor.{Actor}
+use Rattle.venue_steps.specs.declared.actors.Actor.TheVariants as actor
 use Rattle.step_replay.specs.Actions.{acting_dealer, received_by_dealer}
 use Rattle.step_replay.specs.Actions.{where_known, word_for, Effect}
 use Rattle.step_replay.specs.LineActions.{at_investor_of}

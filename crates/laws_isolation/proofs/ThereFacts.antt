@@ -17,10 +17,10 @@ use Rattle.request_room.specs.Book.{book_of, hit_checks, hit_refusal, quote_mean
 use Rattle.request_room.specs.declared.quotes.PostedQuote.{PostedQuote}
 use Rattle.venue_steps.specs.Words.{word_of}
 use Rattle.venue_steps.specs.RoomSteps.{dealers_of}
-use Rattle.venue_places.specs.Placed.{desk_of_line, room_of_line}
-use Rattle.venue_places.specs.Table.{line_of}
-use Rattle.venue_places.specs.declared.actors.Actor.{Actor}
-use Rattle.venue_places.specs.declared.actors.Actor.TheVariants as actor
+use Rattle.venue_steps.specs.Placed.{desk_of_line, room_of_line}
+use Rattle.venue_steps.specs.Table.{line_of}
+use Rattle.venue_steps.specs.declared.actors.Actor.{Actor}
+use Rattle.venue_steps.specs.declared.actors.Actor.TheVariants as actor
 use Rattle.step_replay.specs.Actions.{QuoteRef, quote_with_word, quotes_of}
 use Rattle.step_replay.specs.AuditTrail.{AuditTrail}
 use Rattle.step_replay.specs.DealerTrail.{DealerEntry, ShownIn, room_in, rooms_by}

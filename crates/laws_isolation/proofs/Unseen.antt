@@ -11,7 +11,7 @@ use Rattle.investor_desk.specs.InvestorDesk.{market_of}
 use Rattle.investor_desk.specs.declared.events.InvestorEvent.{InvestorEvent}
 use Rattle.investor_desk.specs.declared.events.InvestorEvent.TheVariants as at_investor
 use Rattle.request_room.specs.declared.events.RoomEvent.TheVariants as at_room
-use Rattle.venue_places.specs.declared.actors.Actor.{Actor}
+use Rattle.venue_steps.specs.declared.actors.Actor.{Actor}
 use Rattle.step_replay.specs.Actions.{acting_dealer, dealer_of, received_by_dealer}
 use Rattle.step_replay.specs.Actions.{verdict_on, where_known, word_for}
 use Rattle.step_replay.specs.LineActions.{at_investor_of}

@@ -7,7 +7,7 @@ use Rattle.venue_rows.specs.Rows.{Configuration}
 use Rattle.investor_desk.specs.InvestorFacts.{InvestorBook, knows}
 use Rattle.investor_desk.specs.InvestorDesk.{DeskEvents, book_at, market_for, no_events}
 use Rattle.investor_desk.specs.InvestorRules.{InvestorMarket}
-use Rattle.venue_places.specs.declared.arrivals.ForInvestor.TheVariants as to_investor
+use Rattle.venue_steps.specs.declared.arrivals.ForInvestor.TheVariants as to_investor
 use Rattle.venue_steps.specs.Replies.{replies_to}
 use Rattle.investor_views.specs.Comings.{Coming, Own, For, after_coming}
 use Rattle.investor_views.specs.DeskView.{coming_of, event_dues}

@@ -9,7 +9,7 @@ use Rattle.fix_fields.specs.Frame.{Field, IsFrame}
 use Rattle.market_terms.specs.declared.rooms.RoomRef.{RoomRef}
 use Rattle.venue_rows.specs.Rows.{Configuration, dealer_numbered}
 use Rattle.request_room.specs.RoomFacts.{RoomFact, Ended, is_awarded_kind}
-use Rattle.venue_places.specs.declared.actors.Actor.{Actor}
+use Rattle.venue_steps.specs.declared.actors.Actor.{Actor}
 use Rattle.step_replay.specs.AuditTrail.{AuditTrail, Caused, audit_trail, pending}
 use Rattle.step_replay.specs.Lists.{Every}
 use Rattle.step_replay.specs.LiveDays.{live_trail}

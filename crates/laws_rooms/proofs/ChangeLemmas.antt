@@ -11,9 +11,9 @@ use Rattle.market_terms.specs.declared.duties.Duty.TheVariants as duty
 use Rattle.market_terms.specs.declared.rooms.RoomRef.{RoomRef}
 use Rattle.venue_rows.specs.Rows.{Configuration, dealer_numbered, has_room}
 use Rattle.venue_rows.specs.declared.dealer_rows.DealerRow.{DealerRow}
-use Rattle.venue_places.specs.Dealers.{dealer_of, has_word_for, word_for}
-use Rattle.venue_places.specs.declared.actors.Actor.{Actor}
-use Rattle.venue_places.specs.declared.actors.Actor.TheVariants as actor
+use Rattle.venue_steps.specs.Dealers.{dealer_of, has_word_for, word_for}
+use Rattle.venue_steps.specs.declared.actors.Actor.{Actor}
+use Rattle.venue_steps.specs.declared.actors.Actor.TheVariants as actor
 use Rattle.request_room.specs.Book.{book_of, event_facts, quote_posted, stands}
 use Rattle.request_room.specs.RoomFacts.{RoomFact, Unposted, ended_as, end_of, hears, is_ended, request_of}
 use Rattle.request_room.specs.declared.ends.End.{End}

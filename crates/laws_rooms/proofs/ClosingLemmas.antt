@@ -14,8 +14,8 @@ use Rattle.market_terms.specs.declared.rooms.ResponseRef.{ResponseRef}
 use Rattle.market_terms.specs.declared.rooms.RoomRef.{RoomRef}
 use Rattle.quote_word.specs.declared.settled.Settled.{Settled}
 use Rattle.venue_rows.specs.Rows.{Configuration}
-use Rattle.venue_places.specs.Dealers.{quote_with_word}
-use Rattle.venue_places.specs.declared.actors.Actor.{Actor}
+use Rattle.venue_steps.specs.Dealers.{quote_with_word}
+use Rattle.venue_steps.specs.declared.actors.Actor.{Actor}
 use Rattle.venue_steps.specs.RoomSteps.{hit_duties, reply_to_pass, told_in}
 use Rattle.investor_desk.specs.InvestorDesk.{market_of}
 use Rattle.investor_desk.specs.InvestorOutput as investor_output

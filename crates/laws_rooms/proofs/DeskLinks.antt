@@ -28,7 +28,7 @@ use Rattle.dealer_desk.specs.declared.standing.Withdrawal.TheVariants as by_way
 use Rattle.dealer_desk.specs.declared.verdicts.DealerVerdict.{DealerVerdict}
 use Rattle.dealer_desk.specs.declared.verdicts.DealerVerdict.TheVariants as verdict
 use Rattle.request_room.specs.Book.{quote_posted}
-use Rattle.venue_places.specs.Dealers.{Dealer, dealer_of, word_for}
+use Rattle.venue_steps.specs.Dealers.{Dealer, dealer_of, word_for}
 use Rattle.venue_rows.specs.Rows.{Configuration, dealer_numbered}
 use Rattle.venue_rows.specs.declared.dealer_rows.DealerRow.{DealerRow}
 use Rattle.step_replay.specs.EachLemmas.{every_both}

@@ -12,7 +12,7 @@ use Rattle.market_terms.specs.declared.rooms.RoomRef.{RoomRef}
 use Rattle.venue_rows.specs.Rows.{Configuration, KeepsLimits, dealer_numbered}
 use Rattle.venue_rows.specs.Texts.{same_text}
 use Rattle.venue_rows.specs.declared.dealer_rows.DealerRow.{DealerRow}
-use Rattle.venue_places.specs.Dealers.{QuoteRef, dealer_of, offer_of, quote_with_word}
+use Rattle.venue_steps.specs.Dealers.{QuoteRef, dealer_of, offer_of, quote_with_word}
 use Rattle.investor_desk.specs.InvestorFacts.{Gone, InvestorFact, Offered, StandingRequest, book_of}
 use Rattle.investor_desk.specs.InvestorFacts.{offers_of}
 use Rattle.investor_desk.specs.InvestorFacts.{offer_numbered, request_numbered}

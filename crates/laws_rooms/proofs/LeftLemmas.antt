@@ -12,11 +12,11 @@ use Rattle.market_terms.specs.declared.rooms.ResponseRef.{ResponseRef}
 use Rattle.market_terms.specs.declared.rooms.RoomRef.{RoomRef}
 use Rattle.venue_rows.specs.Rows.{Configuration, dealer_numbered, has_room}
 use Rattle.venue_rows.specs.declared.investor_rows.InvestorRow.{InvestorRow}
-use Rattle.venue_places.specs.Dealers.{Dealer, dealer_at, dealer_of, has_word_for, offer_of}
-use Rattle.venue_places.specs.Dealers.{word_for}
+use Rattle.venue_steps.specs.Dealers.{Dealer, dealer_at, dealer_of, has_word_for, offer_of}
+use Rattle.venue_steps.specs.Dealers.{word_for}
 use Rattle.venue_rows.specs.declared.dealer_rows.DealerRow.{DealerRow}
-use Rattle.venue_places.specs.declared.actors.Actor.{Actor}
-use Rattle.venue_places.specs.declared.actors.Actor.TheVariants as actor
+use Rattle.venue_steps.specs.declared.actors.Actor.{Actor}
+use Rattle.venue_steps.specs.declared.actors.Actor.TheVariants as actor
 use Rattle.dealer_desk.specs.declared.events.DealerEvent.{DealerEvent}
 use Rattle.dealer_desk.specs.declared.events.DealerEvent.TheVariants as at_desk
 use Rattle.investor_desk.specs.InvestorDesk.{market_for, market_of}

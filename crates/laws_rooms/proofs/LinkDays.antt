@@ -19,9 +19,9 @@ use Rattle.market_terms.specs.declared.rooms.RoomRef.{RoomRef}
 use Rattle.quote_word.specs.declared.settled.Settled.{Settled}
 use Rattle.venue_rows.specs.Rows.{Configuration, dealer_numbered}
 use Rattle.venue_rows.specs.declared.dealer_rows.DealerRow.{DealerRow}
-use Rattle.venue_places.specs.Dealers.{Dealer, QuoteRef, acting_dealer, dealer_at, dealer_of, quote_with_word}
-use Rattle.venue_places.specs.declared.actors.Actor.{Actor}
-use Rattle.venue_places.specs.declared.actors.Actor.TheVariants as actor
+use Rattle.venue_steps.specs.Dealers.{Dealer, QuoteRef, acting_dealer, dealer_at, dealer_of, quote_with_word}
+use Rattle.venue_steps.specs.declared.actors.Actor.{Actor}
+use Rattle.venue_steps.specs.declared.actors.Actor.TheVariants as actor
 use Rattle.dealer_desk.specs.DealerFacts.{Came, DealerFact, Dropped, Told, number_to_drop, tells}
 use Rattle.dealer_desk.specs.DealerOutput.{closable, event_facts, number_in, settled_facts, shown_room}
 use Rattle.dealer_desk.specs.DealerOutput.{uses_number, verdict_facts}

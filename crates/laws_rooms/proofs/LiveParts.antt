@@ -12,8 +12,8 @@ use Rattle.request_room.specs.RoomFacts.{RoomFact, is_ended}
 use Rattle.venue_rows.specs.Rows.{Configuration, dealer_numbered, investor_numbered, may_request}
 use Rattle.venue_rows.specs.declared.dealer_rows.DealerRow.{DealerRow}
 use Rattle.venue_rows.specs.declared.investor_rows.InvestorRow.{InvestorRow}
-use Rattle.venue_places.specs.declared.actors.Actor.{Actor}
-use Rattle.venue_places.specs.declared.actors.Actor.TheVariants as actor
+use Rattle.venue_steps.specs.declared.actors.Actor.{Actor}
+use Rattle.venue_steps.specs.declared.actors.Actor.TheVariants as actor
 use Rattle.step_replay.specs.AuditTrail.{AuditTrail}
 use Rattle.step_replay.specs.LiveDays.{actor_of, live_steps, with_turns}
 use Rattle.step_replay.specs.PlaceLemmas.{behind_dealers, room_grown}

@@ -10,7 +10,7 @@ use Rattle.market_terms.specs.declared.duties.Duty.TheVariants as duty
 use Rattle.market_terms.specs.declared.rooms.ResponseRef.{ResponseRef}
 use Rattle.market_terms.specs.declared.rooms.RoomRef.{RoomRef}
 use Rattle.venue_rows.specs.Rows.{Configuration}
-use Rattle.venue_places.specs.declared.actors.Actor.{Actor}
+use Rattle.venue_steps.specs.declared.actors.Actor.{Actor}
 use Rattle.investor_desk.specs.InvestorFacts.{InvestorBook, InvestorFact, StandingRequest, closes}
 use Rattle.investor_desk.specs.InvestorFacts.{offer_of_dealer, offer_with_word, open_request, request_numbered}
 use Rattle.investor_desk.specs.InvestorFacts.{Offered}

@@ -9,8 +9,8 @@ use Rattle.market_terms.specs.declared.rooms.ResponseRef.{ResponseRef}
 use Rattle.market_terms.specs.declared.rooms.RoomRef.{RoomRef}
 use Rattle.quote_word.specs.declared.settled.Settled.{Settled}
 use Rattle.venue_rows.specs.Rows.{Configuration, dealer_numbered}
-use Rattle.venue_places.specs.Dealers.{Dealer, QuoteRef, dealer_at, dealer_of, quote_with_word}
-use Rattle.venue_places.specs.declared.actors.Actor.{Actor}
+use Rattle.venue_steps.specs.Dealers.{Dealer, QuoteRef, dealer_at, dealer_of, quote_with_word}
+use Rattle.venue_steps.specs.declared.actors.Actor.{Actor}
 use Rattle.dealer_desk.specs.DealerOutput.{is_same_room}
 use Rattle.dealer_desk.specs.declared.events.DealerEvent.{DealerEvent}
 use Rattle.dealer_desk.specs.declared.events.DealerEvent.TheVariants as at_desk

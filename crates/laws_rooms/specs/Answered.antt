@@ -11,7 +11,7 @@ use Rattle.request_room.specs.Book.{quote_posted}
 use Rattle.request_room.specs.RoomFacts.{Noted, Posted, RoomFact, Unposted, is_ended}
 use Rattle.request_room.specs.declared.quotes.PostedQuote.{PostedQuote}
 use Rattle.step_replay.specs.DealerTrail.{DealerEntry, facts_of, rooms_by}
-use Rattle.venue_places.specs.Dealers.{Dealer, word_for}
+use Rattle.venue_steps.specs.Dealers.{Dealer, word_for}
 use Rattle.venue_rows.specs.Rows.{Configuration}
 
 -- an answer: a quote, by its dealer, its word, its price and its valid-until, that the quote with a word

@@ -7,7 +7,7 @@ use Rattle.investor_desk.specs.declared.standing.ShownOffer.{ShownOffer}
 use Rattle.request_room.specs.Book.{quote_posted}
 use Rattle.request_room.specs.RoomFacts.{Posted, RoomFact}
 use Rattle.request_room.specs.declared.quotes.PostedQuote.{PostedQuote}
-use Rattle.venue_places.specs.Dealers.{QuoteRef, quote_with_word}
+use Rattle.venue_steps.specs.Dealers.{QuoteRef, quote_with_word}
 use Rattle.venue_rows.specs.Rows.{Configuration}
 
 -- What took effect.

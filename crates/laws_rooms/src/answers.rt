@@ -8,7 +8,7 @@ ghost use Rattle.step_replay.specs.LiveDays.{live_trail};
 ghost use Rattle.step_replay.specs.VenueFacts.{of_dealer, of_room};
 ghost use Rattle.step_replay.specs.declared.steps.Step.{Step};
 ghost use Rattle.laws_days.specs.LiveDuties.{NoDutyIsLeft};
-ghost use Rattle.venue_places.specs.Dealers as places;
+ghost use Rattle.venue_steps.specs.Dealers as places;
 ghost use Rattle.venue_rows.specs.Rows.{Configuration, dealer_numbered};
 ghost use Rattle.venue_rows.specs.declared.dealer_rows.DealerRow.{DealerRow};
 

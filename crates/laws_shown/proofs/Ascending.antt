@@ -5,7 +5,7 @@ use Rattle.std.proofs.Common.{if◌then◌else◌, eq-eqb}
 use Rattle.std.specs.Option.{option_to_list}
 use Rattle.venue_rows.specs.Rows.{Configuration, dealer_numbered}
 use Rattle.venue_rows.specs.declared.dealer_rows.DealerRow.{DealerRow}
-use Rattle.venue_places.specs.Dealers.{QuoteRef, dealer_of, quote_with_word, word_for}
+use Rattle.venue_steps.specs.Dealers.{QuoteRef, dealer_of, quote_with_word, word_for}
 use Rattle.step_replay.specs.OwnerLemmas.{owner_among, quote_at}
 
 -- The numbers are above the first bound, ascend, and are not above the last.

@@ -15,7 +15,7 @@ use Rattle.quote_messages.specs.declared.out_messages.Head.{Head}
 use Rattle.quote_messages.specs.declared.out_messages.OutMessage.{OutMessage}
 use Rattle.venue_rows.specs.Rows.{Configuration, dealer_numbered}
 use Rattle.venue_rows.specs.declared.dealer_rows.DealerRow.{DealerRow}
-use Rattle.venue_places.specs.declared.actors.Actor.{Actor}
+use Rattle.venue_steps.specs.declared.actors.Actor.{Actor}
 use Rattle.dealer_desk.specs.DealerFacts.{Came, DealerBook, DealerFact, Dropped, Quoted}
 use Rattle.dealer_desk.specs.DealerFacts.{number_to_drop, quote_to_drop}
 use Rattle.dealer_desk.specs.DealerFacts as dealer_facts

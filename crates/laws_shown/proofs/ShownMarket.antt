@@ -10,7 +10,7 @@ use Rattle.quote_messages.specs.Written.{written}
 use Rattle.quote_messages.specs.declared.out_messages.OutMessage.{OutMessage}
 use Rattle.venue_rows.specs.Rows.{Configuration}
 use Rattle.venue_rows.specs.declared.investor_rows.InvestorRow.{InvestorRow}
-use Rattle.venue_places.specs.declared.actors.Actor.{Actor}
+use Rattle.venue_steps.specs.declared.actors.Actor.{Actor}
 use Rattle.investor_desk.specs.InvestorDesk.{market_of}
 use Rattle.investor_desk.specs.InvestorFacts.{offers_of, Asked, InvestorBook, InvestorFact, Offered}
 use Rattle.investor_desk.specs.InvestorFacts.{StandingRequest, is_open}

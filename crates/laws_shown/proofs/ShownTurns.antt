@@ -13,9 +13,9 @@ use Rattle.market_terms.specs.declared.rooms.Offer.{Offer}
 use Rattle.market_terms.specs.declared.rooms.RoomRef.{RoomRef}
 use Rattle.venue_rows.specs.Rows.{Configuration, dealer_numbered, has_room}
 use Rattle.venue_rows.specs.declared.dealer_rows.DealerRow.{DealerRow}
-use Rattle.venue_places.specs.Dealers.{dealer_of, offer_of, word_for}
-use Rattle.venue_places.specs.declared.actors.Actor.{Actor}
-use Rattle.venue_places.specs.declared.actors.Actor.TheVariants as actor
+use Rattle.venue_steps.specs.Dealers.{dealer_of, offer_of, word_for}
+use Rattle.venue_steps.specs.declared.actors.Actor.{Actor}
+use Rattle.venue_steps.specs.declared.actors.Actor.TheVariants as actor
 use Rattle.quote_word.specs.declared.settled.Settled.{Settled}
 use Rattle.dealer_desk.specs.DealerFacts.{DealerFact, Quoted, standings}
 use Rattle.dealer_desk.specs.DealerOutput.{event_facts, goes_through, is_same_room, is_withdrawn}

@@ -6,7 +6,7 @@ use Rattle.market_terms.specs.declared.rooms.RoomRef.{RoomRef}
 use Rattle.quote_messages.specs.Written.{price_tag, quote_name, size_tag}
 use Rattle.venue_rows.specs.Rows.{Configuration, dealer_numbered}
 use Rattle.venue_rows.specs.declared.dealer_rows.DealerRow.{DealerRow}
-use Rattle.venue_places.specs.Dealers.{dealer_of, offer_of}
+use Rattle.venue_steps.specs.Dealers.{dealer_of, offer_of}
 use Rattle.dealer_desk.specs.DealerFacts.{DealerFact, Quoted}
 use Rattle.dealer_desk.specs.DealerOutput as dealer_output
 use Rattle.dealer_desk.specs.declared.accepted.AcceptedQuote.{AcceptedQuote}

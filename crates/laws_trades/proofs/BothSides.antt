@@ -26,7 +26,7 @@ use Rattle.dealer_desk.specs.DealerOutput as dealer_output
 use Rattle.dealer_desk.specs.DealerOutput.{event_message, next_message, quoted_price}
 use Rattle.investor_desk.specs.InvestorFacts.{Closed, offer_numbered}
 use Rattle.investor_desk.specs.declared.standing.RequestClose.TheVariants.{Awarded}
-use Rattle.venue_places.specs.declared.actors.Actor.TheVariants as actor
+use Rattle.venue_steps.specs.declared.actors.Actor.TheVariants as actor
 use Rattle.step_replay.specs.DealerTrail.{sent_by}
 use Rattle.step_replay.specs.OwnerLemmas.{quote_at}
 use Rattle.laws_days.proofs.ListLemmas.{cases_some, found_passes}

@@ -26,7 +26,7 @@ use Rattle.request_room.specs.Book.{event_facts as room_event_facts}
 use Rattle.request_room.specs.declared.quotes.PostedQuote.{PostedQuote as BookQuote}
 use Rattle.venue_rows.specs.Rows.{KeepsLimits}
 use Rattle.venue_steps.specs.RoomSteps.{dealers_of, told_in, told_of_hit}
-use Rattle.venue_places.specs.declared.actors.Actor.TheVariants as actor
+use Rattle.venue_steps.specs.declared.actors.Actor.TheVariants as actor
 use Rattle.step_replay.specs.Actions.{hit_with, told_of}
 use Rattle.step_replay.specs.InvestorTrail as investor_trail
 use Rattle.step_replay.specs.OwnerLemmas.{quote_at}

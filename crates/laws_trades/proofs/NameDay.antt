@@ -15,7 +15,7 @@ use Rattle.market_terms.specs.declared.closes.Reply.TheVariants as reply
 use Rattle.market_terms.specs.declared.duties.Duty.TheVariants as duty
 use Rattle.request_room.specs.declared.ends.EndKind.{EndKind}
 use Rattle.venue_rows.specs.Rows.{KeepsLimits}
-use Rattle.venue_places.specs.declared.actors.Actor.TheVariants as actor
+use Rattle.venue_steps.specs.declared.actors.Actor.TheVariants as actor
 use Rattle.step_replay.specs.Actions.{answer_to_hit, quote_asked}
 use Rattle.step_replay.specs.QueueLemmas.{one_actor, other_pending, other_turned, own_pending}
 use Rattle.step_replay.specs.QueueLemmas.{own_turned, same_either}

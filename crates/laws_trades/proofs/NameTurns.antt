@@ -30,7 +30,7 @@ use Rattle.request_room.specs.Book.{expired, may_expire, passed}
 use Rattle.request_room.specs.RoomFacts.{is_open, request_of}
 use Rattle.request_room.specs.declared.events.RoomEvent.{RoomEvent}
 use Rattle.venue_steps.specs.RoomSteps.{close_for, dealers_of, reply_to_pass, told_in}
-use Rattle.venue_places.specs.declared.actors.Actor.TheVariants as actor
+use Rattle.venue_steps.specs.declared.actors.Actor.TheVariants as actor
 use Rattle.step_replay.specs.Actions.{at_dealer, at_market, left_by_drop, left_by_investor}
 use Rattle.step_replay.specs.Actions.{received_by_investor}
 use Rattle.step_replay.specs.Actions.{verdict_on, where_known}

@@ -11,7 +11,7 @@ use Rattle.market_terms.specs.declared.duties.Duty.{Duty}
 use Rattle.market_terms.specs.declared.rooms.RoomRef.{RoomRef}
 use Rattle.venue_rows.specs.Rows.{Configuration, investor_numbered}
 use Rattle.venue_rows.specs.declared.investor_rows.InvestorRow.{InvestorRow}
-use Rattle.venue_places.specs.declared.actors.Actor.{Actor}
+use Rattle.venue_steps.specs.declared.actors.Actor.{Actor}
 use Rattle.venue_steps.specs.RoomSteps.{hit_word}
 use Rattle.note_lines.specs.NoteLines.{count_to, investor_line, investor_note_line, trade_line}
 use Rattle.note_lines.specs.NoteLines.{trade_name, trades_with_dealer}

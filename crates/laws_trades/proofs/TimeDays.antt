@@ -15,8 +15,8 @@ use Rattle.quote_messages.specs.declared.out_messages.OutMessage.TheVariants as 
 use Rattle.quote_word.specs.declared.settled.Settled.{Settled}
 use Rattle.venue_rows.specs.Rows.{Configuration, dealer_numbered}
 use Rattle.venue_rows.specs.declared.dealer_rows.DealerRow.{DealerRow}
-use Rattle.venue_places.specs.declared.actors.Actor.{Actor}
-use Rattle.venue_places.specs.declared.actors.Actor.TheVariants as actor
+use Rattle.venue_steps.specs.declared.actors.Actor.{Actor}
+use Rattle.venue_steps.specs.declared.actors.Actor.TheVariants as actor
 use Rattle.dealer_desk.specs.DealerFacts.{DealerBook, DealerFact, Told, quote_to_drop, request_numbered}
 use Rattle.dealer_desk.specs.DealerOutput.{closable, drop_message, event_facts, event_message, moment_of}
 use Rattle.dealer_desk.specs.DealerOutput.{notice_of, untold, verdict_message}

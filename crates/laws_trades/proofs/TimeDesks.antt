@@ -20,7 +20,7 @@ use Rattle.quote_word.specs.declared.settled.Settled.TheVariants as settled
 use Rattle.venue_rows.specs.Rows.{Configuration, investor_numbered}
 use Rattle.venue_rows.specs.declared.dealer_rows.DealerRow.{DealerRow}
 use Rattle.venue_rows.specs.declared.investor_rows.InvestorRow.{InvestorRow}
-use Rattle.venue_places.specs.Dealers.{Dealer, dealer_of}
+use Rattle.venue_steps.specs.Dealers.{Dealer, dealer_of}
 use Rattle.venue_steps.specs.InvestorSteps.{replies_to}
 use Rattle.dealer_desk.specs.DealerFacts.{DealerFact, Quoted, number_to_drop}
 use Rattle.dealer_desk.specs.DealerOutput.{answer_facts, closable, event_facts, goes_through}

@@ -10,7 +10,7 @@ use Rattle.laws_days.proofs.Common.{message_effect, sweep_effect, Step, Every, I
 use Rattle.laws_days.proofs.Common.{take-append-drop, append-nil}
 use Rattle.std.proofs.lemmas.List.Sums.{fold-append}
 use Rattle.market_terms.specs.declared.duties.Duty.TheVariants as duty
-use Rattle.venue_places.specs.declared.actors.Actor.TheVariants as actor
+use Rattle.venue_steps.specs.declared.actors.Actor.TheVariants as actor
 use Rattle.request_room.specs.declared.events.RoomEvent.{RoomEvent}
 use Rattle.step_replay.specs.Actions.{answer_to_hit, at_market, quote_asked}
 use Rattle.step_replay.specs.declared.steps.Step.TheVariants as step

@@ -20,7 +20,7 @@ use Rattle.dealer_desk.specs.DealerOutput.{room_of, verdict_duty}
 use Rattle.dealer_desk.specs.declared.events.DealerEvent.TheVariants as event
 use Rattle.dealer_desk.specs.declared.standing.Withdrawal.TheVariants as by_way
 use Rattle.dealer_desk.specs.declared.verdicts.DealerVerdict.TheVariants as verdict
-use Rattle.venue_places.specs.declared.actors.Actor.TheVariants as actor
+use Rattle.venue_steps.specs.declared.actors.Actor.TheVariants as actor
 use Rattle.step_replay.specs.Actions.{at_dealer, left_by, shown_to}
 use Rattle.laws_days.proofs.ListLemmas.{cases_some}
 use Rattle.laws_days.proofs.ShownRequests.{shown_in}

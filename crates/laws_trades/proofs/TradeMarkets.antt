@@ -27,7 +27,7 @@ use Rattle.investor_desk.specs.InvestorOutput.{expiry_facts, gone_facts, next_of
 use Rattle.investor_desk.specs.InvestorOutput.{offer_facts, verdict_duty, withdrawal_facts}
 use Rattle.investor_desk.specs.declared.events.InvestorEvent.TheVariants as at_investor
 use Rattle.investor_desk.specs.declared.verdicts.InvestorVerdict.TheVariants as verdict
-use Rattle.venue_places.specs.declared.actors.Actor.TheVariants as actor
+use Rattle.venue_steps.specs.declared.actors.Actor.TheVariants as actor
 use Rattle.step_replay.specs.Actions.{at_market, left_by_investor}
 use Rattle.step_replay.specs.Actions.{received_by_investor}
 use Rattle.step_replay.specs.InvestorGrowth.{trail_push}

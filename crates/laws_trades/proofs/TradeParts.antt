@@ -21,7 +21,7 @@ use Rattle.request_room.specs.declared.ends.EndKind.{EndKind}
 use Rattle.request_room.specs.declared.ends.EndKind.TheVariants as ends
 use Rattle.step_replay.specs.Actions.{offer_of}
 use Rattle.step_replay.specs.InvestorTrail as investor_trail
-use Rattle.venue_places.specs.declared.actors.Actor.TheVariants as actor
+use Rattle.venue_steps.specs.declared.actors.Actor.TheVariants as actor
 use Rattle.laws_days.proofs.ShownRequests.{shown_in}
 use Rattle.laws_days.proofs.Common.{of_investor}
 use Rattle.laws_days.proofs.VenueParts.{QuotedIn, Still, did_in, duties_by, investor_facts}

@@ -16,7 +16,7 @@ use Rattle.request_room.specs.declared.events.RoomEvent.TheVariants as at_room
 use Rattle.request_room.specs.declared.requests.RoomRequest.{RoomRequest}
 use Rattle.venue_steps.specs.RoomSteps.{close_for, dealers_of, duties_of_pass, reply_to_pass}
 use Rattle.venue_steps.specs.RoomSteps.{shown_then_ready, told_in}
-use Rattle.venue_places.specs.declared.actors.Actor.TheVariants as actor
+use Rattle.venue_steps.specs.declared.actors.Actor.TheVariants as actor
 use Rattle.step_replay.specs.Actions.{offer_of}
 use Rattle.step_replay.specs.LineActions.{opened, posted_by}
 use Rattle.laws_days.specs.DutyWalk.{NoHitThere}

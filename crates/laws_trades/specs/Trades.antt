@@ -8,7 +8,7 @@ use Rattle.quote_messages.specs.declared.out_messages.OutMessage.{OutMessage}
 use Rattle.quote_messages.specs.declared.out_messages.OutMessage.TheVariants as out
 use Rattle.venue_rows.specs.Rows.{Configuration, dealer_numbered}
 use Rattle.venue_rows.specs.declared.dealer_rows.DealerRow.{DealerRow}
-use Rattle.venue_places.specs.Dealers.{quote_with_word}
+use Rattle.venue_steps.specs.Dealers.{quote_with_word}
 use Rattle.dealer_desk.specs.DealerFacts.{Quoted, Told}
 use Rattle.dealer_desk.specs.DealerOutput.{next_message, number_in}
 use Rattle.dealer_desk.specs.declared.accepted.AcceptedQuote.{AcceptedQuote}

@@ -28,10 +28,10 @@ use Rattle.request_room.specs.RoomFacts.{RoomFact}
 use Rattle.request_room.specs.declared.ends.End.{End}
 use Rattle.request_room.specs.declared.events.RoomEvent.{RoomEvent}
 use Rattle.request_room.specs.declared.events.RoomEvent.TheVariants as at_room
-use Rattle.venue_places.specs.Dealers.{Dealer, QuoteRef, dealer_at, dealer_of}
-use Rattle.venue_places.specs.Dealers.{offer_of, quote_with_word, word_for}
-use Rattle.venue_places.specs.declared.actors.Actor.{Actor}
-use Rattle.venue_places.specs.declared.actors.Actor.TheVariants as actor
+use Rattle.venue_steps.specs.Dealers.{Dealer, QuoteRef, dealer_at, dealer_of}
+use Rattle.venue_steps.specs.Dealers.{offer_of, quote_with_word, word_for}
+use Rattle.venue_steps.specs.declared.actors.Actor.{Actor}
+use Rattle.venue_steps.specs.declared.actors.Actor.TheVariants as actor
 use Rattle.venue_steps.specs.RoomSteps.{duties_of_hit}
 use Rattle.step_replay.specs.Actions.{Effect, answer_to_drop, at_dealer, at_market}
 use Rattle.step_replay.specs.Actions.{done_by, done_for, drop_at}

@@ -23,12 +23,12 @@ use Rattle.investor_views.specs.Comings.{Coming, For, Own, after_coming, at_desk
 use Rattle.investor_views.specs.Comings.{comes_by_turn, comings, comings_from}
 use Rattle.investor_views.specs.DeskPlaces.{IsSoElsewhere, MayBring, placed_so}
 use Rattle.investor_views.specs.InvestorDues.{due_by, due_to_investor, dues_from, dues_where}
-use Rattle.venue_places.specs.Placed.{placed}
-use Rattle.venue_places.specs.declared.actors.Actor.{Actor}
-use Rattle.venue_places.specs.declared.actors.Actor.TheVariants as actor
-use Rattle.venue_places.specs.declared.arrivals.ForInvestor.TheVariants as to_investor
-use Rattle.venue_places.specs.declared.arrivals.Placement.{Placement}
-use Rattle.venue_places.specs.declared.arrivals.Placement.TheVariants as arrival
+use Rattle.venue_steps.specs.Placed.{placed}
+use Rattle.venue_steps.specs.declared.actors.Actor.{Actor}
+use Rattle.venue_steps.specs.declared.actors.Actor.TheVariants as actor
+use Rattle.venue_steps.specs.declared.arrivals.ForInvestor.TheVariants as to_investor
+use Rattle.venue_steps.specs.declared.arrivals.Placement.{Placement}
+use Rattle.venue_steps.specs.declared.arrivals.Placement.TheVariants as arrival
 use Rattle.step_replay.specs.Actions.{Effect}
 use Rattle.step_replay.specs.AuditTrail.{AuditTrail, Caused, after_step, after_turn, audit_trail}
 use Rattle.step_replay.specs.AuditTrail.{due_to, duty_of, is_same_actor, no_steps, pending}

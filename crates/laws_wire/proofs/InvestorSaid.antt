@@ -5,9 +5,9 @@ use Rattle.std.proofs.lemmas.Bool.{cond_both}
 use Rattle.std.proofs.lemmas.List.{append-nil, append_assoc}
 use Rattle.fix_fields.specs.declared.limits.TheConstants.{A_DAY}
 use Rattle.quote_messages.specs.declared.out_messages.OutMessage.{OutMessage}
-use Rattle.venue_places.specs.Brought.{investor_with}
-use Rattle.venue_places.specs.declared.arrivals.ForInvestor.{ForInvestor}
-use Rattle.venue_places.specs.declared.arrivals.ForInvestor.TheVariants as to_investor
+use Rattle.venue_steps.specs.Brought.{investor_with}
+use Rattle.venue_steps.specs.declared.arrivals.ForInvestor.{ForInvestor}
+use Rattle.venue_steps.specs.declared.arrivals.ForInvestor.TheVariants as to_investor
 use Rattle.venue_steps.specs.InvestorSteps.{with_event_if}
 use Rattle.investor_desk.specs.InvestorDesk.{DeskEvents, book_at, no_events, with_event}
 use Rattle.investor_desk.specs.InvestorFacts.{book_of}

@@ -15,7 +15,7 @@ use Rattle.quote_messages.specs.declared.out_messages.OutMessage.{OutMessage}
 use Rattle.quote_messages.specs.declared.out_messages.OutMessage.TheVariants as out
 use Rattle.venue_rows.specs.Rows.{Configuration, dealer_numbered}
 use Rattle.venue_rows.specs.declared.dealer_rows.DealerRow.{DealerRow}
-use Rattle.venue_places.specs.declared.actors.Actor.{Actor}
+use Rattle.venue_steps.specs.declared.actors.Actor.{Actor}
 use Rattle.dealer_desk.specs.DealerOutput as dealer_output
 use Rattle.dealer_desk.specs.declared.events.DealerEvent.{DealerEvent}
 use Rattle.investor_desk.specs.InvestorDesk.{market_of}

@@ -11,8 +11,8 @@ use Rattle.market_terms.specs.declared.lines.QuoteLine.{QuoteLine}
 use Rattle.market_terms.specs.declared.lines.RequestLine.{RequestLine}
 use Rattle.market_terms.specs.declared.rooms.RoomRef.{RoomRef}
 use Rattle.request_room.specs.declared.events.RoomEvent.{RoomEvent}
-use Rattle.venue_places.specs.declared.actors.Actor.{Actor}
-use Rattle.venue_places.specs.declared.actors.Actor.TheVariants as actor
+use Rattle.venue_steps.specs.declared.actors.Actor.{Actor}
+use Rattle.venue_steps.specs.declared.actors.Actor.TheVariants as actor
 use Rattle.recorded_days.specs.declared.actions.Action.{Action}
 use Rattle.recorded_days.specs.declared.actions.Inbound.{Inbound}
 

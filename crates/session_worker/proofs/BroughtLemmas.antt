@@ -12,13 +12,13 @@ use Rattle.request_room.specs.RoomFacts.{hears, is_opening, is_vacant}
 use Rattle.request_room.specs.declared.events.RoomEvent.{RoomEvent}
 use Rattle.request_room.specs.declared.events.RoomEvent.TheVariants as in_room
 use Rattle.venue_rows.specs.Rows.{Configuration}
-use Rattle.venue_places.specs.Brought.{dealer_with, investor_with, room_with}
-use Rattle.venue_places.specs.declared.arrivals.ForDealer.{ForDealer}
-use Rattle.venue_places.specs.declared.arrivals.ForDealer.TheVariants as to_dealer
-use Rattle.venue_places.specs.declared.arrivals.ForInvestor.{ForInvestor}
-use Rattle.venue_places.specs.declared.arrivals.ForInvestor.TheVariants as to_investor
-use Rattle.venue_places.specs.declared.arrivals.ForRoom.{ForRoom}
-use Rattle.venue_places.specs.declared.arrivals.ForRoom.TheVariants as to_room
+use Rattle.venue_steps.specs.Brought.{dealer_with, investor_with, room_with}
+use Rattle.venue_steps.specs.declared.arrivals.ForDealer.{ForDealer}
+use Rattle.venue_steps.specs.declared.arrivals.ForDealer.TheVariants as to_dealer
+use Rattle.venue_steps.specs.declared.arrivals.ForInvestor.{ForInvestor}
+use Rattle.venue_steps.specs.declared.arrivals.ForInvestor.TheVariants as to_investor
+use Rattle.venue_steps.specs.declared.arrivals.ForRoom.{ForRoom}
+use Rattle.venue_steps.specs.declared.arrivals.ForRoom.TheVariants as to_room
 use Rattle.venue_steps.specs.InvestorSteps.{replies_to, knows_request}
 use Rattle.session_worker.specs.Locks.{KeepsDealer, KeepsInvestor, KeepsRoom}
 use Rattle.day_checks.specs.declared.left_responses.LeftResponse.{LeftResponse}

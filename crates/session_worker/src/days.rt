@@ -23,8 +23,8 @@ use std::alloc::Global;
 use std::marker::Brand;
 use std::sync::Wait;
 use std::thread::Threads;
-use venue_places::words_of;
 use venue_rows::VenueConfig;
+use venue_steps::words_of;
 
 /// Runs a day of the venue on threads: one session for each firm, which takes its inbox, and the
 /// clock, which makes the sweeps. It waits for all of them, then looks whether what lies under the

@@ -16,9 +16,9 @@ ghost use Rattle.session_worker.specs.declared.watched.WordsAsked.TheVariants as
 ghost use Rattle.step_replay.specs.Actions as actions;
 ghost use Rattle.step_replay.specs.Actions.{dealer_of};
 ghost use Rattle.venue_rows.specs.Rows.{dealer_numbered};
-ghost use Rattle.venue_places.specs.Brought as spec;
-ghost use Rattle.venue_places.specs.declared.actors.Actor.TheVariants as actor;
-ghost use Rattle.venue_places.specs.declared.arrivals.Placement.TheVariants as place;
+ghost use Rattle.venue_steps.specs.Brought as spec;
+ghost use Rattle.venue_steps.specs.declared.actors.Actor.TheVariants as actor;
+ghost use Rattle.venue_steps.specs.declared.arrivals.Placement.TheVariants as place;
 ghost use Rattle.venue_steps.specs.DealerSteps as steps;
 ghost use Rattle.venue_steps.specs.Words.{settlement_in, has_word, word_to_ask};
 
@@ -37,9 +37,8 @@ use recorded_days::{
 use std::alloc::Global;
 use std::marker::{Model, PhantomData};
 use step_replay::Actor;
-use venue_places::{ForDealer, bring_to_dealer};
 use venue_rows::{DealerRow, VenueConfig};
-use venue_steps::{do_drop, own_dealer};
+use venue_steps::{ForDealer, bring_to_dealer, do_drop, own_dealer};
 
 /// A dealer's desk, the token that has seen how its words were settled, and the order of the
 /// actions on it.

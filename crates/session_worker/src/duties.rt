@@ -2,8 +2,8 @@
 //! it what comes there.
 ghost use Rattle.std.specs.Prelude.{◌≡◌};
 ghost use Rattle.session_worker.specs.Comings.{MayCome};
-ghost use Rattle.venue_places.specs.declared.arrivals.Placement.TheVariants as place;
-ghost use Rattle.venue_places.specs.declared.actors.Actor.TheVariants as actor;
+ghost use Rattle.venue_steps.specs.declared.arrivals.Placement.TheVariants as place;
+ghost use Rattle.venue_steps.specs.declared.actors.Actor.TheVariants as actor;
 
 use crate::actors::Shift;
 use crate::done::Done;
@@ -13,7 +13,7 @@ use fix_fields::{Memory, Moment};
 use market_terms::{Duty, ResponseRef, RoomRef};
 use std::sync::Wait;
 use step_replay::Actor;
-use venue_places::{ForDealer, ForInvestor, ForRoom, Placement, placed, swept};
+use venue_steps::{ForDealer, ForInvestor, ForRoom, Placement, placed, swept};
 
 impl<'v, J: Naming, R: Wait, G: Gate> Shift<'v, J, R, G> {
     /// The actor does a duty, at its one place.

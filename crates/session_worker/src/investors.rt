@@ -12,9 +12,9 @@ ghost use Rattle.session_worker.specs.Locks.{with_action};
 ghost use Rattle.day_checks.specs.declared.faults.DayFault.TheVariants as fault;
 ghost use Rattle.session_worker.specs.declared.watched.WordsAsked.TheVariants as all_asked;
 ghost use Rattle.venue_rows.specs.Rows.{investor_numbered};
-ghost use Rattle.venue_places.specs.Brought as spec;
-ghost use Rattle.venue_places.specs.declared.actors.Actor.TheVariants as actor;
-ghost use Rattle.venue_places.specs.declared.arrivals.Placement.TheVariants as place;
+ghost use Rattle.venue_steps.specs.Brought as spec;
+ghost use Rattle.venue_steps.specs.declared.actors.Actor.TheVariants as actor;
+ghost use Rattle.venue_steps.specs.declared.arrivals.Placement.TheVariants as place;
 ghost use Rattle.venue_steps.specs.InvestorSteps as steps;
 
 use crate::done::Done;
@@ -27,9 +27,8 @@ use recorded_days::{InvestorDay, RoomDay};
 use std::alloc::Global;
 use std::marker::{Model, PhantomData};
 use step_replay::Actor;
-use venue_places::{ForInvestor, bring_to_investor};
 use venue_rows::VenueConfig;
-use venue_steps::own_investor;
+use venue_steps::{ForInvestor, bring_to_investor, own_investor};
 
 /// An investor's desk, the responses that the investor's messages left, and the order of the
 /// actions on the desk. No action there asks a word, so no token lies beside it.

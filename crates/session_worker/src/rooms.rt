@@ -11,8 +11,8 @@ ghost use Rattle.session_worker.specs.Watched.{asked_of};
 ghost use Rattle.day_checks.specs.declared.faults.DayFault.TheVariants as fault;
 ghost use Rattle.session_worker.specs.declared.watched.WordsAsked.TheVariants as all_asked;
 ghost use Rattle.venue_rows.specs.Rows.{has_room};
-ghost use Rattle.venue_places.specs.Brought as spec;
-ghost use Rattle.venue_places.specs.declared.arrivals.Placement.TheVariants as place;
+ghost use Rattle.venue_steps.specs.Brought as spec;
+ghost use Rattle.venue_steps.specs.declared.arrivals.Placement.TheVariants as place;
 ghost use Rattle.venue_steps.specs.RoomSteps as steps;
 ghost use Rattle.venue_steps.specs.Words.{settlement_in, has_word, word_to_ask};
 
@@ -28,8 +28,7 @@ use request_room::Room;
 use std::alloc::Global;
 use std::marker::{Model, PhantomData};
 use step_replay::Actor;
-use venue_places::{ForRoom, bring_to_room};
-use venue_steps::do_hit;
+use venue_steps::{ForRoom, bring_to_room, do_hit};
 
 /// A room, the token that has seen how the words hit there were settled, and the order of the
 /// actions on it.

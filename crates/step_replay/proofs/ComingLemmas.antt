@@ -13,15 +13,15 @@ use Rattle.venue_rows.specs.declared.dealer_rows.DealerRow.{DealerRow}
 use Rattle.venue_rows.specs.declared.investor_rows.InvestorRow.{InvestorRow}
 use Rattle.investor_desk.specs.InvestorDesk.{market_of}
 use Rattle.investor_desk.specs.InvestorRules.{InvestorMarket}
-use Rattle.venue_places.specs.Dealers.{Dealer, acting_dealer, dealer_of}
-use Rattle.venue_places.specs.Placed.{has_place, placed_by, where_there}
-use Rattle.venue_places.specs.Table.{Line, acting_in, brings, drops, line_of, telling}
-use Rattle.venue_places.specs.declared.actors.Actor.TheVariants as actor
-use Rattle.venue_places.specs.declared.arrivals.ForInvestor.{ForInvestor}
-use Rattle.venue_places.specs.declared.arrivals.ForRoom.{ForRoom}
-use Rattle.venue_places.specs.declared.arrivals.ForRoom.TheVariants as to_room
-use Rattle.venue_places.specs.declared.arrivals.Placement.{Placement}
-use Rattle.venue_places.specs.declared.arrivals.Placement.TheVariants as arrival
+use Rattle.venue_steps.specs.Dealers.{Dealer, acting_dealer, dealer_of}
+use Rattle.venue_steps.specs.Placed.{has_place, placed_by, where_there}
+use Rattle.venue_steps.specs.Table.{Line, acting_in, brings, drops, line_of, telling}
+use Rattle.venue_steps.specs.declared.actors.Actor.TheVariants as actor
+use Rattle.venue_steps.specs.declared.arrivals.ForInvestor.{ForInvestor}
+use Rattle.venue_steps.specs.declared.arrivals.ForRoom.{ForRoom}
+use Rattle.venue_steps.specs.declared.arrivals.ForRoom.TheVariants as to_room
+use Rattle.venue_steps.specs.declared.arrivals.Placement.{Placement}
+use Rattle.venue_steps.specs.declared.arrivals.Placement.TheVariants as arrival
 use Rattle.step_replay.specs.Coming.{arrival_effect, room_gets_where}
 use Rattle.step_replay.specs.WhereComing.{effect_where}
 use Rattle.step_replay.specs.DutyEffects.{line_effect}

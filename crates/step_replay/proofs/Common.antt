@@ -63,10 +63,10 @@ pub use Rattle.step_replay.specs.RowOfWords.{StandsFor, with_asked, with_wish, w
 pub use Rattle.step_replay.specs.OwnerLemmas.{quote_at}
 pub use Rattle.step_replay.specs.DealerGrowth.{facts_grown, desk_with}
 pub use Rattle.market_terms.specs.declared.rooms.RoomRef.{RoomRef}
-pub use Rattle.venue_places.specs.Placed.{swept}
-unfoldable pub use Rattle.venue_places.specs.Placed.{placed}
-pub use Rattle.venue_places.specs.declared.actors.Actor.{Actor}
-pub use Rattle.venue_places.specs.declared.arrivals.Placement.{Placement}
+pub use Rattle.venue_steps.specs.Placed.{swept}
+unfoldable pub use Rattle.venue_steps.specs.Placed.{placed}
+pub use Rattle.venue_steps.specs.declared.actors.Actor.{Actor}
+pub use Rattle.venue_steps.specs.declared.arrivals.Placement.{Placement}
 unfoldable pub use Rattle.step_replay.specs.DutyEffects.{duty_effect, sweep_effect, message_effect}
 unfoldable pub use Rattle.step_replay.specs.Coming.{dealer_gets, investor_gets, room_gets}
 pub use Rattle.step_replay.specs.PlaceLemmas.{has_item, room_stays, investor_stays, own_trail}

@@ -13,9 +13,9 @@ use Rattle.dealer_desk.specs.DealerDesk.{with_notice_in}
 use Rattle.dealer_desk.specs.DealerOutput.{number_in, closable}
 use Rattle.dealer_desk.specs.DealerFacts.{Told}
 use Rattle.dealer_desk.specs.declared.events.DealerEvent.TheVariants as event
-use Rattle.venue_places.specs.Brought.{dealer_with}
-use Rattle.venue_places.specs.declared.arrivals.ForDealer.{ForDealer}
-use Rattle.venue_places.specs.declared.arrivals.ForDealer.TheVariants as to_dealer
+use Rattle.venue_steps.specs.Brought.{dealer_with}
+use Rattle.venue_steps.specs.declared.arrivals.ForDealer.{ForDealer}
+use Rattle.venue_steps.specs.declared.arrivals.ForDealer.TheVariants as to_dealer
 use Rattle.step_replay.proofs.AskedWords.{word_grown}
 use Rattle.step_replay.proofs.FloorLemmas.{event_stands, at_dealer_stands, with_dealers}
 use Rattle.step_replay.proofs.FloorLemmas.{all_dealers}

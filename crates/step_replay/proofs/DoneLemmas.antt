@@ -6,8 +6,8 @@ use Rattle.step_replay.proofs.Common.{nothing, Fact, AuditTrail, after_step, aft
 use Rattle.step_replay.proofs.Common.{duty_effect, message_effect, sweep_effect, Sent, messages_in}
 use Rattle.step_replay.proofs.Common.{sent_behind, Stands, Done, IsDone, RoomsStand}
 use Rattle.step_replay.proofs.Common.{deadline_by, Floor, OpenRooms, Step}
-use Rattle.venue_places.specs.Placed.{desk_for, room_for}
-use Rattle.venue_places.specs.declared.arrivals.Placement.TheVariants as arrival
+use Rattle.venue_steps.specs.Placed.{desk_for, room_for}
+use Rattle.venue_steps.specs.declared.arrivals.Placement.TheVariants as arrival
 use Rattle.step_replay.specs.ActionKinds.{arrival_action, idle}
 use Rattle.step_replay.specs.DonePlaces.{IsDoneAt, IsInRoom, IsStepDone, at_desk}
 use Rattle.step_replay.specs.LiveStanding.{TakesIn}

@@ -21,7 +21,7 @@ use Rattle.step_replay.specs.Following.{index_in, index_in}
 use Rattle.step_replay.specs.StepLemmas.{action_keeps}
 use Rattle.step_replay.specs.WordLemmas.{IsOneOf, one_is_kept}
 use Rattle.step_replay.proofs.LiftLemmas.{set_same}
-use Rattle.venue_places.specs.declared.actors.Actor.TheVariants as actor
+use Rattle.venue_steps.specs.declared.actors.Actor.TheVariants as actor
 use Rattle.step_replay.specs.declared.done.Done.TheVariants as place
 use Rattle.step_replay.specs.PlaceLemmas.{get_set_other}
 use Rattle.step_replay.specs.QueueLemmas.{turned, own_within, other_within, grown_within, one_actor}

@@ -23,9 +23,9 @@ use Rattle.investor_desk.specs.InvestorDesk.{DeskEvents, with_event, book_at}
 use Rattle.investor_desk.specs.InvestorOutput.{DeskState, after_event, desk_after, verdict_duty}
 use Rattle.investor_desk.specs.declared.events.InvestorEvent.TheVariants as event
 use Rattle.venue_steps.specs.InvestorSteps.{desk_after_own, duties_of_own, with_event_if, replies_to}
-use Rattle.venue_places.specs.Brought.{investor_with}
-use Rattle.venue_places.specs.declared.arrivals.ForInvestor.{ForInvestor}
-use Rattle.venue_places.specs.declared.arrivals.ForInvestor.TheVariants as to_investor
+use Rattle.venue_steps.specs.Brought.{investor_with}
+use Rattle.venue_steps.specs.declared.arrivals.ForInvestor.{ForInvestor}
+use Rattle.venue_steps.specs.declared.arrivals.ForInvestor.TheVariants as to_investor
 use Rattle.step_replay.specs.InvestorTrail.{book_by, entries_of}
 use Rattle.step_replay.specs.InvestorGrowth.{desk_push, trail_push}
 use Rattle.step_replay.proofs.FoundDealers.{idle_does}

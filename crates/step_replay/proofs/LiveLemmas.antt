@@ -15,7 +15,7 @@ use Rattle.step_replay.proofs.Common.{same_either}
 use Rattle.std.specs.Prelude.{nat_lt}
 use Rattle.std.specs.Option.{option_and_then}
 use Rattle.std.proofs.lemmas.List.Concat.{flat_map-append}
-use Rattle.venue_places.specs.declared.actors.Actor.TheVariants as actor
+use Rattle.venue_steps.specs.declared.actors.Actor.TheVariants as actor
 use Rattle.step_replay.specs.LiveDays.{with_turns}
 use Rattle.step_replay.specs.DonePlaces.{IsStepDone}
 use Rattle.step_replay.specs.LiveStanding.{next_duty, Answers, TakesIn}

@@ -9,9 +9,9 @@ use Rattle.request_room.specs.RoomFacts.{Opened, Readied, is_vacant, is_opening,
 use Rattle.request_room.specs.RoomFacts.{takes_quotes}
 use Rattle.request_room.specs.Book.{event_facts, where_so, may_unpost}
 use Rattle.request_room.specs.declared.events.RoomEvent.TheVariants as at_room
-use Rattle.venue_places.specs.Brought.{room_with, duties_in_room}
-use Rattle.venue_places.specs.declared.arrivals.ForRoom.{ForRoom}
-use Rattle.venue_places.specs.declared.arrivals.ForRoom.TheVariants as to_room
+use Rattle.venue_steps.specs.Brought.{room_with, duties_in_room}
+use Rattle.venue_steps.specs.declared.arrivals.ForRoom.{ForRoom}
+use Rattle.venue_steps.specs.declared.arrivals.ForRoom.TheVariants as to_room
 use Rattle.venue_steps.specs.RoomSteps.{where_follows, duties_of_open, duties_of_pass}
 use Rattle.venue_steps.specs.RoomSteps.{duties_of_expire, duties_of_decline, duties_of_unpost}
 use Rattle.venue_steps.specs.RoomSteps.{duties_of_post}

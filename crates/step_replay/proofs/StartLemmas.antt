@@ -13,7 +13,7 @@ use Rattle.step_replay.proofs.Common.{of_dealer, Replay, Step, after_turns}
 use Rattle.std.proofs.Common.{append-nil, append_assoc}
 use Rattle.std.proofs.lemmas.List.{take-append-drop, replicate-append-replicate}
 use Rattle.std.proofs.lemmas.List.Elements.{All-cons, All-nil, All-drop, All-same, All-take}
-use Rattle.venue_places.specs.declared.actors.Actor.TheVariants as actor
+use Rattle.venue_steps.specs.declared.actors.Actor.TheVariants as actor
 use Rattle.step_replay.specs.Following.{Follows}
 use Rattle.step_replay.specs.StepFaults.{fault_of_firm, or_else}
 use Rattle.step_replay.specs.declared.faults.ReplayFault.{ReplayFault}

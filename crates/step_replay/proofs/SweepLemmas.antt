@@ -19,9 +19,9 @@ use Rattle.request_room.specs.Book.{event_facts, expired, is_past_deadline}
 use Rattle.request_room.specs.RoomFacts.{is_ended, is_ready, request_of}
 use Rattle.request_room.specs.declared.requests.RoomRequest.{RoomRequest}
 use Rattle.venue_steps.specs.RoomSteps.{close_for, dealers_of, told_in}
-use Rattle.venue_places.specs.Placed.{room_of_line}
-use Rattle.venue_places.specs.Table.{line_of}
-use Rattle.venue_places.specs.declared.actors.Actor.TheVariants as actor
+use Rattle.venue_steps.specs.Placed.{room_of_line}
+use Rattle.venue_steps.specs.Table.{line_of}
+use Rattle.venue_steps.specs.declared.actors.Actor.TheVariants as actor
 use Rattle.step_replay.specs.Actions.{told_to}
 use Rattle.step_replay.specs.declared.steps.Step.TheVariants as step
 use Rattle.step_replay.proofs.StartLemmas.{idle_step, idle_turns, swept, turned, turns_keep}

@@ -36,9 +36,9 @@ use Rattle.step_replay.specs.DealerTrail.{answer_to_investor, entries_of}
 use Rattle.step_replay.specs.InvestorTrail as investor_trail
 use Rattle.step_replay.specs.VenueFacts.{Fact, AtDealer, InRoom, AtInvestor, of_dealer, of_room}
 use Rattle.step_replay.specs.VenueFacts.{of_investor}
-pub use Rattle.venue_places.specs.Dealers.{Dealer, dealer_of, dealer_at, acting_dealer, QuoteRef}
-pub use Rattle.venue_places.specs.Dealers.{quotes_of, words_of, first_word, word_for, has_word_for}
-pub use Rattle.venue_places.specs.Dealers.{quote_among, quote_with_word, offer_of}
+pub use Rattle.venue_steps.specs.Dealers.{Dealer, dealer_of, dealer_at, acting_dealer, QuoteRef}
+pub use Rattle.venue_steps.specs.Dealers.{quotes_of, words_of, first_word, word_for, has_word_for}
+pub use Rattle.venue_steps.specs.Dealers.{quote_among, quote_with_word, offer_of}
 
 -- what an action adds, and what it leaves to be done
 pub record Effect : Type 0 where

@@ -5,11 +5,11 @@ use Rattle.market_terms.specs.declared.duties.Duty.{Duty}
 use Rattle.market_terms.specs.declared.rooms.RoomRef.{RoomRef}
 use Rattle.venue_rows.specs.Rows.{Configuration, dealer_numbered}
 use Rattle.investor_desk.specs.InvestorDesk as investor_desk
-use Rattle.venue_places.specs.Dealers.{dealer_at, acting_dealer}
-use Rattle.venue_places.specs.Table.{Line, acting_in, brings, drops, line_of, telling}
-use Rattle.venue_places.specs.declared.actors.Actor.{Actor}
-use Rattle.venue_places.specs.declared.arrivals.ForRoom.TheVariants as to_room
-use Rattle.venue_places.specs.declared.arrivals.Placement.TheVariants as arrival
+use Rattle.venue_steps.specs.Dealers.{dealer_at, acting_dealer}
+use Rattle.venue_steps.specs.Table.{Line, acting_in, brings, drops, line_of, telling}
+use Rattle.venue_steps.specs.declared.actors.Actor.{Actor}
+use Rattle.venue_steps.specs.declared.arrivals.ForRoom.TheVariants as to_room
+use Rattle.venue_steps.specs.declared.arrivals.Placement.TheVariants as arrival
 use Rattle.step_replay.specs.VenueFacts.{Fact}
 use Rattle.step_replay.specs.Actions.{Effect, done_by, done_for, dropped_by, received_by_dealer}
 use Rattle.step_replay.specs.Actions.{received_by_investor}

@@ -7,8 +7,8 @@ use Rattle.step_replay.specs.AuditTrail.{AuditTrail}
 use Rattle.step_replay.specs.Standing.{Stands, AreOneOf}
 use Rattle.step_replay.specs.Queues.{QueuesStand}
 use Rattle.step_replay.specs.declared.replay.Replay.{Replay}
-use Rattle.venue_places.specs.declared.actors.Actor.{Actor}
-use Rattle.venue_places.specs.declared.actors.Actor.TheVariants as actor
+use Rattle.venue_steps.specs.declared.actors.Actor.{Actor}
+use Rattle.venue_steps.specs.declared.actors.Actor.TheVariants as actor
 
 -- which of so many queues is an actor's: the clock's is the last
 abbrev pub index_in : ℕ → Actor → Option ℕ

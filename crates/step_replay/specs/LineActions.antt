@@ -15,7 +15,7 @@ use Rattle.venue_steps.specs.Replies.{replies_to}
 use Rattle.venue_steps.specs.RoomDuties.{duties_of_open, duties_of_post, duties_of_unpost}
 use Rattle.venue_steps.specs.RoomDuties.{duties_of_decline}
 use Rattle.step_replay.specs.VenueFacts.{Fact, of_room}
-use Rattle.venue_places.specs.Dealers.{Dealer, has_word_for, offer_of, word_for}
+use Rattle.venue_steps.specs.Dealers.{Dealer, has_word_for, offer_of, word_for}
 use Rattle.step_replay.specs.Actions.{Effect, done_for, in_room, nothing, where_known}
 
 -- the room of a request is opened

@@ -6,8 +6,8 @@ use Rattle.market_terms.specs.declared.duties.Duty.{Duty}
 use Rattle.venue_rows.specs.Rows.{Configuration}
 use Rattle.step_replay.specs.AuditTrail.{AuditTrail, is_same_actor, duty_of, pending}
 use Rattle.step_replay.specs.StepFaults.{firms_of}
-use Rattle.venue_places.specs.declared.actors.Actor.{Actor}
-use Rattle.venue_places.specs.declared.actors.Actor.TheVariants as actor
+use Rattle.venue_steps.specs.declared.actors.Actor.{Actor}
+use Rattle.venue_steps.specs.declared.actors.Actor.TheVariants as actor
 
 -- whether an actor is one of the venue's
 abbrev pub is_known : Configuration → Actor → Bool

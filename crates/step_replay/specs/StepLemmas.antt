@@ -16,7 +16,7 @@ use Rattle.step_replay.specs.ActionKinds.{IsAction, by_dealer, by_hit, by_invest
 use Rattle.step_replay.specs.ActionKinds.{duty_action, message_action, sweep_action}
 use Rattle.step_replay.specs.Actions.{Effect}
 use Rattle.step_replay.specs.DutyEffects.{duty_effect, message_effect, sweep_effect}
-use Rattle.venue_places.specs.declared.actors.Actor.{Actor}
+use Rattle.venue_steps.specs.declared.actors.Actor.{Actor}
 use Rattle.step_replay.specs.TrailKept.{IsKept, nothing_keeps, happened_keeps, market_keeps}
 use Rattle.step_replay.specs.TrailKept.{desk_keeps}
 use Rattle.step_replay.specs.HitKept.{hit_with_keeps}

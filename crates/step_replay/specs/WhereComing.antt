@@ -1,7 +1,7 @@
 -- What comes by the market's table does, where something comes.
 use Rattle.std.specs.Prelude.{List, Option, Some, None}
 use Rattle.venue_rows.specs.Rows.{Configuration}
-use Rattle.venue_places.specs.declared.arrivals.Placement.{Placement}
+use Rattle.venue_steps.specs.declared.arrivals.Placement.{Placement}
 use Rattle.step_replay.specs.Actions.{Effect, nothing}
 use Rattle.step_replay.specs.Coming.{arrival_effect}
 use Rattle.step_replay.specs.VenueFacts.{Fact}

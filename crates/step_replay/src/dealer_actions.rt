@@ -7,8 +7,7 @@ ghost use Rattle.step_replay.specs.Coming as coming;
 use crate::floor::Floor;
 use dealer_desk::what_is_asked_is_of_the_day;
 use fix_fields::{Memory, Moment};
-use venue_places::{ForDealer, bring_to_dealer};
-use venue_steps::{Duties, do_drop, own_dealer};
+use venue_steps::{Duties, ForDealer, bring_to_dealer, do_drop, own_dealer};
 
 impl Floor {
     /// What comes to a dealer's desk is brought to it.

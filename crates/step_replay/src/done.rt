@@ -6,8 +6,7 @@ use crate::floor::Floor;
 use crate::live::sent_on;
 use fix_fields::Moment;
 use market_terms::RoomRef;
-use venue_places::FirmNumber;
-use venue_steps::Duties;
+use venue_steps::{Duties, FirmNumber};
 
 /// Where something was done, and what the venue had there that may be another now.
 #[derive(Clone, Copy)]

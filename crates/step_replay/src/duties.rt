@@ -1,6 +1,6 @@
 //! What a duty, a sweep and a message do in a replay.
 ghost use Rattle.std.specs.Prelude.{◌≡◌, [], Some, IfOk};
-ghost use Rattle.venue_places.specs.Placed as table;
+ghost use Rattle.venue_steps.specs.Placed as table;
 ghost use Rattle.step_replay.specs.Standing.{Acts, ActsOnce};
 ghost use Rattle.step_replay.specs.DutyEffects as action;
 ghost use Rattle.step_replay.specs.Coming as coming;
@@ -13,7 +13,7 @@ use crate::done::{Acted, Done};
 use crate::floor::Floor;
 use fix_fields::{Memory, Moment};
 use market_terms::{Duty, RoomRef};
-use venue_places::{Actor, Placement, placed, swept};
+use venue_steps::{Actor, Placement, placed, swept};
 
 /// An actor does a duty, at its one place.
 pub(crate) fn act(floor: &mut Floor, by: Actor, duty: Duty) -> Result<Acted, Memory>

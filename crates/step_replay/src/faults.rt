@@ -7,8 +7,8 @@ use crate::steps::Step;
 use fix_fields::Memory;
 use std::alloc::AllocFailed;
 use thiserror::Error;
-use venue_places::Actor;
 use venue_rows::VenueConfig;
+use venue_steps::Actor;
 
 /// Why a day can't be replayed: the first of its steps that names what the venue does not have, or
 /// a refusal of memory. All steps are looked at before the first is done.

@@ -7,8 +7,7 @@ ghost use Rattle.step_replay.specs.Coming as coming;
 
 use crate::floor::Floor;
 use fix_fields::{Memory, Moment};
-use venue_places::{ForInvestor, bring_to_investor};
-use venue_steps::{Duties, own_investor};
+use venue_steps::{Duties, ForInvestor, bring_to_investor, own_investor};
 
 /// Where the investor with this number among the firms has its place among the investors', which
 /// are numbered behind these dealers: none for a dealer's number.

@@ -68,7 +68,7 @@
 //! - [`sweeps_of_rooms_that_are_not_due_do_nothing`]: a sweep of a room that is not open, or whose
 //!   deadline has not come, changes nothing.
 //! - [`actions_do_what_comes_by_the_table`]: what a duty or a sweep does is what comes by the
-//!   market's table (`venue_places`) to the one place that it gives.
+//!   market's table (`venue_steps`) to the one place that it gives.
 //!
 //! More laws of the definition stand in the crate `venue_laws`; what they need of the proofs here is
 //! in `specs`, in the files named `..Lemmas`.
@@ -113,5 +113,5 @@ pub use sent_to::SentTo;
 pub use stepped::SteppedVenue;
 pub use steps::{MOST_TURNS_BEHIND, Step};
 pub use sweep_laws::sweeps_of_rooms_that_are_not_due_do_nothing;
-pub use venue_places::Actor;
+pub use venue_steps::Actor;
 pub use world::{World, due, run, run_once};

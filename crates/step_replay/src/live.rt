@@ -28,8 +28,8 @@ use fix_fields::{Memory, Moment};
 use market_terms::Duty;
 use quote_messages::SentMessage;
 use std::alloc::Global;
-use venue_places::Actor;
 use venue_rows::VenueConfig;
+use venue_steps::Actor;
 
 /// A venue that answers each step before the next one comes: behind the step its actor does all
 /// duties that it has, one by one. Once memory was refused nothing is known of it any more.

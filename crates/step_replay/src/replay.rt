@@ -19,8 +19,8 @@ use fix_fields::{Memory, Moment};
 use market_terms::{Duty, RoomRef};
 use std::alloc::Global;
 use std::collections::VecDeque;
-use venue_places::Actor;
 use venue_rows::VenueConfig;
+use venue_steps::Actor;
 
 /// A venue that replays a day.
 #[derive(Drop)]

@@ -7,8 +7,7 @@ ghost use Rattle.step_replay.specs.RoomPlaces as spec;
 use crate::floor::Floor;
 use fix_fields::Memory;
 use market_terms::RoomRef;
-use venue_places::{ForRoom, bring_to_room};
-use venue_steps::Duties;
+use venue_steps::{Duties, ForRoom, bring_to_room};
 
 impl Floor {
     /// The place of a room: which of the investors' it is, and which of the rooms there.

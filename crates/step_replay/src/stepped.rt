@@ -19,8 +19,8 @@ use crate::world::World;
 use fix_fields::Memory;
 use market_terms::Duty;
 use std::alloc::Global;
-use venue_places::Actor;
 use venue_rows::VenueConfig;
+use venue_steps::Actor;
 
 /// A venue that does one step after the other, each turn of an actor a step of its own. Once memory
 /// was refused nothing is known of it any more.

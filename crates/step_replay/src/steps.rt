@@ -2,7 +2,7 @@
 use fix_fields::Moment;
 use market_terms::RoomRef;
 use quote_messages::Message;
-use venue_places::Actor;
+use venue_steps::Actor;
 
 /// How many turns of its actor stand behind a step in a day whose steps are answered as they come.
 /// No step leaves as many duties.

@@ -1,7 +1,11 @@
+pub mod Brought
 pub mod DealerSteps
+pub mod Dealers
 pub mod InvestorSteps
+pub mod Placed
 pub mod Replies
 pub mod RoomDuties
 pub mod RoomSteps
+pub mod Table
 pub mod WordNumbers
 pub mod Words

@@ -10,7 +10,7 @@ use Rattle.step_replay.specs.DutyEffects.{duty_effect, message_effect, sweep_eff
 use Rattle.step_replay.specs.AuditTrail.{AuditTrail, after_step, after_turn, audit_trail, no_steps, pending}
 use Rattle.step_replay.specs.LiveDays.{Sent, live_messages, live_steps, messages_in, sent_in, with_turns}
 use Rattle.step_replay.specs.VenueFacts.{Fact}
-use Rattle.venue_places.specs.declared.actors.Actor.{Actor}
+use Rattle.venue_steps.specs.declared.actors.Actor.{Actor}
 use Rattle.step_replay.specs.declared.steps.Step.{Step}
 use Rattle.step_replay.specs.declared.steps.Step.TheVariants as step
 use Rattle.venue_text.specs.LiveLines.{live_text}

@@ -1,5 +1,5 @@
 use Rattle.std.proofs.Common.{◌<◌, ℕ}
-use Rattle.venue_places.specs.declared.actors.Actor.TheVariants as actor
+use Rattle.venue_steps.specs.declared.actors.Actor.TheVariants as actor
 use Rattle.day_weaving.specs.OrderPlaces.{AreNotedBy}
 use Rattle.day_weaving.proofs.name_checks.are_all_noted.Given as goal
 

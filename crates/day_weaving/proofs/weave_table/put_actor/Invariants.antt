@@ -1,5 +1,5 @@
 use Rattle.std.proofs.Common.{◌≡◌, ◌<◌, ℕ, ◌+◌, length}
-use Rattle.venue_places.specs.declared.actors.Actor.{Actor}
+use Rattle.venue_steps.specs.declared.actors.Actor.{Actor}
 use Rattle.day_weaving.specs.OrderCounts.{count_in, key_of}
 use Rattle.day_weaving.specs.OrderLaws.{StandsIn}
 use Rattle.day_weaving.specs.OrderSearch.{HasActor, IsBuilt}

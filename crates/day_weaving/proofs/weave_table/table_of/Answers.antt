@@ -1,6 +1,6 @@
 use Rattle.std.proofs.Common.{◌<◌, ◌≤◌, arith}
 use Rattle.step_replay.specs.StepFaults.{firms_of}
-use Rattle.venue_places.specs.declared.actors.Actor.TheVariants as actor
+use Rattle.venue_steps.specs.declared.actors.Actor.TheVariants as actor
 use Rattle.day_weaving.proofs.TableLemmas.{firms_more, table_whole}
 use Rattle.day_weaving.proofs.weave_table.table_of.Goals as goal
 

@@ -1,5 +1,5 @@
 use Rattle.std.proofs.Common.{◌<◌, ℕ}
-use Rattle.venue_places.specs.declared.actors.Actor.TheVariants as actor
+use Rattle.venue_steps.specs.declared.actors.Actor.TheVariants as actor
 use Rattle.day_weaving.specs.OrderSearch.{HasActor, IsBuilt}
 use Rattle.day_weaving.proofs.weave_table.table_of.Given as goal
 

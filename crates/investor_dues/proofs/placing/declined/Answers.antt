@@ -1,5 +1,5 @@
 use Rattle.std.proofs.Common.{◌∙◌}
-use Rattle.venue_places.specs.Dealers.{dealer_of}
+use Rattle.venue_steps.specs.Dealers.{dealer_of}
 use Rattle.investor_dues.proofs.PlacedLemmas.{acts, declined_there}
 use Rattle.investor_dues.proofs.placing.declined.Goals as goal
 

@@ -1,6 +1,6 @@
 use Rattle.std.proofs.Common.{◌∙◌, sym, ap}
 use Rattle.market_terms.specs.declared.duties.Duty.{Duty}
-use Rattle.venue_places.specs.Placed.{placed}
+use Rattle.venue_steps.specs.Placed.{placed}
 use Rattle.investor_dues.specs.Followed.{at_desk}
 use Rattle.investor_dues.proofs.PlacedLemmas.{placed_answer, placed_close, placed_decline}
 use Rattle.investor_dues.proofs.PlacedLemmas.{placed_declined, placed_drop, placed_gone}

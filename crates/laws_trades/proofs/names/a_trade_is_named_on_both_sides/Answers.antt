@@ -1,4 +1,4 @@
-use Rattle.venue_places.specs.declared.actors.Actor.TheVariants as actor
+use Rattle.venue_steps.specs.declared.actors.Actor.TheVariants as actor
 use Rattle.laws_trades.proofs.NameDay.{names_both}
 use Rattle.laws_trades.proofs.names.a_trade_is_named_on_both_sides.Goals as goal
 

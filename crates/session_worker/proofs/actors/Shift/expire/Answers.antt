@@ -1,7 +1,7 @@
 use Rattle.std.proofs.Common.{sym, subst, ◌≡◌, Option, Some}
 use Rattle.session_worker.specs.Comings.{ForSweep}
-use Rattle.venue_places.specs.Placed.{swept}
-use Rattle.venue_places.specs.declared.arrivals.Placement.{Placement}
+use Rattle.venue_steps.specs.Placed.{swept}
+use Rattle.venue_steps.specs.declared.arrivals.Placement.{Placement}
 use Rattle.venue_rows.specs.Rows.{Configuration}
 use Rattle.session_worker.proofs.actors.Shift.expire.Goals as goal
 

@@ -1,6 +1,6 @@
 use Rattle.std.proofs.Common.{sym, subst}
-use Rattle.venue_places.specs.declared.actors.Actor.{Actor}
-use Rattle.venue_places.specs.declared.arrivals.Placement.TheVariants as place
+use Rattle.venue_steps.specs.declared.actors.Actor.{Actor}
+use Rattle.venue_steps.specs.declared.arrivals.Placement.TheVariants as place
 use Rattle.session_worker.specs.Comings.{MayCome}
 use Rattle.session_worker.proofs.actors.Shift.to_drop.Goals as goal
 

@@ -1,6 +1,6 @@
 use Rattle.step_replay.proofs.Common.{map, slice_set, arith, ap, ◌∙◌, nat_tests, map-set}
 use Rattle.step_replay.proofs.Common.{message_action}
-use Rattle.venue_places.specs.declared.actors.Actor.TheVariants as actor
+use Rattle.venue_steps.specs.declared.actors.Actor.TheVariants as actor
 use Rattle.step_replay.proofs.FollowLemmas.{queue_at, step_follows}
 use Rattle.step_replay.proofs.replay.Replay.receive.Goals as goal
 

@@ -1,6 +1,6 @@
 use Rattle.step_replay.proofs.Common.{map, slice_set, arith, ap, ◌∙◌, nat_tests, map-set, subst}
 use Rattle.step_replay.proofs.Common.{sweep_action, swept, Configuration, IsDone}
-use Rattle.venue_places.specs.declared.actors.Actor.TheVariants as actor
+use Rattle.venue_steps.specs.declared.actors.Actor.TheVariants as actor
 use Rattle.step_replay.proofs.FollowLemmas.{queue_at, step_follows}
 use Rattle.step_replay.proofs.replay.Replay.sweep.Goals as goal
 

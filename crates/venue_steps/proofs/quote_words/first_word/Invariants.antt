@@ -1,6 +1,6 @@
 use Rattle.std.proofs.Common.{◌≡◌, ◌≤◌, take}
-use Rattle.venue_places.specs.Dealers.{quotes_of}
-use Rattle.venue_places.proofs.words.first_word.Given as goal
+use Rattle.venue_steps.specs.Dealers.{quotes_of}
+use Rattle.venue_steps.proofs.quote_words.first_word.Given as goal
 
 abbrev pub invariant-loop-row : goal.invariant-loop-row
 invariant-loop-row l = record {

@@ -1,7 +1,7 @@
 //! The words of quotes, by the configuration.
 ghost use Rattle.std.specs.Prelude.{◌≡◌, ◌<◌, length, take};
-ghost use Rattle.venue_places.specs.Dealers as dealers;
-ghost use Rattle.venue_places.specs.Placed as spec;
+ghost use Rattle.venue_steps.specs.Dealers as dealers;
+ghost use Rattle.venue_steps.specs.Placed as spec;
 ghost use Rattle.venue_steps.specs.Words as words;
 
 use venue_rows::VenueConfig;

@@ -1,8 +1,8 @@
 use Rattle.std.proofs.Common.{◌≡◌, sym, subst}
 use Rattle.std.specs.Prelude.{OnOk}
-use Rattle.venue_places.specs.Brought.{dealer_with}
-use Rattle.venue_places.specs.declared.arrivals.ForDealer.{ForDealer}
-use Rattle.venue_places.proofs.bringing.bring_to_dealer.Goals as goal
+use Rattle.venue_steps.specs.Brought.{dealer_with}
+use Rattle.venue_steps.specs.declared.arrivals.ForDealer.{ForDealer}
+use Rattle.venue_steps.proofs.bringing.bring_to_dealer.Goals as goal
 
 pub returns-in-Show-clause-ok : goal.returns-in-Show-clause-ok
 unfolding dealer_with

@@ -1,8 +1,8 @@
 use Rattle.std.proofs.Common.{◌≡◌, sym, subst}
 use Rattle.std.specs.Prelude.{OnOk}
-use Rattle.venue_places.specs.Brought.{investor_with}
-use Rattle.venue_places.specs.declared.arrivals.ForInvestor.{ForInvestor}
-use Rattle.venue_places.proofs.bringing.bring_to_investor.Goals as goal
+use Rattle.venue_steps.specs.Brought.{investor_with}
+use Rattle.venue_steps.specs.declared.arrivals.ForInvestor.{ForInvestor}
+use Rattle.venue_steps.proofs.bringing.bring_to_investor.Goals as goal
 
 pub returns-in-Relay-clause-ok : goal.returns-in-Relay-clause-ok
 unfolding investor_with

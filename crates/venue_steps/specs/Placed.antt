@@ -7,19 +7,19 @@ use Rattle.market_terms.specs.declared.duties.Duty.{Duty}
 use Rattle.market_terms.specs.declared.rooms.ResponseRef.{ResponseRef}
 use Rattle.market_terms.specs.declared.rooms.RoomRef.{RoomRef}
 use Rattle.venue_rows.specs.Rows.{Configuration, dealer_numbered, has_room, investor_numbered}
-use Rattle.venue_places.specs.Dealers.{Dealer, acting_dealer, has_word_for, offer_of, word_for}
-use Rattle.venue_places.specs.Dealers.{words_of}
-use Rattle.venue_places.specs.Table.{Line, acting_in, brings, line_of, telling}
-use Rattle.venue_places.specs.Table as table
-use Rattle.venue_places.specs.declared.actors.Actor.{Actor}
-use Rattle.venue_places.specs.declared.actors.Actor.TheVariants as actor
-use Rattle.venue_places.specs.declared.arrivals.Placement.{Placement}
-use Rattle.venue_places.specs.declared.arrivals.Placement.TheVariants as arrival
-use Rattle.venue_places.specs.declared.arrivals.ForDealer.{ForDealer}
-use Rattle.venue_places.specs.declared.arrivals.ForInvestor.{ForInvestor}
-use Rattle.venue_places.specs.declared.arrivals.ForInvestor.TheVariants as to_investor
-use Rattle.venue_places.specs.declared.arrivals.ForRoom.{ForRoom}
-use Rattle.venue_places.specs.declared.arrivals.ForRoom.TheVariants as to_room
+use Rattle.venue_steps.specs.Dealers.{Dealer, acting_dealer, has_word_for, offer_of, word_for}
+use Rattle.venue_steps.specs.Dealers.{words_of}
+use Rattle.venue_steps.specs.Table.{Line, acting_in, brings, line_of, telling}
+use Rattle.venue_steps.specs.Table as table
+use Rattle.venue_steps.specs.declared.actors.Actor.{Actor}
+use Rattle.venue_steps.specs.declared.actors.Actor.TheVariants as actor
+use Rattle.venue_steps.specs.declared.arrivals.Placement.{Placement}
+use Rattle.venue_steps.specs.declared.arrivals.Placement.TheVariants as arrival
+use Rattle.venue_steps.specs.declared.arrivals.ForDealer.{ForDealer}
+use Rattle.venue_steps.specs.declared.arrivals.ForInvestor.{ForInvestor}
+use Rattle.venue_steps.specs.declared.arrivals.ForInvestor.TheVariants as to_investor
+use Rattle.venue_steps.specs.declared.arrivals.ForRoom.{ForRoom}
+use Rattle.venue_steps.specs.declared.arrivals.ForRoom.TheVariants as to_room
 
 -- something, where it may be
 abbrev pub placed_if : Bool → Placement → Option Placement

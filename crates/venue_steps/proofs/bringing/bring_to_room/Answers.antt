@@ -1,8 +1,8 @@
 use Rattle.std.proofs.Common.{◌≡◌, sym, subst}
 use Rattle.std.specs.Prelude.{IfOk, OnOk}
-use Rattle.venue_places.specs.Brought.{room_with, duties_in_room}
-use Rattle.venue_places.specs.declared.arrivals.ForRoom.{ForRoom}
-use Rattle.venue_places.proofs.bringing.bring_to_room.Goals as goal
+use Rattle.venue_steps.specs.Brought.{room_with, duties_in_room}
+use Rattle.venue_steps.specs.declared.arrivals.ForRoom.{ForRoom}
+use Rattle.venue_steps.proofs.bringing.bring_to_room.Goals as goal
 
 pub returns-in-Open-clause-ok : goal.returns-in-Open-clause-ok
 unfolding room_with

@@ -1,17 +1,18 @@
 //! What comes to a place, and asks no word there, is brought to it: by the one step of its name.
 ghost use Rattle.std.specs.Prelude.{◌≡◌, [], IfOk, OnOk, OnErr};
-ghost use Rattle.venue_places.specs.Brought as spec;
+ghost use Rattle.venue_steps.specs.Brought as spec;
 
+use crate::Duties;
 use crate::arrivals::{ForDealer, ForInvestor, ForRoom};
+use crate::dealers::{do_show, do_tell};
+use crate::ends::{do_expire, do_pass};
+use crate::investors::{do_answer, do_close, do_declined, do_gone, do_relay};
+use crate::rooms::{do_decline, do_open, do_post, do_ready, do_unpost};
 use dealer_desk::DealerDesk;
 use fix_fields::Memory;
 use investor_desk::InvestorDesk;
 use market_terms::RoomRef;
 use request_room::Room;
-use venue_steps::{
-    Duties, do_answer, do_close, do_decline, do_declined, do_expire, do_gone, do_open, do_pass,
-    do_post, do_ready, do_relay, do_show, do_tell, do_unpost,
-};
 
 /// What comes to a dealer's desk does its step there. Nothing follows. It fails for memory alone,
 /// and then the desk is as before.

@@ -1,6 +1,6 @@
 use Rattle.std.proofs.Common.{◌∙◌, sym, ap}
-use Rattle.venue_places.specs.Placed.{placed}
-use Rattle.venue_places.proofs.table.placed.Goals as goal
+use Rattle.venue_steps.specs.Placed.{placed}
+use Rattle.venue_steps.proofs.table.placed.Goals as goal
 
 pub returns-in-Open : goal.returns-in-Open
 unfolding placed

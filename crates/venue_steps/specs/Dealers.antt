@@ -6,8 +6,8 @@ use Rattle.market_terms.specs.declared.rooms.Offer.{Offer}
 use Rattle.venue_rows.specs.Rows.{Configuration, dealer_numbered}
 use Rattle.venue_rows.specs.declared.dealer_rows.DealerRow.{DealerRow}
 use Rattle.venue_steps.specs.WordNumbers.{word_of}
-use Rattle.venue_places.specs.declared.actors.Actor.{Actor}
-use Rattle.venue_places.specs.declared.actors.Actor.TheVariants as actor
+use Rattle.venue_steps.specs.declared.actors.Actor.{Actor}
+use Rattle.venue_steps.specs.declared.actors.Actor.TheVariants as actor
 
 -- a dealer: its number among the firms, and its row
 pub record Dealer : Type 0 where

@@ -1,11 +1,11 @@
 //! The table itself.
 ghost use Rattle.std.specs.Prelude.{◌≡◌};
-ghost use Rattle.venue_places.specs.Dealers.{dealer_of};
-ghost use Rattle.venue_places.specs.Placed as spec;
+ghost use Rattle.venue_steps.specs.Dealers.{dealer_of};
+ghost use Rattle.venue_steps.specs.Placed as spec;
 
 use crate::actors::Actor;
 use crate::arrivals::{ForDealer, ForInvestor, ForRoom, Placement};
-use crate::words::word_of;
+use crate::quote_words::word_of;
 use bond_prices::Ticks;
 use fix_fields::Moment;
 use market_terms::{Duty, Offer, ResponseRef, RoomRef};

@@ -1,4 +1,0 @@
-pub mod Brought
-pub mod Dealers
-pub mod Placed
-pub mod Table
