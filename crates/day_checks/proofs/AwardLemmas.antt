@@ -12,7 +12,7 @@ use Rattle.quote_word.specs.declared.settled.Settled.{Settled}
 use Rattle.quote_word.specs.declared.settled.Settled.TheVariants.{Withdrawn, Lifted}
 use Rattle.request_room.specs.Book.{after_event, award_of, book_of, end_by, event_facts, expired}
 use Rattle.request_room.specs.Book.{hit_refusal, hit_settled, passed, quote_meant, room_after}
-use Rattle.request_room.specs.Book.{where_so}
+use Rattle.request_room.specs.Book.{fact_if}
 use Rattle.request_room.specs.RoomFacts.{RoomFact, Opened, Readied, Posted, Unposted, Noted, Ended}
 use Rattle.request_room.specs.RoomFacts.{end_of, ended_as}
 use Rattle.request_room.specs.declared.ends.End.{End}
@@ -78,7 +78,7 @@ hit_lifted log facts w moment None (Some Lifted) stands =
 
 -- a fact that follows where a condition holds
 where_lifted : (log : SettleLog) (may : Bool) (fact : RoomFact)
-    → WinnerLifted log (end_of (fact ∷ [])) → WinnerLifted log (end_of (where_so may fact))
+    → WinnerLifted log (end_of (fact ∷ [])) → WinnerLifted log (end_of (fact_if may fact))
 where_lifted log false fact lifted = tt
 where_lifted log true fact lifted = lifted
 

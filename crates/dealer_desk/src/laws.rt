@@ -139,7 +139,7 @@ pub fn quotes_stand_as_their_words_were_settled()
 /// At a desk without prices, and with Cover (694=4) and Done Away (694=5) as one, each message gets
 /// the verdict that it gets at the desk (`verdicts`). Each event adds what it adds there, except
 /// prices and covers (`kept`).
-pub fn no_verdict_asks_a_price()
+pub fn no_dealer_verdict_asks_a_price()
     ensures verdicts { (book : DealerBook) (date : List ℕ) (row : DealerRow) (moment : ℕ)
         (bytes : List ℕ) → dealer_verdict date row (unpriced_book book) moment bytes
         ≡ dealer_verdict date row book moment bytes }

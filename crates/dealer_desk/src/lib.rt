@@ -82,7 +82,7 @@ pub use desks::DealerDesk;
 pub use events::DealerEvent;
 pub use laws::{
     a_settlement_unasked_changes_nothing, each_message_has_its_note, facts_after_one_event_more,
-    facts_say_how_words_were_settled, limits_are_kept, no_verdict_asks_a_price,
+    facts_say_how_words_were_settled, limits_are_kept, no_dealer_verdict_asks_a_price,
     quotes_stand_as_their_words_were_settled, the_same_facts_have_the_same_notes,
     what_is_asked_is_of_the_day, what_is_left_is_of_the_day, words_are_asked_event_by_event,
 };

@@ -86,7 +86,7 @@ gone_message own shown = out.QuoteGone own.request.id shown.number
 
 -- a quote on this request, as the investor is shown it
 abbrev pub offer_message : StandingRequest → ShownOffer → OutMessage
-offer_message own shown = out.ShownQuote (record {
+offer_message own shown = out.OfferedQuote (record {
   request = own.request.id;
   number = shown.number;
   bond = own.request.ask.bond;

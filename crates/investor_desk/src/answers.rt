@@ -14,7 +14,7 @@ use crate::outcomes::{Note, Outcome};
 use crate::{InvestorNote, InvestorVerdict, RequestClose, ShownOffer};
 use fix_fields::{Memory, Moment};
 use market_terms::{Duty, HitRefusal, Id, Offer, Reply, ResponseRef, RoomRef};
-use quote_messages::{OutMessage, PassStatus, ShownQuote};
+use quote_messages::{OfferedQuote, OutMessage, PassStatus};
 use venue_rows::Name;
 
 /// What a verdict leaves to be done.
@@ -180,7 +180,7 @@ fn offer_message<'a>(row: &'a RequestRow, shown: &ShownOffer) -> OutMessage<'a>
     ensures { result ≡ spec.offer_message (request_in row.now) shown.now }
 {
     let offer = &shown.offer;
-    OutMessage::ShownQuote(ShownQuote {
+    OutMessage::OfferedQuote(OfferedQuote {
         request: row.request.id.as_id(),
         number: shown.number,
         bond: row.request.ask.bond,

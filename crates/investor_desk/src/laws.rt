@@ -70,7 +70,7 @@ pub fn what_is_left_is_of_the_day()
 /// At a desk without prices each message gets the verdict that it gets at the desk (`verdicts`),
 /// the same requests and quotes are known (`known`), and each event adds what it adds there, except
 /// prices (`kept`).
-pub fn no_verdict_asks_a_price()
+pub fn no_investor_verdict_asks_a_price()
     ensures verdicts { (market : InvestorMarket) (book : InvestorBook) (moment : ℕ)
         (bytes : List ℕ) → investor_verdict market (unpriced_book book) moment bytes
         ≡ investor_verdict market book moment bytes }

@@ -48,7 +48,7 @@ pub use desks::InvestorDesk;
 pub use events::{InvestorEvent, KeptResponse};
 pub use laws::{
     a_note_is_of_the_last_fact, each_message_has_its_note, facts_after_one_event_more,
-    limits_are_kept, no_verdict_asks_a_price, what_is_left_is_of_the_day,
+    limits_are_kept, no_investor_verdict_asks_a_price, what_is_left_is_of_the_day,
 };
 pub use notes::InvestorNote;
 pub use refusals::RequestRefusal;

@@ -80,7 +80,7 @@ fn happen(desk: &mut InvestorDesk, due: &InvestorDue) -> Result<(), Memory>
             desk.take(*moment, message.as_bytes())?;
             Ok(())
         }
-        InvestorDue::Quoted(request, dealer, price, valid_until, moment) => {
+        InvestorDue::Offered(request, dealer, price, valid_until, moment) => {
             show(desk, *moment, *request, dealer, *price, *valid_until)?;
             Ok(())
         }
@@ -114,7 +114,7 @@ fn show(
     valid_until: Option<Moment>,
 ) -> Result<(), Memory>
     ensures { OnOk result (desk.new ≡ spec.after_due desk.old
-        (InvestorDue.Quoted request dealer.now price valid_until moment)) }
+        (InvestorDue.Offered request dealer.now price valid_until moment)) }
 {
     let word = next_word(desk)?;
     let offer = Offer {

@@ -304,7 +304,7 @@ fn due_for(desk: &InvestorDesk, what: &ForInvestor) -> InvestorDue
     ensures { result ≡ spec.due_by (book_at desk.now) (For what.now) }
 {
     match what {
-        ForInvestor::Relay(request, offer, moment) => InvestorDue::Quoted(
+        ForInvestor::Relay(request, offer, moment) => InvestorDue::Offered(
             *request,
             offer.dealer.copy(),
             offer.price,

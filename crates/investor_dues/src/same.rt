@@ -13,7 +13,7 @@ pub fn is_same_due(one: &InvestorDue, other: &InvestorDue) -> bool
 {
     match one {
         InvestorDue::Own(moment, message) => is_own(*moment, message.as_bytes(), other),
-        InvestorDue::Quoted(request, dealer, price, valid_until, moment) => {
+        InvestorDue::Offered(request, dealer, price, valid_until, moment) => {
             is_quoted(*request, dealer, *price, *valid_until, *moment, other)
         }
         InvestorDue::Gone(request, quote, moment) => is_gone(*request, *quote, *moment, other),
@@ -37,9 +37,9 @@ fn is_quoted(
     due: &InvestorDue,
 ) -> bool
     ensures { IsTrue result
-        ↔ (InvestorDue.Quoted request dealer.now price valid_until moment ≡ due.now) }
+        ↔ (InvestorDue.Offered request dealer.now price valid_until moment ≡ due.now) }
 {
-    let InvestorDue::Quoted(own_request, own_dealer, own_price, own_until, own_moment) = due else {
+    let InvestorDue::Offered(own_request, own_dealer, own_price, own_until, own_moment) = due else {
         return false;
     };
     if *own_request != request {

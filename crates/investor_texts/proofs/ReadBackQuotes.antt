@@ -28,7 +28,7 @@ quoted_by : (date t₁ t₂ t₃ t₄ a d p : List ℕ) (request price moment : 
     → Cut t₁ a t₂ → Cut t₂ d t₃ → Cut t₃ p t₄ → number_of a ≡ Some request
     → text_if is_firm_name d ≡ Some d → result_ok (price_of p) ≡ Some price
     → time_of date (first_part t₄) ≡ Some moment → until_behind date t₄ ≡ Some until
-    → quoted_of date t₁ ≡ Some (due.Quoted request d price until moment)
+    → quoted_of date t₁ ≡ Some (due.Offered request d price until moment)
 unfolding quoted_of
 quoted_by date t₁ t₂ t₃ t₄ a d p request price moment until c₁ c₂ c₃ one two three time last =
     rw (
@@ -50,7 +50,7 @@ pub quoted_back : (date : List ℕ) (request : ℕ) (dealer : List ℕ) (price :
     → price_of (price_digits price) ≡ Ok price
     → IfSome until (λ (m : ℕ). time_of date (time_text m) ≡ Some m)
     → time_of date (time_text moment) ≡ Some moment
-    → ReadsAs date (due.Quoted request dealer price until moment)
+    → ReadsAs date (due.Offered request dealer price until moment)
 unfolding quoted_line
 quoted_back date request dealer price until moment short named most spelled later time =
     let a = decimal request in

@@ -102,7 +102,7 @@ quoted_of date text = do
   price ← result_ok (price_of (first_part behind_dealer))
   moment ← time_of date (first_part behind_price)
   valid_until ← until_behind date behind_price
-  Some (due.Quoted request dealer price valid_until moment)
+  Some (due.Offered request dealer price valid_until moment)
 
 -- behind `gone`: N K TIME
 unfoldable pub gone_of : List ℕ → List ℕ → Option InvestorDue

@@ -19,7 +19,7 @@ is_short_if (Some k) = is_short k
 -- that a firm may have, and each number is short.
 abbrev pub is_sayable : InvestorDue → Bool
 is_sayable (due.Own moment message) = not (length message == 0)
-is_sayable (due.Quoted request dealer price valid_until moment) =
+is_sayable (due.Offered request dealer price valid_until moment) =
     is_short request && is_firm_name dealer
 is_sayable (due.Gone request quote moment) = is_short request && is_short quote
 is_sayable (due.Declined request dealer moment) = is_short request && is_firm_name dealer

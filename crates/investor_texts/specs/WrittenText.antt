@@ -90,7 +90,7 @@ expired_line request moment =
 -- an item of what is due as its line of due text
 abbrev pub item_line : InvestorDue → List ℕ
 item_line (due.Own moment message) = own_line moment message
-item_line (due.Quoted request dealer price valid_until moment) =
+item_line (due.Offered request dealer price valid_until moment) =
     quoted_line request dealer price valid_until moment
 item_line (due.Gone request quote moment) = gone_line request quote moment
 item_line (due.Declined request dealer moment) = declined_line request dealer moment

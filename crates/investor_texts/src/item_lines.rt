@@ -135,7 +135,7 @@ fn read_quoted(date: &Date, text: &[u8]) -> Option<InvestorDue>
     let price = read_price(price).ok()?;
     let moment = read_time(date, time)?;
     let valid_until = read_until(date, rest)?;
-    Some(InvestorDue::Quoted(request, dealer, price, valid_until, moment))
+    Some(InvestorDue::Offered(request, dealer, price, valid_until, moment))
 }
 
 /// The number of a request, in 1 to 9 digits.

@@ -34,7 +34,7 @@ fn is_read_back(date: &Date, due: &InvestorDue)
 {
     match due {
         InvestorDue::Own(moment, message) => own_is_read_back(date, message.as_bytes(), *moment),
-        InvestorDue::Quoted(request, dealer, price, valid_until, moment) => {
+        InvestorDue::Offered(request, dealer, price, valid_until, moment) => {
             quoted_is_read_back(date, *request, dealer, *price, *valid_until, *moment)
         }
         InvestorDue::Gone(request, quote, moment) => {
@@ -85,7 +85,7 @@ fn quoted_is_read_back(
     moment: Moment,
 )
     ensures { (is_short request && is_firm_name dealer.now) ≡ true → spec.ReadsAs date.now
-        (InvestorDue.Quoted request dealer.now price valid_until moment) }
+        (InvestorDue.Offered request dealer.now price valid_until moment) }
 {
     let _ = request;
     let _ = dealer;

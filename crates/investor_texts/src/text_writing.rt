@@ -117,7 +117,7 @@ fn push_item(text: &mut Vec<u8>, due: &InvestorDue) -> Result<(), Memory>
 {
     match due {
         InvestorDue::Own(moment, message) => push_own(text, *moment, message.as_bytes()),
-        InvestorDue::Quoted(request, dealer, price, valid_until, moment) => {
+        InvestorDue::Offered(request, dealer, price, valid_until, moment) => {
             push_quoted(text, *request, dealer, *price, *valid_until, *moment)
         }
         InvestorDue::Gone(request, quote, moment) => push_gone(text, *request, *quote, *moment),

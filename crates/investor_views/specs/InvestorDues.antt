@@ -32,7 +32,7 @@ number_of (Some shown) = shown.number
 -- a quote that comes
 abbrev pub due_by_offer : ℕ → Offer → ℕ → InvestorDue
 due_by_offer request offer moment =
-    due.Quoted request offer.dealer offer.price offer.valid_until moment
+    due.Offered request offer.dealer offer.price offer.valid_until moment
 
 -- what is due by what comes to a desk with this book
 unfoldable pub due_by : InvestorBook → Coming → InvestorDue

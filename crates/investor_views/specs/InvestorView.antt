@@ -56,7 +56,7 @@ offer_due book dealer price valid_until = record {
 -- what an item brings to a desk with this book
 unfoldable pub coming_by : InvestorBook → InvestorDue → Coming
 coming_by book (due.Own moment message) = Own moment message
-coming_by book (due.Quoted request dealer price valid_until moment) =
+coming_by book (due.Offered request dealer price valid_until moment) =
     For (to_investor.Relay request (offer_due book dealer price valid_until) moment)
 coming_by book (due.Gone request quote moment) = For (to_investor.Gone request quote moment)
 coming_by book (due.Declined request dealer moment) =

@@ -9,20 +9,20 @@ use venue_rows::Name;
 pub type OwnRequest = u32;
 
 /// The number of a quote among those that the investor was shown (QuoteID 117), from 1.
-pub type ShownQuote = u64;
+pub type OfferNumber = u64;
 
 /// One item of what is due to an investor. Requests and quotes have the investor's own numbers.
 #[derive(Drop)]
 pub enum InvestorDue {
     /// A message of the investor's own, whatever its bytes are, and the moment at which it comes.
     Own(Moment, Message),
-    /// A quote comes: the request that it answers, the dealer that quotes, the price on the asked
-    /// side, the moment from which on it can't be hit (ValidUntilTime 62), where one was given, and
-    /// the moment of the dealer's message.
-    Quoted(OwnRequest, Name, Ticks, Option<Moment>, Moment),
+    /// A quote comes, which the investor is offered: the request that it answers, the dealer that
+    /// quotes, the price on the asked side, the moment from which on it can't be hit (ValidUntilTime
+    /// 62), where one was given, and the moment of the dealer's message.
+    Offered(OwnRequest, Name, Ticks, Option<Moment>, Moment),
     /// A quote is taken back: the request that it answered, the quote (0 where it stood on no open
     /// request any more), and the moment of the dealer's message.
-    Gone(OwnRequest, ShownQuote, Moment),
+    Gone(OwnRequest, OfferNumber, Moment),
     /// A dealer declines: the request, the dealer, and the moment of its message.
     Declined(OwnRequest, Name, Moment),
     /// The reply to a hit or a pass: the request, the response that it is to, what the room

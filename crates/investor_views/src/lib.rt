@@ -29,7 +29,7 @@ mod laws;
 mod note_laws;
 
 pub use desk_laws::desks_send_their_view;
-pub use dues::{InvestorDue, OwnRequest, ShownQuote};
+pub use dues::{InvestorDue, OfferNumber, OwnRequest};
 pub use laws::{
     investors_are_given_their_view, investors_are_isolated, investors_are_sent_their_view,
 };

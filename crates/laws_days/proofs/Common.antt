@@ -71,7 +71,7 @@ pub use Rattle.market_terms.specs.declared.rooms.RoomRef.{RoomRef}
 pub use Rattle.laws_days.specs.AcceptedQuotes.{none_holds}
 pub use Rattle.investor_desk.specs.InvestorFacts.{knows, InvestorBook, Asked, InvestorFact, Offered}
 pub use Rattle.investor_desk.specs.InvestorFacts.{book_of, offers_of, requests_of}
-pub use Rattle.request_room.specs.Book.{hit_checks, quote_meant, where_so}
+pub use Rattle.request_room.specs.Book.{hit_checks, quote_meant, fact_if}
 unfoldable pub use Rattle.request_room.specs.Book.{hit_refusal}
 pub use Rattle.request_room.specs.RoomFacts.{RoomFact, is_ended, is_named, is_opening, is_ready}
 pub use Rattle.request_room.specs.RoomFacts.{is_vacant, request_of, end_of, Posted, Ended, ended_as}

@@ -14,7 +14,7 @@ use Rattle.market_terms.specs.declared.rooms.RoomRef.{RoomRef}
 use Rattle.venue_rows.specs.Rows.{Configuration, has_room, investor_numbered, may_request}
 use Rattle.venue_rows.specs.declared.investor_rows.InvestorRow.{InvestorRow}
 use Rattle.dealer_desk.specs.DealerOutput.{is_same_room}
-use Rattle.request_room.specs.Book.{event_facts, expired, is_past_deadline, may_expire, where_so}
+use Rattle.request_room.specs.Book.{event_facts, expired, is_past_deadline, may_expire, fact_if}
 use Rattle.request_room.specs.RoomFacts.{Ended, RoomFact, ended_as, first_said, is_ended}
 use Rattle.request_room.specs.RoomFacts.{is_open, is_ready, request_of}
 use Rattle.request_room.specs.declared.ends.End.{End}
@@ -68,7 +68,7 @@ unfolding event_facts
 swept_room facts moment = by_test (may_expire facts moment) refl
   where
     by_test : (b : Bool) → may_expire facts moment ≡ b
-        → overdue moment (facts ++ where_so b (Ended expired moment)) ≡ false
+        → overdue moment (facts ++ fact_if b (Ended expired moment)) ≡ false
     by_test true is =
         overdue_ended (facts ++ Ended expired moment ∷ []) moment (ended_behind facts expired moment)
     by_test false is =

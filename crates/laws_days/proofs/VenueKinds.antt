@@ -5,7 +5,7 @@ use Rattle.laws_days.proofs.Common.{map, not, refl, subst, sym, true, ◌++◌, 
 use Rattle.laws_days.proofs.Common.{and_parts, both_ways, cases_Bool, eqb-true, not-true}
 use Rattle.laws_days.proofs.Common.{append-nil, filter_map-append, same_Some, list_any}
 use Rattle.laws_days.proofs.Common.{are_distinct, Duty, RoomRef, dealer_numbered, DealerRow, Shown}
-use Rattle.laws_days.proofs.Common.{Told, where_so, RoomFact, Dealer, Effect, acting_dealer}
+use Rattle.laws_days.proofs.Common.{Told, fact_if, RoomFact, Dealer, Effect, acting_dealer}
 use Rattle.laws_days.proofs.Common.{dealer_of, done_by, nothing, AtDesk, DealerEntry, ShownIn}
 use Rattle.laws_days.proofs.Common.{Every, every_weaker, In, investor_in_room, own_trail, AtDealer}
 use Rattle.laws_days.proofs.Common.{Fact, InRoom, of_investor, of_room}
@@ -154,7 +154,7 @@ module _ (h : Here) where
   pub where_brings : (room : RoomRef) (may b : Bool) (fact : RoomFact) (left : Bool → List Duty)
       → (b ≡ true → Brings h (in_it room (fact ∷ []) (left true)))
       → Brings h (in_it room [] (left false))
-      → Brings h (if may then in_it room (where_so b fact) (left b) else nothing)
+      → Brings h (if may then in_it room (fact_if b fact) (left b) else nothing)
   where_brings room may true fact left so other = when_brings may _ (λ test. so refl)
   where_brings room may false fact left so other = when_brings may _ (λ test. other)
 

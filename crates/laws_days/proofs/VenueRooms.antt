@@ -6,7 +6,7 @@ use Rattle.laws_days.proofs.Common.{option_to_list, refl, subst, sym, true, ◌+
 use Rattle.laws_days.proofs.Common.{◌∷◌, ◌≡◌, and_parts, or_left, append-nil, filter_map-append}
 use Rattle.laws_days.proofs.Common.{list_any, Ask, Close, Duty, RoomRef, dealer_numbered}
 use Rattle.laws_days.proofs.Common.{DealerRow, Told, tells, closable, event_facts, number_in}
-use Rattle.laws_days.proofs.Common.{where_so, Opened, Readied, RoomFact, is_ended, is_named}
+use Rattle.laws_days.proofs.Common.{fact_if, Opened, Readied, RoomFact, is_ended, is_named}
 use Rattle.laws_days.proofs.Common.{is_opening, is_vacant, names, opened_for, request_of}
 use Rattle.laws_days.proofs.Common.{RoomRequest, where_follows, Effect, dealer_of, in_room}
 use Rattle.laws_days.proofs.Common.{nothing, told_to, AuditTrail, rooms_grown, AtDesk, DealerEntry}
@@ -154,16 +154,16 @@ module _ (h : Here) (room : RoomRef) where
   pub may_bring : (may b c : Bool) (fact : RoomFact) (left : Duty) → mark_of left ≡ None
       → ((effect : Effect) → FactThen h effect (InRoom room fact))
       → ((effect : Effect) → DutyThen h effect left)
-      → Brings h (if may then in_it h room (where_so b fact) (where_follows c left) else nothing)
+      → Brings h (if may then in_it h room (fact_if b fact) (where_follows c left) else nothing)
   may_bring may b c fact left free ok leaves =
       when_brings h may _ (λ test.
-      room_brings h room (where_so b fact) (where_follows c left) (fact_ok b)
+      room_brings h room (fact_if b fact) (where_follows c left) (fact_ok b)
       (fine_left h effect (queue h) (where_follows c left) (follows c)))
     where
       effect : Effect
-      effect = in_it h room (where_so b fact) (where_follows c left)
+      effect = in_it h room (fact_if b fact) (where_follows c left)
 
-      fact_ok : (d : Bool) → Every (λ f. FactThen h effect (InRoom room f)) (where_so d fact)
+      fact_ok : (d : Bool) → Every (λ f. FactThen h effect (InRoom room f)) (fact_if d fact)
       fact_ok true = (ok effect, tt)
       fact_ok false = tt
 

@@ -21,7 +21,7 @@ use Rattle.investor_desk.specs.InvestorRules.{InvestorMarket}
 use Rattle.investor_desk.specs.declared.events.InvestorEvent.{InvestorEvent}
 use Rattle.request_room.specs.Book.{award_of, end_by, event_facts, hit_outcome}
 use Rattle.request_room.specs.Book.{hit_refusal, hit_settled, is_lift, quote_posted}
-use Rattle.request_room.specs.Book.{where_so}
+use Rattle.request_room.specs.Book.{fact_if}
 use Rattle.request_room.specs.RoomFacts.{Opened, Posted, RoomFact}
 use Rattle.request_room.specs.declared.ends.End.{End}
 use Rattle.request_room.specs.declared.events.RoomEvent.{RoomEvent}
@@ -106,7 +106,7 @@ module _ (side : ℕ → Bool) (config : Configuration) (own : Bool) where
   EventOn b other = Unit {0}
 
   happened_if : (b : Bool) (fact : RoomFact) → HappenedOn side config b fact → (so : Bool)
-      → Every (HappenedOn side config b) (where_so so fact)
+      → Every (HappenedOn side config b) (fact_if so fact)
   happened_if b fact on true = (on, tt)
   happened_if b fact on false = tt
 

@@ -24,7 +24,7 @@ use Rattle.step_replay.specs.Actions.{dealer_receives, left_by, received_by_inve
 use Rattle.step_replay.specs.Actions.{settlement_of, verdict_on, word_for, words_of, Dealer}
 use Rattle.step_replay.specs.Actions.{Effect, at_dealer, at_market, dealer_at}
 use Rattle.step_replay.specs.Actions.{dealer_of, nothing}
-use Rattle.request_room.specs.Book.{event_facts, where_so}
+use Rattle.request_room.specs.Book.{event_facts, fact_if}
 use Rattle.request_room.specs.RoomFacts.{RoomFact}
 use Rattle.request_room.specs.declared.events.RoomEvent.{RoomEvent}
 use Rattle.request_room.specs.declared.events.RoomEvent.TheVariants as at_room
@@ -106,7 +106,7 @@ module _ (config : Configuration) (facts : List Fact) where
   }
 
   so_calm : (room : RoomRef) (b : Bool) (fact : RoomFact) → award_in (InRoom room fact) ≡ None
-      → filter_map award_in (map (InRoom room) (where_so b fact)) ≡ []
+      → filter_map award_in (map (InRoom room) (fact_if b fact)) ≡ []
   so_calm room true fact none = rw none refl
   so_calm room false fact none = refl
 

@@ -9,7 +9,7 @@ use Rattle.std.proofs.lemmas.Bool.Decides.{nat_tests}
 use Rattle.request_room.specs.RoomFacts.{RoomFact, Opened, Readied, Posted, Unposted, Noted, Ended}
 use Rattle.request_room.specs.RoomFacts.{request_of, is_ready, is_ended}
 use Rattle.request_room.specs.Book.{takes_out, book_of, is_quote_of, stands, may_unpost}
-use Rattle.request_room.specs.Book.{quote_posted, where_so, event_facts}
+use Rattle.request_room.specs.Book.{quote_posted, fact_if, event_facts}
 use Rattle.request_room.specs.declared.events.RoomEvent.{RoomEvent}
 use Rattle.request_room.specs.declared.events.RoomEvent.TheVariants as event
 use Rattle.request_room.specs.declared.quotes.PostedQuote.{PostedQuote}
@@ -156,14 +156,14 @@ module _ (own : ℕ) where
     -- What an event adds.
 
     none_left : (b : Bool) (fact : RoomFact) → left_in_room own fact ≡ None
-        → left_room own (where_so b fact) ≡ []
+        → left_room own (fact_if b fact) ≡ []
     none_left true fact isnt = rw isnt refl
     none_left false fact isnt = refl
 
     unposts_same : (dealer word : ℕ)
-        → left_room own (where_so (may_unpost facts dealer word) (Unposted dealer word))
+        → left_room own (fact_if (may_unpost facts dealer word) (Unposted dealer word))
         ≡ left_room own
-        (where_so (may_unpost (left_room own facts) dealer word) (Unposted dealer word))
+        (fact_if (may_unpost (left_room own facts) dealer word) (Unposted dealer word))
     unposts_same dealer word = elim (cases_Bool (dealer == own)) [
       | inl mine ↦ rw (request_same facts, ended_same facts, stands_same dealer word mine) refl
       | inr another ↦

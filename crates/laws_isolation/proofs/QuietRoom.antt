@@ -11,7 +11,7 @@ use Rattle.request_room.specs.RoomFacts.{RoomFact, Opened, Readied, Posted, Unpo
 use Rattle.request_room.specs.RoomFacts.{first_said, opened_for, ended_as, is_readied, request_of}
 use Rattle.request_room.specs.RoomFacts.{is_ready, is_ended}
 use Rattle.request_room.specs.Book.{takes_out, book_of, is_quote_of, stands, may_unpost}
-use Rattle.request_room.specs.Book.{quote_posted, where_so, event_facts}
+use Rattle.request_room.specs.Book.{quote_posted, fact_if, event_facts}
 use Rattle.request_room.specs.declared.ends.End.{End}
 use Rattle.request_room.specs.declared.events.RoomEvent.{RoomEvent}
 use Rattle.request_room.specs.declared.events.RoomEvent.TheVariants as event
@@ -144,13 +144,13 @@ module _ (own : ℕ) where
     -- What an event adds.
 
     none_stays : (b : Bool) (fact : RoomFact) → stays_in_room own fact ≡ false
-        → quiet_room (where_so b fact) ≡ []
+        → quiet_room (fact_if b fact) ≡ []
     none_stays true fact isnt = rw isnt refl
     none_stays false fact isnt = refl
 
     unposts_same : (dealer word : ℕ) (b : Bool) → (dealer == own) ≡ b
-        → quiet_room (where_so (may_unpost facts dealer word) (Unposted dealer word))
-        ≡ quiet_room (where_so (may_unpost (quiet_room facts) dealer word) (Unposted dealer word))
+        → quiet_room (fact_if (may_unpost facts dealer word) (Unposted dealer word))
+        ≡ quiet_room (fact_if (may_unpost (quiet_room facts) dealer word) (Unposted dealer word))
     unposts_same dealer word true mine =
         rw (request_same facts, ended_same facts, stands_same dealer word mine) refl
     unposts_same dealer word false another =

@@ -13,7 +13,7 @@ use Rattle.venue_steps.specs.Dealers.{dealer_at, dealer_of, has_word_for, word_f
 use Rattle.venue_steps.specs.declared.actors.Actor.{Actor}
 use Rattle.venue_steps.specs.declared.actors.Actor.TheVariants as actor
 use Rattle.investor_desk.specs.InvestorDesk.{market_for}
-use Rattle.request_room.specs.Book.{event_facts, quote_posted, where_so}
+use Rattle.request_room.specs.Book.{event_facts, quote_posted, fact_if}
 use Rattle.request_room.specs.RoomFacts.{Noted, Posted, RoomFact, hears, is_ended}
 use Rattle.request_room.specs.RoomFacts.{request_of, takes_quotes}
 use Rattle.step_replay.specs.Actions.{Effect, done_by, done_for, nothing}
@@ -109,11 +109,11 @@ module _ (dealer : ℕ) where
       -- Another dealer's answers.
 
       posts_none : (number : ℕ) → (number == dealer) ≡ false → (b : Bool) (word price : ℕ) (until : Option ℕ)
-          → answers (where_so b (Posted (quote_posted number word price until))) ≡ []
+          → answers (fact_if b (Posted (quote_posted number word price until))) ≡ []
       posts_none number differs true word price until = rw differs refl
       posts_none number differs false word price until = refl
 
-      notes_none : (number : ℕ) → (number == dealer) ≡ false → (b : Bool) → answers (where_so b (Noted number)) ≡ []
+      notes_none : (number : ℕ) → (number == dealer) ≡ false → (b : Bool) → answers (fact_if b (Noted number)) ≡ []
       notes_none number differs true = rw differs refl
       notes_none number differs false = refl
 

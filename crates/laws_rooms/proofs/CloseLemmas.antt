@@ -26,7 +26,7 @@ use Rattle.investor_desk.specs.declared.events.InvestorEvent.TheVariants as at_i
 use Rattle.investor_desk.specs.declared.standing.ShownOffer.{ShownOffer}
 use Rattle.investor_desk.specs.declared.verdicts.InvestorVerdict.{InvestorVerdict}
 use Rattle.investor_desk.specs.declared.verdicts.InvestorVerdict.TheVariants as asks
-use Rattle.request_room.specs.Book.{event_facts, expired, may_expire, where_so}
+use Rattle.request_room.specs.Book.{event_facts, expired, may_expire, fact_if}
 use Rattle.request_room.specs.RoomFacts.{Ended}
 use Rattle.step_replay.specs.Actions.{nothing, verdict_on}
 use Rattle.step_replay.specs.DutyEffects.{duty_effect, message_effect, sweep_effect}
@@ -183,12 +183,12 @@ module _ (config : Configuration) (facts : List Fact) where
       by_tests : (told : List Duty) → Every IsNoClose told → (is_room may : Bool)
           → filter_map (close_in investor) (if is_room && true
           then record {
-            facts = map (InRoom room) (where_so may (Ended expired moment));
+            facts = map (InRoom room) (fact_if may (Ended expired moment));
             duties = if may then duty.Close room moment ∷ told else [];
           } else nothing).duties
           ≡ filter_map (ends_in investor) (if is_room && true
           then record {
-            facts = map (InRoom room) (where_so may (Ended expired moment));
+            facts = map (InRoom room) (fact_if may (Ended expired moment));
             duties = if may then duty.Close room moment ∷ told else [];
           } else nothing).facts
       by_tests told none true true =

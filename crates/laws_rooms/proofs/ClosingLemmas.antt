@@ -22,7 +22,7 @@ use Rattle.investor_desk.specs.InvestorOutput as investor_output
 use Rattle.investor_desk.specs.InvestorRules.{InvestorMarket, investor_verdict}
 use Rattle.investor_desk.specs.declared.verdicts.InvestorVerdict.{InvestorVerdict}
 use Rattle.investor_desk.specs.declared.verdicts.InvestorVerdict.TheVariants as asks
-use Rattle.request_room.specs.Book.{end_by, event_facts, expired, hit_outcome, may_expire, passed, where_so}
+use Rattle.request_room.specs.Book.{end_by, event_facts, expired, hit_outcome, may_expire, passed, fact_if}
 use Rattle.request_room.specs.RoomFacts.{Ended, RoomFact, is_ended, is_open}
 use Rattle.request_room.specs.declared.ends.End.{End}
 use Rattle.step_replay.specs.Actions.{Effect, hit_with, lifting, nothing, verdict_on}
@@ -71,7 +71,7 @@ module _ (config : Configuration) (facts : List Fact) (room : RoomRef) where
 
   pass_here : (response : ResponseRef) (moment : ℕ) (open_yet : Bool) (told : List Duty)
       → EndsToo (record {
-        facts = map (InRoom room) (where_so open_yet (Ended passed moment));
+        facts = map (InRoom room) (fact_if open_yet (Ended passed moment));
         duties = duty.Answer room response (reply_to_pass open_yet) moment
             ∷ (if open_yet then told else []);
       })
@@ -87,7 +87,7 @@ module _ (config : Configuration) (facts : List Fact) (room : RoomRef) where
 
   sweep_here : (moment : ℕ) (may : Bool) (told : List Duty)
       → EndsToo (record {
-        facts = map (InRoom room) (where_so may (Ended expired moment));
+        facts = map (InRoom room) (fact_if may (Ended expired moment));
         duties = if may then duty.Close room moment ∷ told else [];
       })
   sweep_here moment true told =

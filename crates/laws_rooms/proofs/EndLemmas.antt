@@ -32,7 +32,7 @@ use Rattle.investor_desk.specs.declared.events.InvestorEvent.TheVariants as at_i
 use Rattle.investor_desk.specs.declared.standing.RequestClose.{RequestClose}
 use Rattle.investor_desk.specs.declared.standing.RequestClose.TheVariants as close
 use Rattle.investor_desk.specs.declared.standing.ShownOffer.{ShownOffer}
-use Rattle.request_room.specs.Book.{end_by, event_facts, expired, hit_outcome, may_expire, passed, where_so}
+use Rattle.request_room.specs.Book.{end_by, event_facts, expired, hit_outcome, may_expire, passed, fact_if}
 use Rattle.request_room.specs.RoomFacts.{Ended, RoomFact, ended_as, is_ended, is_open}
 use Rattle.request_room.specs.RoomFacts as room_facts
 use Rattle.request_room.specs.declared.ends.End.{End}
@@ -123,7 +123,7 @@ module _ (config : Configuration) (facts : List Fact) (room : RoomRef) where
   -- by a pass
   pass_here : (response : ResponseRef) (moment : ℕ) (open_yet : Bool) (told : List Duty)
       → Ends (record {
-        facts = map (InRoom room) (where_so open_yet (Ended passed moment));
+        facts = map (InRoom room) (fact_if open_yet (Ended passed moment));
         duties = duty.Answer room response (reply_to_pass open_yet) moment ∷ told;
       })
   pass_here response moment true told = record { so = λ is. rw (room_self room) refl }
@@ -134,7 +134,7 @@ module _ (config : Configuration) (facts : List Fact) (room : RoomRef) where
   -- by a sweep
   sweep_here : (moment : ℕ) (may : Bool) (told : List Duty)
       → Ends (record {
-        facts = map (InRoom room) (where_so may (Ended expired moment));
+        facts = map (InRoom room) (fact_if may (Ended expired moment));
         duties = if may then duty.Close room moment ∷ told else [];
       })
   sweep_here moment true told = record { so = λ is. rw (room_self room) refl }
@@ -201,7 +201,7 @@ module _ (config : Configuration) (facts : List Fact) (room : RoomRef) where
         (if_does Ends idle _ _ (pass_here response moment (is_open known)
         (if is_open known then told_in known room passed moment else [])))
     | inr differs ↦ if_does Ends idle _ _
-        (elsewhere at (where_so (is_open (of_room at facts)) (Ended passed moment))
+        (elsewhere at (fact_if (is_open (of_room at facts)) (Ended passed moment))
         (duties_of_pass (of_room at facts) at response moment) differs)
   ]
 
@@ -212,7 +212,7 @@ module _ (config : Configuration) (facts : List Fact) (room : RoomRef) where
         (sym (same_room at room same))
         (if_does Ends idle _ _ (sweep_here moment (may_expire known moment) (told_in known room expired moment)))
     | inr differs ↦ if_does Ends idle _ _
-        (elsewhere at (where_so (may_expire (of_room at facts) moment) (Ended expired moment))
+        (elsewhere at (fact_if (may_expire (of_room at facts) moment) (Ended expired moment))
         (duties_of_expire (of_room at facts) at moment) differs)
   ]
 

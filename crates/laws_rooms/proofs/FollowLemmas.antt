@@ -22,7 +22,7 @@ use Rattle.investor_desk.specs.InvestorOutput as investor_output
 use Rattle.investor_desk.specs.InvestorRules.{InvestorMarket, investor_verdict}
 use Rattle.investor_desk.specs.declared.verdicts.InvestorVerdict.{InvestorVerdict}
 use Rattle.investor_desk.specs.declared.verdicts.InvestorVerdict.TheVariants as asks
-use Rattle.request_room.specs.Book.{book_of, event_facts, may_unpost, quote_posted, stands, where_so}
+use Rattle.request_room.specs.Book.{book_of, event_facts, may_unpost, quote_posted, stands, fact_if}
 use Rattle.request_room.specs.RoomFacts.{Noted, Posted, RoomFact, Unposted, hears, is_ended, request_of}
 use Rattle.request_room.specs.RoomFacts.{takes_quotes}
 use Rattle.request_room.specs.declared.events.RoomEvent.{RoomEvent}
@@ -153,7 +153,7 @@ module _ (dealer : ℕ) (config : Configuration) (row : DealerRow)
 
     here : (moment : ℕ) (is_room hears_it takes_it : Bool) → Same (if is_room && hears_it
         then record {
-          facts = map (InRoom room) (where_so takes_it (Noted dealer));
+          facts = map (InRoom room) (fact_if takes_it (Noted dealer));
           duties = where_follows (hears_it && takes_it) (duty.Declined room moment);
         }
         else nothing)
@@ -172,7 +172,7 @@ module _ (dealer : ℕ) (config : Configuration) (row : DealerRow)
     away : (at : RoomRef) → is_same_room at room ≡ false → (moment : ℕ) (is_room hears_it takes_it : Bool)
         → Same (if is_room && hears_it
         then record {
-          facts = map (InRoom at) (where_so takes_it (Noted dealer));
+          facts = map (InRoom at) (fact_if takes_it (Noted dealer));
           duties = where_follows (hears_it && takes_it) (duty.Declined at moment);
         }
         else nothing)
@@ -180,7 +180,7 @@ module _ (dealer : ℕ) (config : Configuration) (row : DealerRow)
         record {
           same = none takes_it
               ∙ sym (ap (λ (l : List RoomFact). changes_in dealer l)
-              (other_room room at differs (where_so takes_it (Noted dealer))));
+              (other_room room at differs (fact_if takes_it (Noted dealer))));
         }
       where
         none : (b : Bool) → tellings (where_follows b (duty.Declined at moment)) ≡ []
@@ -227,7 +227,7 @@ module _ (dealer : ℕ) (config : Configuration) (row : DealerRow)
       gone_here : (is_room has_word hears_it may_it : Bool) → may_unpost known dealer its_word ≡ may_it
           → Unposts (if is_room && (has_word && hears_it)
           then record {
-            facts = map (InRoom room) (where_so may_it (Unposted dealer its_word));
+            facts = map (InRoom room) (fact_if may_it (Unposted dealer its_word));
             duties = where_follows (hears_it && may_it) (duty.Gone room its_word moment);
           }
           else nothing)
@@ -254,13 +254,13 @@ module _ (dealer : ℕ) (config : Configuration) (row : DealerRow)
       gone_away : (at : RoomRef) → is_same_room at room ≡ false → (is_room has_word hears_it may_it : Bool)
           → Unposts (if is_room && (has_word && hears_it)
           then record {
-            facts = map (InRoom at) (where_so may_it (Unposted dealer its_word));
+            facts = map (InRoom at) (fact_if may_it (Unposted dealer its_word));
             duties = where_follows (hears_it && may_it) (duty.Gone at its_word moment);
           }
           else nothing)
       gone_away at differs true true true may_it =
           none_unposts _ (none may_it) (ap (λ (l : List RoomFact). changes l)
-          (other_room room at differs (where_so may_it (Unposted dealer its_word))))
+          (other_room room at differs (fact_if may_it (Unposted dealer its_word))))
         where
           none : (b : Bool) → tellings (where_follows b (duty.Gone at its_word moment)) ≡ []
           none true = rw differs refl

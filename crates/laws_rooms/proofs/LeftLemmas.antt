@@ -31,7 +31,7 @@ use Rattle.investor_desk.specs.declared.standing.ShownOffer.{ShownOffer}
 use Rattle.investor_desk.specs.declared.verdicts.InvestorVerdict.{InvestorVerdict}
 use Rattle.investor_desk.specs.declared.verdicts.InvestorVerdict.TheVariants as asks
 use Rattle.request_room.specs.Book.{end_by, event_facts, expired, hit_outcome, may_expire, may_unpost, passed}
-use Rattle.request_room.specs.Book.{quote_posted, where_so}
+use Rattle.request_room.specs.Book.{quote_posted, fact_if}
 use Rattle.request_room.specs.RoomFacts.{Ended, Noted, Opened, Posted, Readied, RoomFact, Unposted, hears}
 use Rattle.request_room.specs.RoomFacts.{is_open, is_opening, is_vacant}
 use Rattle.request_room.specs.RoomFacts.{takes_quotes}
@@ -106,7 +106,7 @@ module _ (config : Configuration) (facts : List Fact) where
   AtRoom room fact = IsOther (InRoom room fact)
 
   so_quiet : (room : RoomRef) (is : Bool) (fact : RoomFact) → AtRoom room fact
-      → Every (AtRoom room) (where_so is fact)
+      → Every (AtRoom room) (fact_if is fact)
   so_quiet room true fact other = (other, tt)
   so_quiet room false fact other = tt
 
@@ -340,7 +340,7 @@ module _ (config : Configuration) (facts : List Fact) (by : Actor) (room : RoomR
 
   where_both : (is_room has_word hears_it takes : Bool) → Leaves config by (if is_room && (has_word && hears_it)
       then record {
-        facts = map (InRoom room) (where_so takes (Posted posted));
+        facts = map (InRoom room) (fact_if takes (Posted posted));
         duties = where_follows (hears_it && takes) (duty.Relay room offer moment);
       }
       else nothing)
@@ -385,7 +385,7 @@ declined_leaves config facts room moment number row =
   where
     where_both : (is_room hears_it takes : Bool) → Leaves config (actor.Firm number) (if is_room && hears_it
         then record {
-          facts = map (InRoom room) (where_so takes (Noted number));
+          facts = map (InRoom room) (fact_if takes (Noted number));
           duties = where_follows (hears_it && takes) (duty.Declined room moment);
         }
         else nothing)

@@ -31,7 +31,7 @@ use Rattle.investor_desk.specs.InvestorOutput as investor_output
 use Rattle.investor_desk.specs.declared.events.InvestorEvent.TheVariants as at_investor
 use Rattle.investor_desk.specs.declared.standing.RequestClose.{RequestClose}
 use Rattle.investor_desk.specs.declared.standing.ShownOffer.{ShownOffer}
-use Rattle.request_room.specs.Book.{event_facts, quote_posted, where_so}
+use Rattle.request_room.specs.Book.{event_facts, quote_posted, fact_if}
 use Rattle.request_room.specs.RoomFacts.{Noted, Posted, RoomFact, hears, takes_quotes}
 use Rattle.request_room.specs.declared.quotes.PostedQuote.{PostedQuote}
 use Rattle.step_replay.specs.Actions.{Effect, at_market, done_for, nothing, verdict_on, where_known}
@@ -136,7 +136,7 @@ module _ (dealer : ℕ) (config : Configuration) (row : DealerRow)
 
       here_both : (is_room has_word hears_it takes_it : Bool) → Same (if is_room && (has_word && hears_it)
           then record {
-            facts = map (InRoom room) (where_so takes_it (Posted posted));
+            facts = map (InRoom room) (fact_if takes_it (Posted posted));
             duties = where_follows (hears_it && takes_it) (duty.Relay room its_offer moment);
           }
           else nothing)
@@ -156,7 +156,7 @@ module _ (dealer : ℕ) (config : Configuration) (row : DealerRow)
       away_both : (at : RoomRef) → is_same_room at room ≡ false → (is_room has_word hears_it takes_it : Bool)
           → Same (if is_room && (has_word && hears_it)
           then record {
-            facts = map (InRoom at) (where_so takes_it (Posted posted));
+            facts = map (InRoom at) (fact_if takes_it (Posted posted));
             duties = where_follows (hears_it && takes_it) (duty.Relay at its_offer moment);
           }
           else nothing)
@@ -164,7 +164,7 @@ module _ (dealer : ℕ) (config : Configuration) (row : DealerRow)
           record {
             same = none takes_it
                 ∙ sym (ap (λ (l : List RoomFact). quotes_in dealer l)
-                (other_room room at differs (where_so takes_it (Posted posted))));
+                (other_room room at differs (fact_if takes_it (Posted posted))));
           }
         where
           none : (b : Bool) → relays (where_follows b (duty.Relay at its_offer moment)) ≡ []

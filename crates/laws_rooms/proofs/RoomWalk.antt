@@ -18,7 +18,7 @@ use Rattle.investor_desk.specs.InvestorDesk.{market_for, market_of}
 use Rattle.investor_desk.specs.InvestorRules.{InvestorMarket}
 use Rattle.investor_desk.specs.declared.events.InvestorEvent.{InvestorEvent}
 use Rattle.investor_desk.specs.declared.events.InvestorEvent.TheVariants as at_investor
-use Rattle.request_room.specs.Book.{end_by, event_facts, expired, hit_outcome, passed, quote_posted, where_so}
+use Rattle.request_room.specs.Book.{end_by, event_facts, expired, hit_outcome, passed, quote_posted, fact_if}
 use Rattle.request_room.specs.RoomFacts.{Ended, Noted, Opened, Posted, Readied, RoomFact, Unposted}
 use Rattle.request_room.specs.declared.ends.End.{End}
 use Rattle.request_room.specs.declared.events.RoomEvent.{RoomEvent}
@@ -97,7 +97,7 @@ module _ (P : RoomFact → Type 0) (config : Configuration) (facts : List Fact) 
   MayHappen (at_room.Pass moment) = P (Ended passed moment)
   MayHappen (at_room.Expire moment) = P (Ended expired moment)
 
-  so_each : (b : Bool) (fact : RoomFact) → P fact → Every P (where_so b fact)
+  so_each : (b : Bool) (fact : RoomFact) → P fact → Every P (fact_if b fact)
   so_each true fact is = (is, tt)
   so_each false fact is = tt
 

@@ -15,7 +15,7 @@ use Rattle.quote_messages.specs.Written.{msg_type_of, price_tag, size_tag, writt
 use Rattle.quote_messages.specs.declared.out_messages.Head.{Head}
 use Rattle.quote_messages.specs.declared.out_messages.OutMessage.{OutMessage}
 use Rattle.quote_messages.specs.declared.out_messages.OutMessage.TheVariants as out
-use Rattle.quote_messages.specs.declared.out_messages.ShownQuote.{ShownQuote}
+use Rattle.quote_messages.specs.declared.out_messages.OfferedQuote.{OfferedQuote}
 use Rattle.laws_shown.specs.Said.{SaysWhenRead}
 use Rattle.laws_shown.specs.ShownQuotes.{ShowsNoQuote}
 use Rattle.laws_shown.proofs.ReadBack.{type_read}
@@ -26,20 +26,20 @@ use Rattle.std.proofs.lemmas.Option.{same_Some}
 -- whether a message shows a request or a quote
 abbrev pub shows : OutMessage → Bool
 shows (out.Request request) = true
-shows (out.ShownQuote quote) = true
+shows (out.OfferedQuote quote) = true
 shows other = false
 
 -- no other message has the type of one that does
 plain_request : (message : OutMessage) → shows message ≡ false
     → same_text (msg_type_of message) (codes "R") ≡ false
 plain_request (out.Request request) plain = cc
-plain_request (out.ShownQuote quote) plain = refl
+plain_request (out.OfferedQuote quote) plain = refl
 plain_request other plain = refl
 
 plain_quote : (message : OutMessage) → shows message ≡ false
     → same_text (msg_type_of message) (codes "S") ≡ false
 plain_quote (out.Request request) plain = refl
-plain_quote (out.ShownQuote quote) plain = cc
+plain_quote (out.OfferedQuote quote) plain = cc
 plain_quote other plain = refl
 
 not_request : (message : OutMessage) → shows message ≡ false
@@ -80,21 +80,21 @@ plain_to_investor Says head message plain fields read is =
     absurd (plain_shows_none head message plain fields read is)
 
 -- The fields of a quote as it is shown.
-pub record QuoteFields (head : Head) (quote : ShownQuote) : Type 0 where
-  pub request : value_of 131 (written_fields head (out.ShownQuote quote)) ≡ Some quote.request
-  pub bond : value_of 48 (written_fields head (out.ShownQuote quote)) ≡ Some quote.bond
-  pub side : value_of 54 (written_fields head (out.ShownQuote quote))
+pub record QuoteFields (head : Head) (quote : OfferedQuote) : Type 0 where
+  pub request : value_of 131 (written_fields head (out.OfferedQuote quote)) ≡ Some quote.request
+  pub bond : value_of 48 (written_fields head (out.OfferedQuote quote)) ≡ Some quote.bond
+  pub side : value_of 54 (written_fields head (out.OfferedQuote quote))
       ≡ Some (decimal (side_code quote.side))
-  pub price : value_of (price_tag quote.side) (written_fields head (out.ShownQuote quote))
+  pub price : value_of (price_tag quote.side) (written_fields head (out.OfferedQuote quote))
       ≡ Some (price_digits quote.price)
-  pub quantity : value_of (size_tag quote.side) (written_fields head (out.ShownQuote quote))
+  pub quantity : value_of (size_tag quote.side) (written_fields head (out.OfferedQuote quote))
       ≡ Some (decimal quote.quantity)
-  pub valid_until : value_of 62 (written_fields head (out.ShownQuote quote))
+  pub valid_until : value_of 62 (written_fields head (out.OfferedQuote quote))
       ≡ option_map (timestamp_text head.date) quote.valid_until
-  pub dealer : value_of 448 (written_fields head (out.ShownQuote quote)) ≡ Some quote.dealer
+  pub dealer : value_of 448 (written_fields head (out.OfferedQuote quote)) ≡ Some quote.dealer
 
 -- a quote with these values
-abbrev quote_with : List ℕ → ℕ → List ℕ → ℕ → ℕ → List ℕ → Side → Option ℕ → ShownQuote
+abbrev quote_with : List ℕ → ℕ → List ℕ → ℕ → ℕ → List ℕ → Side → Option ℕ → OfferedQuote
 quote_with request number bond price quantity dealer asked until = record {
   request = request;
   number = number;

@@ -240,7 +240,7 @@ type_value (out.Reject reject) = plain_value (codes "3") refl
 type_value (out.Request request) = plain_value (codes "R") refl
 type_value (out.ClosingNotice notice) = plain_value (codes "AJ") refl
 type_value (out.RequestRefused request bond reason) = plain_value (codes "AG") refl
-type_value (out.ShownQuote quote) = plain_value (codes "S") refl
+type_value (out.OfferedQuote quote) = plain_value (codes "S") refl
 type_value other = plain_value (codes "AI") refl
 
 module _ (head : Head) (message : OutMessage) (fields : List Field)

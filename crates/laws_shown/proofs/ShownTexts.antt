@@ -33,7 +33,7 @@ use Rattle.quote_messages.specs.Written.{price_tag, size_tag, written, written_f
 use Rattle.quote_messages.specs.declared.session_faults.SessionRejectReason.{SessionRejectReason}
 use Rattle.quote_messages.specs.declared.out_messages.Head.{Head}
 use Rattle.quote_messages.specs.declared.out_messages.OutMessage.TheVariants as out
-use Rattle.quote_messages.specs.declared.out_messages.ShownQuote.{ShownQuote}
+use Rattle.quote_messages.specs.declared.out_messages.OfferedQuote.{OfferedQuote}
 use Rattle.venue_rows.specs.Rows.{Configuration}
 use Rattle.investor_desk.specs.declared.standing.AcceptedRequest.{AcceptedRequest}
 use Rattle.investor_desk.specs.declared.standing.ShownOffer.{ShownOffer}
@@ -198,7 +198,7 @@ module _ (config : Configuration) (facts : List Fact) (head : Head)
     (offered : In shown (shown_to investor facts)) (own : AcceptedRequest)
     (same : own ≡ is.is_written.request) where
   -- the message
-  abbrev bears : ShownQuote
+  abbrev bears : OfferedQuote
   bears = record {
     request = own.id;
     number = shown.number;
@@ -211,7 +211,7 @@ module _ (config : Configuration) (facts : List Fact) (head : Head)
   }
 
   abbrev fields : List Field
-  fields = written_fields head (out.ShownQuote bears)
+  fields = written_fields head (out.OfferedQuote bears)
 
   says_quoted : ShowsWhatWasQuoted config facts investor fields
   says_quoted =
@@ -274,7 +274,7 @@ module _ (config : Configuration) (facts : List Fact) (head : Head)
       wrote.says.sender))
 
   pub quote_text : SaysWhenRead (codes "S") (ShowsWhatWasQuoted config facts investor)
-      (written head (out.ShownQuote (record {
+      (written head (out.OfferedQuote (record {
         request = own.id;
         number = shown.number;
         bond = own.ask.bond;
@@ -286,9 +286,9 @@ module _ (config : Configuration) (facts : List Fact) (head : Head)
       })))
   quote_text found read type_is =
       subst (ShowsWhatWasQuoted config facts investor)
-      (sym (fields_read head (out.ShownQuote bears) found read quoted_lawful)) says_quoted
+      (sym (fields_read head (out.OfferedQuote bears) found read quoted_lawful)) says_quoted
 
-  pub quote_beside : ShowsQuote config facts investor (written head (out.ShownQuote (record {
+  pub quote_beside : ShowsQuote config facts investor (written head (out.OfferedQuote (record {
     request = own.id;
     number = shown.number;
     bond = own.ask.bond;

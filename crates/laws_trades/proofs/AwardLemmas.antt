@@ -23,7 +23,7 @@ use Rattle.request_room.specs.Book.{event_facts, expired, hit_checks, others}
 use Rattle.request_room.specs.Book.{hit_outcome, hit_refusal}
 use Rattle.request_room.specs.Book.{hit_settled, is_expired, is_lift, is_past_deadline, may_expire}
 use Rattle.request_room.specs.Book.{may_unpost, passed}
-use Rattle.request_room.specs.Book.{quote_meant, quote_posted, where_so}
+use Rattle.request_room.specs.Book.{quote_meant, quote_posted, fact_if}
 use Rattle.request_room.specs.RoomFacts.{Ended, Noted, Opened, Posted, Readied, RoomFact, Unposted}
 use Rattle.request_room.specs.RoomFacts.{is_awarded_kind, is_ended, is_ready, opened_for}
 use Rattle.request_room.specs.RoomFacts.{is_open, is_opening, is_vacant, request_of, takes_quotes}
@@ -151,7 +151,7 @@ stays before Readied after more is = is
 stays before fact after more is = tt
 
 so_each : (b : Bool) (facts : List RoomFact) (fact : RoomFact) → AwardsInTime facts fact []
-    → Each AwardsInTime facts (where_so b fact)
+    → Each AwardsInTime facts (fact_if b fact)
 so_each true facts fact is = (is, tt)
 so_each false facts fact is = tt
 
@@ -160,7 +160,7 @@ and_first true other is = refl
 and_first false other is = is
 
 ready_each : (facts : List RoomFact) (b : Bool) → is_opening facts ≡ b
-    → Each AwardsInTime facts (where_so b Readied)
+    → Each AwardsInTime facts (fact_if b Readied)
 ready_each facts true opening = (
   and_first (is_some (request_of facts)) (not (is_ready facts))
       (and_first (is_some (request_of facts) && not (is_ready facts)) (not (is_ended facts)) opening),

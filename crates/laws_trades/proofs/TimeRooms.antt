@@ -13,7 +13,7 @@ use Rattle.venue_rows.specs.Rows.{Configuration}
 use Rattle.venue_steps.specs.RoomSteps.{close_for, dealers_of, hit_duties, reply_to_pass}
 use Rattle.venue_steps.specs.RoomSteps.{told_in}
 use Rattle.request_room.specs.Book.{award_of, end_by, expired, hit_outcome, hit_refusal, passed}
-use Rattle.request_room.specs.Book.{where_so}
+use Rattle.request_room.specs.Book.{fact_if}
 use Rattle.request_room.specs.Book as book
 use Rattle.request_room.specs.RoomFacts.{Ended, RoomFact, request_of}
 use Rattle.request_room.specs.declared.ends.End.{End}
@@ -36,7 +36,7 @@ module _ (config : Configuration) (facts : List Fact) where
   -- a fact that stands where a test holds
   pub so_timed : (now : List Fact) (room : RoomRef) (b : Bool) (fact : RoomFact)
       → FactTimed config now (InRoom room fact)
-      → Every (FactTimed config now) (map (InRoom room) (where_so b fact))
+      → Every (FactTimed config now) (map (InRoom room) (fact_if b fact))
   so_timed now room true fact is = (is, tt)
   so_timed now room false fact is = tt
 
@@ -44,7 +44,7 @@ module _ (config : Configuration) (facts : List Fact) where
   pub plain_room : (room : RoomRef) (b : Bool) (fact : RoomFact) (duties : List Duty)
       → ((now : List Fact) → FactTimed config now (InRoom room fact))
       → ((now : List Fact) → Every (DutyTimed config now) duties)
-      → Brings config facts (record { facts = map (InRoom room) (where_so b fact); duties = duties })
+      → Brings config facts (record { facts = map (InRoom room) (fact_if b fact); duties = duties })
   plain_room room true fact duties plain left = record {
     facts_are = (plain (facts ++ InRoom room fact ∷ []), tt);
     duties_are = left (facts ++ InRoom room fact ∷ []);

@@ -1,7 +1,7 @@
 -- What happens in a room, but for a hit, brings what stands of trades.
 use Rattle.laws_days.proofs.Common.{Bool, List, Option, Some, ℕ, [], if◌then◌else◌, map, refl}
 use Rattle.laws_days.proofs.Common.{subst, sym, true, false, ◌&&◌, ◌∷◌, ◌∙◌, ◌≡◌, nat_le, Ask}
-use Rattle.laws_days.proofs.Common.{Duty, ResponseRef, RoomRef, where_so, RoomFact, Posted}
+use Rattle.laws_days.proofs.Common.{Duty, ResponseRef, RoomRef, fact_if, RoomFact, Posted}
 use Rattle.laws_days.proofs.Common.{Opened, Ended, is_open, is_vacant}
 use Rattle.laws_days.proofs.Common.{request_of, End, where_follows, Effect, Configuration}
 use Rattle.laws_days.proofs.Common.{DealerRow, dealer_numbered, dealer_of, word_for, nothing, in_room}
@@ -50,12 +50,12 @@ offer_from config facts room dealer row quote price valid_until row_is within of
 module _ (h : Here) (room : RoomRef) where
   -- what a step in a room may do
   step_makes : (may b : Bool) (fact : RoomFact) (duties : List Duty)
-      → FactNow h (in_it h room (where_so b fact) duties) (InRoom room fact)
-      → Every (DutyNow h (in_it h room (where_so b fact) duties)) duties
-      → Makes h (if may then in_it h room (where_so b fact) duties else nothing)
+      → FactNow h (in_it h room (fact_if b fact) duties) (InRoom room fact)
+      → Every (DutyNow h (in_it h room (fact_if b fact) duties)) duties
+      → Makes h (if may then in_it h room (fact_if b fact) duties else nothing)
   step_makes may b fact duties is left =
-      when_makes h may (in_it h room (where_so b fact) duties) (λ test. record {
-        facts = room_facts h (in_it h room (where_so b fact) duties) room b fact is;
+      when_makes h may (in_it h room (fact_if b fact) duties) (λ test. record {
+        facts = room_facts h (in_it h room (fact_if b fact) duties) room b fact is;
         left = left;
       })
 
@@ -83,7 +83,7 @@ module _ (h : Here) (room : RoomRef) where
       let request : RoomRequest = record { ask = ask; dealers = dealers } in
       let vacant = is_vacant (known h room) in
       let duties = if vacant then shown_then_ready room ask dealers moment else [] in
-      let effect = in_it h room (where_so vacant (Opened request)) duties in
+      let effect = in_it h room (fact_if vacant (Opened request)) duties in
       step_makes _ vacant (Opened request) duties (λ now later. tt)
       (if_left h effect vacant (shown_then_ready room ask dealers moment)
       (every_both (DutyNow h effect) (map (λ dealer. duty.Show dealer room ask moment) dealers)
@@ -105,7 +105,7 @@ module _ (h : Here) (room : RoomRef) where
       let takes = takes_quotes (known h room) in
       let relay = duty.Relay room (offer_of h.config own quote price valid_until) moment in
       let relays = hears (known h room) who.dealer && takes in
-      let effect = in_it h room (where_so takes posted) (where_follows relays relay) in
+      let effect = in_it h room (fact_if takes posted) (where_follows relays relay) in
       step_makes _ takes posted (where_follows relays relay) (λ now later. tt)
       (where_left h effect relays relay (λ now later.
       let of = quotes now (to_now h effect later) in
@@ -129,7 +129,7 @@ module _ (h : Here) (room : RoomRef) where
   passed_makes response moment id_is =
       let is = is_open (known h room) in
       let duties = duties_of_pass (known h room) room response moment in
-      let effect = in_it h room (where_so is (Ended passed moment)) duties in
+      let effect = in_it h room (fact_if is (Ended passed moment)) duties in
       step_makes _ is (Ended passed moment) duties (λ now later. tt) (
         reply_left effect response moment is id_is,
         if_left h effect is _ (told_left effect passed moment),
@@ -141,6 +141,6 @@ module _ (h : Here) (room : RoomRef) where
       let is = may_expire (known h room) moment in
       let ends = duty.Close room moment ∷ told_in (known h room) room expired moment in
       let duties = if is then ends else [] in
-      let effect = in_it h room (where_so is (Ended expired moment)) duties in
+      let effect = in_it h room (fact_if is (Ended expired moment)) duties in
       step_makes _ is (Ended expired moment) duties (λ now later. tt)
       (if_left h effect is ends (λ now later. tt, told_left effect expired moment))

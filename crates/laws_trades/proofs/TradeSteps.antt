@@ -5,7 +5,7 @@ use Rattle.laws_days.proofs.Common.{map, option_to_list, refl, subst, true, fals
 use Rattle.laws_days.proofs.Common.{Duty, RoomRef, DealerFact, AtDesk, ShownIn, Sent}
 use Rattle.laws_days.proofs.Common.{Actor, Effect, Dealer, acting_dealer, dealer_of, done_by}
 use Rattle.laws_days.proofs.Common.{nothing, Every, every_both, every_weaker}
-use Rattle.laws_days.proofs.Common.{AtDealer, Fact, InRoom, RoomFact, where_so, where_follows}
+use Rattle.laws_days.proofs.Common.{AtDealer, Fact, InRoom, RoomFact, fact_if, where_follows}
 use Rattle.laws_days.proofs.VenueInvariant.{ByDealer}
 use Rattle.laws_days.proofs.VenueParts.{Still, did_in, duties_by, still_later}
 use Rattle.laws_days.proofs.VenueSteps.{Here, day, since}
@@ -99,7 +99,7 @@ module _ (h : Here) where
   -- what comes to stand in a room where a test holds
   pub room_facts : (effect : Effect) (room : RoomRef) (b : Bool) (fact : RoomFact)
       → FactNow h effect (InRoom room fact)
-      → Every (FactNow h effect) (map (InRoom room) (where_so b fact))
+      → Every (FactNow h effect) (map (InRoom room) (fact_if b fact))
   room_facts effect room true fact is = (is, tt)
   room_facts effect room false fact is = tt
 

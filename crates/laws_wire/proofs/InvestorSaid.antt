@@ -48,7 +48,7 @@ ComingGiven D (For what) = BroughtGiven D what
 -- and what is due by it
 abbrev pub DueGiven : (ℕ → Type 0) → InvestorDue → Type 0
 DueGiven D (due.Own moment message) = D moment
-DueGiven D (due.Quoted request dealer price valid_until moment) =
+DueGiven D (due.Offered request dealer price valid_until moment) =
     (IsGiven dealer × IfMoment D valid_until) × D moment
 DueGiven D (due.Gone request quote moment) = D moment
 DueGiven D (due.Declined request dealer moment) = IsGiven dealer × D moment
@@ -165,8 +165,8 @@ module _ (D : ℕ → Type 0) (of_day : (n : ℕ) → n < A_DAY → D n) (market
       → DeskGiven (after_due desk item)
   unfolding after_due coming_by
   due_given desk (due.Own moment message) is given = came desk (Own moment message) is given
-  due_given desk (due.Quoted request dealer price valid_until moment) is given =
-      came desk (coming_by (book_at desk) (due.Quoted request dealer price valid_until moment)) is
+  due_given desk (due.Offered request dealer price valid_until moment) is given =
+      came desk (coming_by (book_at desk) (due.Offered request dealer price valid_until moment)) is
       given
   due_given desk (due.Gone request quote moment) is given =
       came desk (For (to_investor.Gone request quote moment)) is given

@@ -19,7 +19,7 @@ use Rattle.quote_messages.specs.declared.out_messages.OutMessage.TheVariants as 
 use Rattle.quote_messages.specs.declared.out_messages.PassStatus.{PassStatus}
 use Rattle.quote_messages.specs.declared.out_messages.PassStatus.TheVariants as pass
 use Rattle.quote_messages.specs.declared.out_messages.QuotedPrice.{QuotedPrice}
-use Rattle.quote_messages.specs.declared.out_messages.ShownQuote.{ShownQuote}
+use Rattle.quote_messages.specs.declared.out_messages.OfferedQuote.{OfferedQuote}
 use Rattle.quote_messages.specs.declared.reject_reasons.QuoteRejectReason.{QuoteRejectReason}
 
 type_few : (found : Option (List ℕ)) → length (ref_msg_type found) ≤ 1
@@ -82,8 +82,8 @@ notice_few notice =
     more price in
     omega (arith, all)
 
-quote_few : (date : List ℕ) (quote : ShownQuote)
-    → length (body_fields date (out.ShownQuote quote)) ≤ 14
+quote_few : (date : List ℕ) (quote : OfferedQuote)
+    → length (body_fields date (out.OfferedQuote quote)) ≤ 14
 quote_few date quote =
     let until = valid_until_field date quote.valid_until in
     let kind : List Field = (537, codes "1") ∷ [] in
@@ -110,7 +110,7 @@ body_few date (out.DeclineReport request refusal) =
 body_few date (out.ClosingNotice notice) = notice_few notice
 body_few date (out.RequestAccepted request) = omega arith
 body_few date (out.RequestRefused request bond reason) = omega arith
-body_few date (out.ShownQuote quote) = quote_few date quote
+body_few date (out.OfferedQuote quote) = quote_few date quote
 body_few date (out.QuoteGone request quote) = omega arith
 body_few date (out.DealerDeclined request dealer) = omega arith
 body_few date (out.HitReport id request quote refusal) =

@@ -32,7 +32,7 @@ use Rattle.quote_messages.specs.declared.out_messages.PassStatus.{PassStatus}
 use Rattle.quote_messages.specs.declared.out_messages.PassStatus.TheVariants as pass
 use Rattle.quote_messages.specs.declared.out_messages.QuotedPrice.{QuotedPrice}
 use Rattle.quote_messages.specs.declared.out_messages.Reject.{Reject}
-use Rattle.quote_messages.specs.declared.out_messages.ShownQuote.{ShownQuote}
+use Rattle.quote_messages.specs.declared.out_messages.OfferedQuote.{OfferedQuote}
 use Rattle.quote_messages.specs.declared.reject_reasons.QuoteRejectReason.{QuoteRejectReason}
 use Rattle.quote_messages.specs.declared.reject_reasons.QuoteRejectReason.TheVariants.{TooLate}
 use Rattle.step_replay.specs.EachLemmas.{every_both, every_weaker}
@@ -70,7 +70,7 @@ MessageGiven D (out.ClosingNotice notice) =
     AskGiven D notice.request.ask × QuoteGiven notice.quote
 MessageGiven D (out.RequestAccepted request) = IsGiven request
 MessageGiven D (out.RequestRefused request bond reason) = IsGiven request × IsGiven bond
-MessageGiven D (out.ShownQuote quote) =
+MessageGiven D (out.OfferedQuote quote) =
     IsGiven quote.request × IsGiven quote.bond × IsGiven quote.dealer × IfMoment D quote.valid_until
 MessageGiven D (out.QuoteGone request quote) = IsGiven request
 MessageGiven D (out.DealerDeclined request dealer) = IsGiven request × IsGiven dealer
@@ -113,7 +113,7 @@ type_given (out.Reject reject) = refl
 type_given (out.Request request) = refl
 type_given (out.ClosingNotice notice) = refl
 type_given (out.RequestRefused request bond reason) = refl
-type_given (out.ShownQuote quote) = refl
+type_given (out.OfferedQuote quote) = refl
 type_given other = refl
 
 module _ (V : List ℕ → Type 0) (D : ℕ → Type 0) (date : List ℕ) (values : AreValues V D date)
@@ -242,8 +242,8 @@ module _ (V : List ℕ → Type 0) (D : ℕ → Type 0) (date : List ℕ) (value
           ),
         )
 
-    quote_so : (quote : ShownQuote) → MessageGiven D (out.ShownQuote quote)
-        → AreSo V false (body_fields date (out.ShownQuote quote))
+    quote_so : (quote : OfferedQuote) → MessageGiven D (out.OfferedQuote quote)
+        → AreSo V false (body_fields date (out.OfferedQuote quote))
     quote_so quote given =
         let until = valid_until_field date quote.valid_until in
         let kind : List Field = (537, codes "1") ∷ [] in
@@ -318,7 +318,7 @@ module _ (V : List ℕ → Type 0) (D : ℕ → Type 0) (date : List ℕ) (value
         ((refl, own (codes "1") refl), bond_so bond given.1),
       ),
     )
-    body_so (out.ShownQuote quote) given = quote_so quote given
+    body_so (out.OfferedQuote quote) given = quote_so quote given
     body_so (out.QuoteGone request quote) given = (
       (refl, own request given),
       (

@@ -260,7 +260,7 @@ sent_written config steps firm bytes sent =
 pub type_known : (message : OutMessage) → In (msg_type_of message) venue_types
 type_known (out.Reject reject) = inl refl
 type_known (out.Request request) = inr (inl refl)
-type_known (out.ShownQuote quote) = inr (inr (inl refl))
+type_known (out.OfferedQuote quote) = inr (inr (inl refl))
 type_known (out.RequestRefused request bond reason) = inr (inr (inr (inl refl)))
 type_known (out.ClosingNotice notice) = inr (inr (inr (inr (inr (inl refl)))))
 type_known other = inr (inr (inr (inr (inl refl))))
@@ -276,7 +276,7 @@ of_a_type bytes fields is read = (
 no_heartbeat : (message : OutMessage) → pointwise nat_eq (msg_type_of message) (codes "0") ≡ false
 no_heartbeat (out.Reject reject) = refl
 no_heartbeat (out.Request request) = refl
-no_heartbeat (out.ShownQuote quote) = refl
+no_heartbeat (out.OfferedQuote quote) = refl
 no_heartbeat (out.RequestRefused request bond reason) = refl
 no_heartbeat (out.ClosingNotice notice) = refl
 no_heartbeat other = refl

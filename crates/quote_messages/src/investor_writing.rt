@@ -3,7 +3,7 @@ ghost use Rattle.std.specs.Prelude.{◌≡◌, ◌+◌, ◌≤◌, [], ◌∷◌
 ghost use Rattle.fix_fields.specs.Frame.{left_of, IsValue};
 ghost use Rattle.quote_messages.specs.Written as spec;
 ghost use Rattle.quote_messages.specs.Written.{refused_request_fields, bond_fields, shown_terms};
-ghost use Rattle.quote_messages.specs.Written.{valid_until_field, shown_quote_fields, party_fields};
+ghost use Rattle.quote_messages.specs.Written.{valid_until_field, offered_quote_fields, party_fields};
 ghost use Rattle.quote_messages.specs.Written.{hit_status, pass_status};
 ghost use Rattle.quote_messages.specs.Room.{room_for_fields, room_behind_texts};
 
@@ -11,7 +11,7 @@ use crate::field_writing::{
     price_tag, price_value, put_bond, put_party, put_report_status, put_room_refusal, quote_name,
     size_tag,
 };
-use crate::{HitRefusal, Id, PassStatus, Quantity, RequestRejectReason, ShownQuote, Side};
+use crate::{HitRefusal, Id, OfferedQuote, PassStatus, Quantity, RequestRejectReason, Side};
 use bond_prices::Ticks;
 use fix_fields::{Date, FrameWriter, Memory, Moment, moment_bytes};
 use venue_rows::Name;
@@ -55,13 +55,13 @@ pub(crate) fn put_refused_request(
 }
 
 /// The fields of a quote as its investor is shown it.
-pub(crate) fn put_shown_quote(
+pub(crate) fn put_offered_quote(
     writer: &mut FrameWriter,
     date: &Date,
-    quote: &ShownQuote,
+    quote: &OfferedQuote,
 ) -> Result<(), Memory>
     requires { room_for_fields ≤ left_of writer.old }
-    ensures { OnOk result (writer.new ≡ writer.old ++ shown_quote_fields date.now quote.now) }
+    ensures { OnOk result (writer.new ≡ writer.old ++ offered_quote_fields date.now quote.now) }
 {
     writer.text(131, quote.request.as_bytes())?;
     writer.text(117, quote_name(quote.number).as_bytes())?;

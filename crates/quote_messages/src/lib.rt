@@ -84,8 +84,8 @@ pub use market_terms::{
 pub use messages::Message;
 pub use numbers::{read_long_number, read_number};
 pub use out_messages::{
-    CancelStatus, ClosingNotice, Head, OutMessage, PassStatus, QuotedPrice, Reject, Request,
-    ShownQuote,
+    CancelStatus, ClosingNotice, Head, OfferedQuote, OutMessage, PassStatus, QuotedPrice, Reject,
+    Request,
 };
 pub use parties::NamedDealers;
 pub use quantities::read_quantity;

@@ -69,7 +69,7 @@ pub enum OutMessage<'a> {
         reason: RequestRejectReason,
     },
     /// Quote (35=S): an investor is shown a quote.
-    ShownQuote(ShownQuote<'a>),
+    OfferedQuote(OfferedQuote<'a>),
     /// QuoteStatusReport (35=AI) with 297=17: an investor is told that a quote is gone.
     QuoteGone {
         /// QuoteReqID (131), the investor's.
@@ -137,7 +137,7 @@ impl<'a> OutMessage<'a> {
             OutMessage::Request(_) => b"R",
             OutMessage::ClosingNotice(_) => b"AJ",
             OutMessage::RequestRefused { .. } => b"AG",
-            OutMessage::ShownQuote(_) => b"S",
+            OutMessage::OfferedQuote(_) => b"S",
             _ => b"AI",
         }
     }
@@ -212,7 +212,7 @@ pub struct QuotedPrice {
 
 /// A quote as its investor is shown it. QuoteType (537) is 1, tradeable.
 #[derive(Drop)]
-pub struct ShownQuote<'a> {
+pub struct OfferedQuote<'a> {
     /// QuoteReqID (131), the investor's.
     pub request: Id<'a>,
     /// Which of the quotes shown to this investor it is, from 1: QuoteID (117) is `Q` and this

@@ -9,8 +9,8 @@ use crate::dealer_writing::{
 };
 use crate::field_writing::put_reject;
 use crate::investor_writing::{
-    put_dealer_declined, put_hit_report, put_pass_report, put_quote_gone, put_refused_request,
-    put_request_status, put_shown_quote, put_unknown_hit,
+    put_dealer_declined, put_hit_report, put_offered_quote, put_pass_report, put_quote_gone,
+    put_refused_request, put_request_status, put_unknown_hit,
 };
 use crate::{Head, OutMessage, SentMessage};
 use fix_fields::{Date, FrameWriter, Memory, moment_bytes};
@@ -52,7 +52,7 @@ fn put_body(writer: &mut FrameWriter, date: &Date, message: &OutMessage) -> Resu
             bond,
             reason,
         } => put_refused_request(writer, request, bond, *reason),
-        OutMessage::ShownQuote(quote) => put_shown_quote(writer, date, quote),
+        OutMessage::OfferedQuote(quote) => put_offered_quote(writer, date, quote),
         OutMessage::QuoteGone { request, quote } => put_quote_gone(writer, request, *quote),
         OutMessage::DealerDeclined { request, dealer } => {
             put_dealer_declined(writer, request, dealer)

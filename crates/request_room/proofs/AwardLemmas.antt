@@ -18,7 +18,7 @@ use Rattle.market_terms.specs.Checks.{first_refusal}
 use Rattle.request_room.specs.Book.{IsEndOf, book_of, stands, quote_meant, cover_for, cover_of}
 use Rattle.request_room.specs.Book.{is_past_deadline, is_expired, open_checks, hit_refusal}
 use Rattle.request_room.specs.Book.{hit_settled, award_of, is_lift, passed, expired, may_expire}
-use Rattle.request_room.specs.Book.{quote_posted, where_so, end_by, event_facts, after_event}
+use Rattle.request_room.specs.Book.{quote_posted, fact_if, end_by, event_facts, after_event}
 use Rattle.request_room.specs.Book.{room_after}
 use Rattle.request_room.proofs.FactLemmas.{said_append}
 use Rattle.request_room.proofs.CoverLemmas.{cover_is_another}
@@ -87,7 +87,7 @@ settled_lawfully None settlement award moment h = by_word (is_lift settlement) a
 
 -- Event by event.
 
-quiet : (so : Bool) (fact : RoomFact) → ended_as fact ≡ None → end_of (where_so so fact) ≡ None
+quiet : (so : Bool) (fact : RoomFact) → ended_as fact ≡ None → end_of (fact_if so fact) ≡ None
 quiet true fact h = ap (λ o. option_or o None) h
 quiet false fact h = refl
 
@@ -95,7 +95,7 @@ nothing_lawful : (facts : List RoomFact) → end_of facts ≡ None → IfSome (e
 nothing_lawful facts h = rw h tt
 
 ended_where : (so : Bool) (end : End) (moment : ℕ) → IsLawful end
-    → IfSome (end_of (where_so so (Ended end moment))) IsLawful
+    → IfSome (end_of (fact_if so (Ended end moment))) IsLawful
 ended_where true end moment lawful = lawful
 ended_where false end moment lawful = tt
 
@@ -103,18 +103,18 @@ adds_lawfully : (facts : List RoomFact) (event : RoomEvent)
     → IfSome (end_of (event_facts facts event)) IsLawful
 unfolding event_facts
 adds_lawfully facts (event.Open request) =
-    nothing_lawful (where_so (is_vacant facts) (Opened request))
+    nothing_lawful (fact_if (is_vacant facts) (Opened request))
     (quiet (is_vacant facts) (Opened request) refl)
 adds_lawfully facts event.Ready =
-    nothing_lawful (where_so (is_opening facts) Readied) (quiet (is_opening facts) Readied refl)
+    nothing_lawful (fact_if (is_opening facts) Readied) (quiet (is_opening facts) Readied refl)
 adds_lawfully facts (event.Post dealer w price until) =
-    nothing_lawful (where_so (takes_quotes facts) (Posted (quote_posted dealer w price until)))
+    nothing_lawful (fact_if (takes_quotes facts) (Posted (quote_posted dealer w price until)))
     (quiet (takes_quotes facts) (Posted (quote_posted dealer w price until)) refl)
 adds_lawfully facts (event.Unpost dealer w) =
     let so = takes_quotes facts && stands (book_of facts) dealer w in
-    nothing_lawful (where_so so (Unposted dealer w)) (quiet so (Unposted dealer w) refl)
+    nothing_lawful (fact_if so (Unposted dealer w)) (quiet so (Unposted dealer w) refl)
 adds_lawfully facts (event.Decline dealer) =
-    nothing_lawful (where_so (takes_quotes facts) (Noted dealer))
+    nothing_lawful (fact_if (takes_quotes facts) (Noted dealer))
     (quiet (takes_quotes facts) (Noted dealer) refl)
 adds_lawfully facts (event.Hit w moment settlement) =
     settled_lawfully (hit_refusal facts w moment) settlement (award_of facts w) moment

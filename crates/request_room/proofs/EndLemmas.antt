@@ -20,15 +20,15 @@ use Rattle.request_room.specs.RoomFacts.{request_of}
 use Rattle.market_terms.specs.Checks.{first_refusal}
 use Rattle.request_room.specs.Book.{book_of, stands, open_checks, hit_refusal, hit_settled}
 use Rattle.request_room.specs.Book.{award_of, may_expire, is_past_deadline, passed, expired}
-use Rattle.request_room.specs.Book.{quote_posted, where_so, end_by, event_facts, after_event}
+use Rattle.request_room.specs.Book.{quote_posted, fact_if, end_by, event_facts, after_event}
 use Rattle.request_room.specs.Book.{room_after}
 
 -- what does not hold together with the end
 closed_by : (b ended : Bool) → ended ≡ true → (b && not ended) ≡ false
 closed_by b ended h = ap (λ e. b && not e) h ∙ and-false b
 
-no_fact : (so : Bool) (fact : RoomFact) → so ≡ false → where_so so fact ≡ []
-no_fact so fact h = ap (λ b. where_so b fact) h
+no_fact : (so : Bool) (fact : RoomFact) → so ≡ false → fact_if so fact ≡ []
+no_fact so fact h = ap (λ b. fact_if b fact) h
 
 refused_first : (is_so : Bool) (checks : List (Bool × HitRefusal)) → is_so ≡ false
     → first_refusal ((not is_so, refusal.NotOpen) ∷ checks) ≡ Some refusal.NotOpen
@@ -95,7 +95,7 @@ no_end_yet (Unposted dealer w ∷ later) h = no_end_yet later h
 no_end_yet (Noted dealer ∷ later) h = no_end_yet later h
 no_end_yet (Ended end moment ∷ later) h = absurd (cc)
 
-one_where : (so : Bool) (fact : RoomFact) → length (where_so so fact) ≤ 1
+one_where : (so : Bool) (fact : RoomFact) → length (fact_if so fact) ≤ 1
 one_where true fact = omega arith
 one_where false fact = omega arith
 

@@ -16,7 +16,7 @@ use Rattle.request_room.specs.RoomFacts.{is_open, takes_quotes}
 use Rattle.market_terms.specs.Checks.{first_refusal}
 use Rattle.request_room.specs.Kept.{Keeps}
 use Rattle.request_room.specs.Book.{book_of, others, stands, hit_outcome, may_expire, passed}
-use Rattle.request_room.specs.Book.{expired, quote_posted, where_so, end_by, open_checks}
+use Rattle.request_room.specs.Book.{expired, quote_posted, fact_if, end_by, open_checks}
 use Rattle.request_room.specs.Book.{hit_refusal, hit_settled, award_of, event_facts, room_after}
 use Rattle.request_room.proofs.FactLemmas.{left_by}
 use Rattle.request_room.proofs.KeptFacts.{room_after_push, keeps_opened, keeps_readied}
@@ -45,11 +45,11 @@ pub open_has_no_end : (facts : List RoomFact) → is_open facts ≡ true → end
 open_has_no_end facts h =
     none_if_not (end_of facts) (and_right (is_ready facts) (not (is_some (end_of facts))) h)
 
-adds_one : (so : Bool) (fact : RoomFact) → so ≡ true → where_so so fact ≡ fact ∷ []
-adds_one so fact h = ap (λ b. where_so b fact) h
+adds_one : (so : Bool) (fact : RoomFact) → so ≡ true → fact_if so fact ≡ fact ∷ []
+adds_one so fact h = ap (λ b. fact_if b fact) h
 
-adds_none : (so : Bool) (fact : RoomFact) → so ≡ false → where_so so fact ≡ []
-adds_none so fact h = ap (λ b. where_so b fact) h
+adds_none : (so : Bool) (fact : RoomFact) → so ≡ false → fact_if so fact ≡ []
+adds_none so fact h = ap (λ b. fact_if b fact) h
 
 -- a hit that awards is taken by an open room
 pub refused_none : (refused : Option HitRefusal) (settlement : Option Settled) (award award' : End)
@@ -169,7 +169,7 @@ module _ (events : List RoomEvent) (request : Option RoomRequest) (ready : Bool)
 
   either_noted : (so : Bool) (dealer : ℕ) → takes_quotes (room_after events) ≡ so
       → Keeps (room_after events) request ready book end
-      → Keeps (room_after events ++ where_so so (Noted dealer)) request ready book end
+      → Keeps (room_after events ++ fact_if so (Noted dealer)) request ready book end
   either_noted true dealer h kept =
       keeps_noted (room_after events) request ready book end dealer kept
   either_noted false dealer h kept = rw (append-nil (room_after events)) kept
@@ -178,7 +178,7 @@ module _ (events : List RoomEvent) (request : Option RoomRequest) (ready : Bool)
       → Keeps (room_after (events ++ event.Decline dealer ∷ [])) request ready book end
   unfolding event_facts
   kept_decline dealer kept =
-      kept_after (event.Decline dealer) (where_so (takes_quotes (room_after events)) (Noted dealer))
+      kept_after (event.Decline dealer) (fact_if (takes_quotes (room_after events)) (Noted dealer))
       request ready book end refl (either_noted (takes_quotes (room_after events)) dealer refl kept)
 
   pub kept_pass : (moment : ℕ) → is_open (room_after events) ≡ true

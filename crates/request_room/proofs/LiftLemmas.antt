@@ -15,7 +15,7 @@ use Rattle.request_room.specs.RoomFacts.{RoomFact, Opened, Readied, Posted, Unpo
 use Rattle.request_room.specs.RoomFacts.{ended_as, end_of, is_open, is_vacant, is_opening}
 use Rattle.request_room.specs.RoomFacts.{takes_quotes}
 use Rattle.request_room.specs.Book.{book_of, stands, quote_meant, hit_refusal, hit_settled, award_of}
-use Rattle.request_room.specs.Book.{passed, expired, may_expire, quote_posted, where_so, end_by}
+use Rattle.request_room.specs.Book.{passed, expired, may_expire, quote_posted, fact_if, end_by}
 use Rattle.request_room.specs.Book.{event_facts, after_event, room_after}
 use Rattle.request_room.proofs.FactLemmas.{said_append}
 
@@ -66,12 +66,12 @@ settled_by_lift events facts w moment None None tried = tt
 -- Event by event.
 
 no_end : (events : List RoomEvent) (so : Bool) (fact : RoomFact) → ended_as fact ≡ None
-    → IfSome (end_of (where_so so fact)) (WonByLift events)
+    → IfSome (end_of (fact_if so fact)) (WonByLift events)
 no_end events true fact none = rw none tt
 no_end events false fact none = tt
 
 no_winner : (events : List RoomEvent) (so : Bool) (end : End) (moment : ℕ) → end.winner ≡ None
-    → IfSome (end_of (where_so so (Ended end moment))) (WonByLift events)
+    → IfSome (end_of (fact_if so (Ended end moment))) (WonByLift events)
 no_winner events true end moment none = rw none tt
 no_winner events false end moment none = tt
 

@@ -11,7 +11,7 @@ use Rattle.request_room.specs.RoomFacts.{end_of, ended_as, hears, is_ended, is_r
 use Rattle.request_room.specs.RoomFacts.{opened_for, request_of, takes_quotes}
 use Rattle.request_room.specs.Book.{award_of, book_of, end_by, event_facts, hit_outcome}
 use Rattle.request_room.specs.Book.{hit_question, hit_refusal, hit_settled, is_expired, is_lift}
-use Rattle.request_room.specs.Book.{quote_posted, takes_out, where_so, word_or}
+use Rattle.request_room.specs.Book.{quote_posted, takes_out, fact_if, word_or}
 use Rattle.request_room.specs.Unpriced.{uncovered, uncovered_end, unpriced, unpriced_event}
 use Rattle.request_room.specs.Unpriced.{unpriced_quote}
 use Rattle.request_room.specs.declared.ends.End.{End}
@@ -139,8 +139,8 @@ module _ (facts : List RoomFact) where
   kept_same (event.Post dealer word price until) = simp asked (posted (takes_quotes facts))
     where
       posted : (b : Bool)
-          → map unpriced (where_so b (Posted (quote_posted dealer word 0 until)))
-          ≡ map unpriced (where_so b (Posted (quote_posted dealer word price until)))
+          → map unpriced (fact_if b (Posted (quote_posted dealer word 0 until)))
+          ≡ map unpriced (fact_if b (Posted (quote_posted dealer word price until)))
       posted true = refl
       posted false = refl
   kept_same (event.Unpost dealer word) = simp asked_of_book

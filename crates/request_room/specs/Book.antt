@@ -188,9 +188,9 @@ quote_posted dealer w price until =
     record { dealer = dealer; word = w; price = price; valid_until = until }
 
 -- a fact that follows where a condition holds
-abbrev pub where_so : Bool → RoomFact → List RoomFact
-where_so true fact = fact ∷ []
-where_so false fact = []
+abbrev pub fact_if : Bool → RoomFact → List RoomFact
+fact_if true fact = fact ∷ []
+fact_if false fact = []
 
 -- the end that a hit leads to, where it awards
 abbrev pub end_by : Result End HitRefusal → ℕ → List RoomFact
@@ -200,17 +200,17 @@ end_by (Err refused) moment = []
 -- the fact that an event adds to those that stand, if it adds one: nothing else that is tried
 -- changes a room
 unfoldable pub event_facts : List RoomFact → RoomEvent → List RoomFact
-event_facts facts (event.Open request) = where_so (is_vacant facts) (Opened request)
-event_facts facts event.Ready = where_so (is_opening facts) Readied
+event_facts facts (event.Open request) = fact_if (is_vacant facts) (Opened request)
+event_facts facts event.Ready = fact_if (is_opening facts) Readied
 event_facts facts (event.Post dealer w price until) =
-    where_so (takes_quotes facts) (Posted (quote_posted dealer w price until))
+    fact_if (takes_quotes facts) (Posted (quote_posted dealer w price until))
 event_facts facts (event.Unpost dealer w) =
-    where_so (may_unpost facts dealer w) (Unposted dealer w)
-event_facts facts (event.Decline dealer) = where_so (takes_quotes facts) (Noted dealer)
+    fact_if (may_unpost facts dealer w) (Unposted dealer w)
+event_facts facts (event.Decline dealer) = fact_if (takes_quotes facts) (Noted dealer)
 event_facts facts (event.Hit w moment settlement) =
     end_by (hit_outcome facts w moment settlement) moment
-event_facts facts (event.Pass moment) = where_so (is_open facts) (Ended passed moment)
-event_facts facts (event.Expire moment) = where_so (may_expire facts moment) (Ended expired moment)
+event_facts facts (event.Pass moment) = fact_if (is_open facts) (Ended passed moment)
+event_facts facts (event.Expire moment) = fact_if (may_expire facts moment) (Ended expired moment)
 
 -- the facts after one event more
 abbrev pub after_event : List RoomFact → RoomEvent → List RoomFact

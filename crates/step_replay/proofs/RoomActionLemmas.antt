@@ -7,7 +7,7 @@ use Rattle.step_replay.proofs.Common.{Stands, Does, InvestorPlace, Floor}
 use Rattle.market_terms.specs.declared.duties.Duty.TheVariants as duty
 use Rattle.request_room.specs.RoomFacts.{Opened, Readied, is_vacant, is_opening, hears}
 use Rattle.request_room.specs.RoomFacts.{takes_quotes}
-use Rattle.request_room.specs.Book.{event_facts, where_so, may_unpost}
+use Rattle.request_room.specs.Book.{event_facts, fact_if, may_unpost}
 use Rattle.request_room.specs.declared.events.RoomEvent.TheVariants as at_room
 use Rattle.venue_steps.specs.Brought.{room_with, duties_in_room}
 use Rattle.venue_steps.specs.declared.arrivals.ForRoom.{ForRoom}
@@ -28,7 +28,7 @@ pushed events new event true is = ap room_after is ∙ after_more events event
 pushed events new event false is = ap room_after is ∙ sym (append-nil (room_after events))
 
 -- a fact that an event adds where it is so
-once : (b : Bool) (fact : RoomFact) → (if b then where_so b fact else []) ≡ where_so b fact
+once : (b : Bool) (fact : RoomFact) → (if b then fact_if b fact else []) ≡ fact_if b fact
 once b fact = grind arith
 
 never : {A : Type 0} → true ≡ false → A

@@ -7,9 +7,9 @@ use case_lines::{
 use fix_fields::{Memory, Moment};
 use market_terms::IdBuf;
 use quote_messages::{
-    CancelStatus, Close, ClosingNotice, Head, HitRefusal, Id, MsgType, OutMessage, PassStatus,
-    QuoteRejectReason, QuotedPrice, Reject, Request, RequestRejectReason, SentMessage, SeqNum,
-    SessionFault, SessionRejectReason, ShownQuote, write_out,
+    CancelStatus, Close, ClosingNotice, Head, HitRefusal, Id, MsgType, OfferedQuote, OutMessage,
+    PassStatus, QuoteRejectReason, QuotedPrice, Reject, Request, RequestRejectReason, SentMessage,
+    SeqNum, SessionFault, SessionRejectReason, write_out,
 };
 use std::alloc::Global;
 
@@ -179,7 +179,7 @@ fn longest_quote() -> Result<OutMessage<'static>, CaseFault> {
     let quantity = quantity_of(&mut words)?;
     let dealer = name_of(&mut words)?;
     let valid_until = Some(last_moment()?);
-    Ok(OutMessage::ShownQuote(ShownQuote {
+    Ok(OutMessage::OfferedQuote(OfferedQuote {
         request,
         number: u64::MAX,
         bond,

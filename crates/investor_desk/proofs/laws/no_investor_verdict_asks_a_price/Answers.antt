@@ -1,5 +1,5 @@
 use Rattle.investor_desk.proofs.UnpricedDesks.{book_same, kept_same, knows_same, verdict_same}
-use Rattle.investor_desk.proofs.laws.no_verdict_asks_a_price.Goals as goal
+use Rattle.investor_desk.proofs.laws.no_investor_verdict_asks_a_price.Goals as goal
 
 pub returns : goal.returns
 returns c = record {
