@@ -15,7 +15,7 @@
 //! `Steps`, `Visits` and `Written`.
 //!
 //! What a message says ([`Heard`] and its parts), [`Asked`], [`Front`] and [`Live`] are named here for
-//! the laws of `session_laws`: no caller needs them.
+//! the laws of `laws_sessions`: no caller needs them.
 #![tactic(auto)]
 
 mod accepting;

@@ -18,8 +18,8 @@ use venue_rows::Name;
 ///
 /// It ends at: the lines of what the investor sees, for which it is only tested; values that due
 /// text can't say: a message of no byte, a dealer that is named as the venue or its clock, and a
-/// number of more than nine digits. (`investor_due_laws::what_is_due_to_an_investor_can_be_said`:
-/// no day that lines spell has them.)
+/// number of more than nine digits. (`laws_dues::what_is_due_to_an_investor_can_be_said`: no
+/// day that lines spell has them.)
 pub fn what_was_due_to_an_investor_is_read_back(date: &Date, dues: &[InvestorDue])
     ensures { list_all spec.is_sayable dues.now ≡ true → spec.AreReadBack date.now dues.now }
 {

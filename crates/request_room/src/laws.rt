@@ -31,7 +31,7 @@ pub fn an_ended_room_changes_no_more()
 /// (`ends`), and is awarded at most once (`awards`).
 ///
 /// It ends at: that a venue has one room for a request: a definition says so (`RoomRef`).
-/// (`laws_answers::an_award_is_in_time` says of the venue's facts that a room that was awarded was
+/// (`laws_trades::an_award_is_in_time` says of the venue's facts that a room that was awarded was
 /// open.)
 pub fn a_room_ends_once()
     ensures ends { (events : List RoomEvent) → length (filter is_ending (room_after events)) ≤ 1 }
@@ -44,7 +44,7 @@ pub fn a_room_ends_once()
 /// No other's quote is better, and each other's that was posted earlier is worse.
 ///
 /// It ends at: that the cover of an award is that of its room's book.
-/// (`laws_answers::an_award_names_the_best_cover` says it.)
+/// (`laws_trades::an_award_names_the_best_cover` says it.)
 pub fn the_cover_is_the_best_other_quote()
     ensures best { (side : Side) (winner : ℕ) (book : List PostedQuote)
         → IfSome (cover_of side winner book) (λ cover. IsBest side (others winner book) cover) }

@@ -70,7 +70,7 @@
 //! - [`actions_do_what_comes_by_the_table`]: what a duty or a sweep does is what comes by the
 //!   market's table (`venue_steps`) to the one place that it gives.
 //!
-//! More laws of the definition stand in the crate `venue_laws`; what they need of the proofs here is
+//! More laws of the definition stand in the crate `laws_days`; what they need of the proofs here is
 //! in `specs`, in the files named `..Lemmas`.
 #![tactic(auto)]
 

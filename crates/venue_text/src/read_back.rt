@@ -17,7 +17,7 @@ use step_replay::Due;
 ///
 /// It ends at: values that due text can't say: a message of no byte, a request of a firm that is
 /// named as the venue or its clock, and a number of more than nine digits.
-/// (`due_laws::what_is_due_can_be_said`: no day that lines spell has them.)
+/// (`laws_dues::what_is_due_can_be_said`: no day that lines spell has them.)
 pub fn what_was_due_is_read_back(date: &Date, dues: &[Due])
     ensures list { list_all spec.is_sayable dues.now ≡ true
         → spec.AreReadBack date.now dues.now }
