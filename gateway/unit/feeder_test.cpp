@@ -1,5 +1,6 @@
 // Tests what feeds the venue: the log from its begin, entries as they are committed, a process that
-// reads nothing for a while, a broken chain, how much is kept, and how a process ends.
+// reads nothing for a while, a broken chain, what somebody has written into the database, how much
+// is kept, and how a process ends.
 #define DOCTEST_CONFIG_IMPLEMENT_WITH_MAIN
 #include <doctest/doctest.h>
 
@@ -28,10 +29,19 @@ Entry behind(const Entry &before) {
     return entry;
 }
 
-// A log, and what a process has to be given of it.
+// Whoever may write to the database, and has no key, makes its hash right.
+Entry forged(Entry entry) {
+    entry.line = fmt::format("fake {} {}", entry.place, std::string(200, 'y'));
+    entry.hash = hash_of(entry);
+    return entry;
+}
+
+// A log, and what a process has to be given of it. The database may have another entry than the
+// log in the place of its last one.
 class Source {
   public:
-    explicit Source(const std::string &file) : database_(open_sqlite(file)), entry_feed_(old) {
+    explicit Source(const std::string &file, bool is_last_forged = false)
+        : database_(open_sqlite(file)), entry_feed_(old) {
         last_.line = "day";
         last_.hash = hash_of(last_);
         first_hash_ = last_.hash;
@@ -39,6 +49,9 @@ class Source {
         batch.entries.push_back(last_);
         for (std::uint32_t count = 0; count < old; ++count) {
             batch.entries.push_back(next());
+        }
+        if (is_last_forged) {
+            batch.entries.back() = forged(batch.entries.back());
         }
         database_->writer()->commit(batch);
     }
@@ -49,6 +62,12 @@ class Source {
             entries.push_back({next(), {}});
         }
         entry_feed_.put(entries);
+    }
+    // In the database alone.
+    void forge_next() {
+        Batch batch;
+        batch.entries.push_back(forged(behind(last_)));
+        database_->writer()->commit(batch);
     }
     // An entry that does not follow on the last one.
     void put_stranger() {
@@ -120,6 +139,34 @@ void a_broken_chain(const std::string &file) {
     check(fault.find(fmt::format("entry {}", old + 1)) != std::string::npos, "told: " + fault);
 }
 
+// It stands behind the last entry of the log as its gateway has it, which comes only then.
+void an_entry_put_behind(const std::string &file) {
+    Source source(file);
+    source.forge_next();
+    Process process({"cat"});
+    Feeder feeder(process, source.log(), "head\n", [](const std::vector<LoggedEntry> &) {});
+    std::string came = read_some(process, source.text().size());
+    source.put(1);
+    came += read_some(process, source.text().size() - came.size());
+    check(came == source.text(), "the process was given something else");
+    same<std::string>("", feeder.end(), "a fault");
+}
+
+// The entries that are kept say which one has to stand in front of them.
+void an_entry_put_in_front(const std::string &file) {
+    Source source(file, true);
+    source.put(3);
+    Process process({"cat"});
+    Feeder feeder(process, source.log(), "head\n", [](const std::vector<LoggedEntry> &) {});
+    std::string came;
+    for (std::string some = process.read_output(); !some.empty(); some = process.read_output()) {
+        came += some;
+    }
+    check(came.find("fake") == std::string::npos, "an entry was fed that the log has not");
+    const std::string fault = feeder.end();
+    check(fault.find(fmt::format("entry {}", old + 1)) != std::string::npos, "told: " + fault);
+}
+
 // Of long lines few are kept: a slower venue reads them from the database.
 TEST_CASE("kept by their bytes") {
     EntryFeed feed(0);
@@ -165,6 +212,16 @@ TEST_CASE("fed as it comes") {
 TEST_CASE("a broken chain") {
     const Scratch folder("feeder");
     a_broken_chain(folder.path() / "day.db");
+}
+
+TEST_CASE("an entry put behind") {
+    const Scratch folder("feeder");
+    an_entry_put_behind(folder.path() / "day.db");
+}
+
+TEST_CASE("an entry put in front") {
+    const Scratch folder("feeder");
+    an_entry_put_in_front(folder.path() / "day.db");
 }
 
 } // namespace

@@ -74,6 +74,18 @@ class Intruder:
         )
         return row[0]
 
+    def chain_anew(self, first: int) -> None:
+        """Makes the hashes of all entries from a place on as they should be."""
+        ((before,),) = self.rows("SELECT HEX(hash) FROM entry WHERE place = %d" % (first - 1))
+        query = "SELECT %s, HEX(line) FROM entry WHERE place >= %d ORDER BY place"
+        for row in self.rows(query % (COLUMNS, first)):
+            line = bytes.fromhex(row.pop())
+            text = " ".join([before.lower(), *row, str(len(line))]).encode() + b"\n" + line
+            now = hashlib.sha256(text).digest()
+            change = "UPDATE entry SET before = %s, hash = %s WHERE place = %s"
+            self.rows(change % (self.literal(bytes.fromhex(before)), self.literal(now), row[0]))
+            before = now.hex()
+
     def put_seal(self, place: int) -> None:
         """A seal for it, whose bytes nobody without the secret can know."""
         self.rows(

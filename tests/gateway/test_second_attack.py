@@ -1,5 +1,5 @@
 """What somebody who knows the gateway's code tried against it: as a firm with a password, at a bad moment of an operator, by
-writing to the log while no gateway runs, and from a browser's page of another origin."""
+writing to the log while no gateway runs and while one does, and from a browser's page of another origin."""
 
 import re
 import socket
@@ -16,7 +16,7 @@ from tests.admin.test_orders import quoted, request_fields
 from tests.gateway.firm import Received
 from tests.gateway.market import moment_in
 from tests.gateway.stage import DEALER, INVESTOR, Stage, check
-from tests.gateway.test_seals import Intruder
+from tests.gateway.test_seals import Intruder, hit_of
 from tests.gateway.wait import LONG, until, within
 from tests.gateway.wire import Fields, Wire, framed
 from tests.limits.flood import cancel, logged_on
@@ -271,6 +271,45 @@ def test_a_resend_asks_no_database(stage_of_log: Stage) -> None:
             [message.value(1181) for message in sent_again(dealer)] == before,
             "the dealer is sent something else",
         )
+
+
+def an_act_becomes_a_hit(stage: Stage, quote: bytes) -> None:
+    """An operator's act, in the database alone: it becomes the investor's hit of a quote, and all hashes behind it are made anew."""
+    ledger, intruder = stage.door.ledger(), Intruder(stage.door)
+    (act,) = [each for each in ledger.entries if each.line.startswith(b"# act ")]
+    moment = act.line.split()[2]
+    message = hit_of(stage, quote, moment.decode())
+    line = b"hex INV1 %s %s" % (moment, message.hex().upper().encode())
+    query = "SELECT max(number) + 1, max(connection) FROM entry WHERE firm = 'INV1'"
+    ((number, connection),) = intruder.rows(query)
+    change = "firm = 'INV1', number = %s, connection = %s, line = %s"
+    change %= (number, connection, intruder.literal(line))
+    intruder.rows("UPDATE entry SET %s WHERE place = %d" % (change, act.place))
+    intruder.chain_anew(act.place)
+
+
+def test_a_venue_that_is_fed_again(stage_of_log: Stage) -> None:
+    """Somebody who writes to the database of a running gateway puts a hit there, before the venue ends and is fed again: no firm is
+    told of a trade, and the gateway ends."""
+    stage = stage_of_log
+    stage.door.operators = ""
+    stage.open()
+    with logged_on(stage, DEALER) as dealer, logged_on(stage, INVESTOR) as investor:
+        asked(dealer, investor)
+        quoted(dealer, b"q1")
+        quote = investor.got(b"S").given(117)
+        did(stage, "limit", "DLR2", "messages_burst=500")
+        number = dealer.number
+    check(stage.door.stop() == 0, "the gateway does not end well")
+    stage.door.start()
+    stage.door.wait_open()
+    with logged_on(stage, DEALER, number=number) as dealer:
+        an_act_becomes_a_hit(stage, quote)
+        check(stage.door.kill_venue(), "there is no venue")
+        notice = dealer.read_kind(b"AJ")
+        check(notice is None, "the dealer is told %r" % notice)
+    check(stage.door.wait_end() == 1, "the gateway ends otherwise")
+    check("does not follow on entry" in stage.door.last_words(), stage.door.last_words())
 
 
 def test_what_was_not_taken_is_not_asked_for(stage: Stage) -> None:

@@ -86,6 +86,15 @@ std::optional<std::vector<LoggedEntry>> EntryFeed::from(std::uint32_t place) {
     return std::vector<LoggedEntry>(first, recent_.end());
 }
 
+EntryFeed::End EntryFeed::end_of_others() {
+    const std::lock_guard lock(mutex_);
+    if (recent_.empty()) {
+        return {last_place_, std::nullopt};
+    }
+    const Entry &first = recent_.front().entry;
+    return {first.place - 1, first.before};
+}
+
 std::uint32_t EntryFeed::last_place() {
     const std::lock_guard lock(mutex_);
     return last_place_;

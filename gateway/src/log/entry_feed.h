@@ -55,6 +55,14 @@ class EntryFeed {
     // The entries from a place on: none where they are still to come, nothing where they are in the
     // database alone.
     std::optional<std::vector<LoggedEntry>> from(std::uint32_t place);
+    // How far the database alone has them: up to the place in front of the first that is kept, or
+    // the last one where none is. The hash there, where one is kept behind it: what else stands in
+    // the database is no entry of this log.
+    struct End {
+        std::uint32_t place = 0;
+        std::optional<Digest> hash{};
+    };
+    End end_of_others();
     std::uint32_t last_place();
     bool is_closed();
 

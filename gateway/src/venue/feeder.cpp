@@ -1,5 +1,6 @@
 #include "venue/feeder.h"
 
+#include <algorithm>
 #include <stdexcept>
 #include <utility>
 
@@ -61,15 +62,8 @@ bool Feeder::wait_for_entries(const std::stop_token &stop) {
 }
 
 std::vector<LoggedEntry> Feeder::next_entries(ReconnectingReader &reader) {
-    std::vector<LoggedEntry> entries;
-    if (auto recent = entry_feed_.from(next_)) {
-        entries = std::move(*recent);
-    } else {
-        for (Entry &entry :
-             reader.ask([this](LogReader &log) { return log.entries(next_, chunk); })) {
-            entries.push_back({std::move(entry), std::chrono::steady_clock::now()});
-        }
-    }
+    auto recent = entry_feed_.from(next_);
+    std::vector<LoggedEntry> entries = recent ? std::move(*recent) : read_entries(reader);
     if (entries.empty()) {
         throw std::runtime_error(fmt::format("the log has no entry {}", next_));
     }
@@ -78,6 +72,23 @@ std::vector<LoggedEntry> Feeder::next_entries(ReconnectingReader &reader) {
     for (const LoggedEntry &logged : entries) {
         check_link(logged.entry, place++, before);
         before = logged.entry.hash;
+    }
+    return entries;
+}
+
+// Of the database, and no entry of those that are kept: somebody may have written there. The last
+// piece has to end with the hash that these follow on, before anything of it is fed.
+std::vector<LoggedEntry> Feeder::read_entries(ReconnectingReader &reader) {
+    const EntryFeed::End end = entry_feed_.end_of_others();
+    const std::uint32_t most = std::min(chunk, end.place + 1 - next_);
+    std::vector<LoggedEntry> entries;
+    for (Entry &entry : reader.ask([&](LogReader &log) { return log.entries(next_, most); })) {
+        entries.push_back({std::move(entry), std::chrono::steady_clock::now()});
+    }
+    const Entry *const last = entries.empty() ? nullptr : &entries.back().entry;
+    if (end.hash && last != nullptr && last->place == end.place && last->hash != *end.hash) {
+        throw std::runtime_error(fmt::format("entry {} does not follow on entry {} as it is now",
+                                             end.place + 1, end.place));
     }
     return entries;
 }

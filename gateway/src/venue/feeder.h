@@ -47,6 +47,7 @@ class Feeder final : private EntryFeed::Reader {
     // False where nothing is to be fed any more.
     bool wait_for_entries(const std::stop_token &stop);
     std::vector<LoggedEntry> next_entries(ReconnectingReader &reader);
+    std::vector<LoggedEntry> read_entries(ReconnectingReader &reader);
     // The lines of the entries, which are fed from now on.
     std::string lines_of(std::vector<LoggedEntry> entries);
 
