@@ -1,5 +1,5 @@
-// A venue's day whose process ends between the gateway's start and the first session, and one whose
-// program does not say what it is.
+// A venue's day whose process ends between the gateway's start and the first session, one whose
+// process gives more when it is started again, and one whose program does not say what it is.
 #define DOCTEST_CONFIG_IMPLEMENT_WITH_MAIN
 #include <doctest/doctest.h>
 
@@ -26,8 +26,9 @@ namespace {
 
 using namespace std::chrono_literals;
 
-// Answers each of the first nine messages of F, as the venue does. It puts its number down when it
-// starts, and is slow to begin from the second time on.
+// Answers each of the first nine messages of F, as the venue does; once more where the file `more`
+// stands there. It puts its number down when it starts, and is slow to begin from the second time
+// on.
 constexpr const char *venue_text = R"sh(
 echo $$ >> "$1/starts"
 [ "$(wc -l < "$1/starts")" = 1 ] || sleep 1
@@ -37,9 +38,11 @@ while IFS= read -r line; do
     case $begun$line in
     %%) begun=+ ;;
     +hex*)
-        given=$((given + 1))
-        body="35=AI|49=VENUE|56=F|34=$given|52=20250314-09:00:00.000|297=9"
-        printf 'F 8=FIXT.1.1|9=56|%s|10=%03d|\n' "$body" "$(((74 + given) % 256))"
+        for each in once $([ ! -e "$1/more" ] || echo again); do
+            given=$((given + 1))
+            body="35=AI|49=VENUE|56=F|34=$given|52=20250314-09:00:00.000|297=9"
+            printf 'F 8=FIXT.1.1|9=56|%s|10=%03d|\n' "$body" "$(((74 + given) % 256))"
+        done
         echo "done $lines"
         ;;
     +*) echo "done $lines" ;;
@@ -129,6 +132,30 @@ void given_again_before_sessions(const std::filesystem::path &folder) {
     check(!status.failure(), status.failure().value_or(""));
 }
 
+// Somebody has changed the log's database meanwhile, or the program is another: a firm is told
+// nothing of it.
+void more_than_before(const std::filesystem::path &folder) {
+    const Config config = config_of(folder);
+    put_message(config);
+    Metrics metrics;
+    const auto events = std::make_shared<spdlog::logger>("none");
+    Status status(events);
+    OperatorEvents told(metrics, events);
+    Engine engine(config.engine, {}, told);
+    VenueDay day(config, metrics, status, events, told);
+    const auto leader = begin_term(day, engine, [] { return true; });
+    engine.add(leader->session_starts());
+    leader->start();
+    std::ofstream(folder / "more") << "";
+    end_venue(folder);
+    const auto latest = std::chrono::steady_clock::now() + 60s;
+    while (!status.failure() && std::chrono::steady_clock::now() < latest) {
+        std::this_thread::sleep_for(10ms);
+    }
+    same<std::string>("the venue gives F message 2 for entry 1, which it has answered without it",
+                      status.failure().value_or("nothing"), "what it fails by");
+}
+
 // A program that does anything but end where it is asked for its version: the day begins all the
 // same.
 void begun_without_a_version(const std::filesystem::path &folder) {
@@ -152,6 +179,13 @@ TEST_CASE("given again before sessions") {
     std::signal(SIGPIPE, SIG_IGN);
     const Scratch folder("venue_day");
     given_again_before_sessions(folder.path());
+}
+
+TEST_CASE("more than before") {
+    // As the gateway does: the venue may end while it is fed.
+    std::signal(SIGPIPE, SIG_IGN);
+    const Scratch folder("venue_day");
+    more_than_before(folder.path());
 }
 
 TEST_CASE("begun without a version") {

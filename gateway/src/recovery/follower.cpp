@@ -212,6 +212,7 @@ void Follower::venue_gave(const AnsweredEntry &entry, std::string name, std::str
         message.frame = frame;
         message.told = told;
     }
+    check_is_due(name, message);
     const auto hash = day_.spool.give(name, message);
     if (!hash || sink == nullptr) {
         return;
@@ -245,6 +246,17 @@ void Follower::venue_answered(std::uint32_t place, std::optional<Moment> deadlin
     progress_.put(place, deadline);
     if (MessageSink *const sink = sink_) {
         sink->answered(place);
+    }
+}
+
+// For what was answered before, a process that was started again gives nothing more: the log was
+// changed meanwhile, or the program, and no firm is told of it.
+void Follower::check_is_due(const std::string &firm, const GivenMessage &message) const {
+    if (message.place <= answered_ && message.number > day_.spool.last_given(firm)) {
+        throw std::runtime_error(
+            fmt::format("the venue gives {} message {} for entry {}, which it has answered "
+                        "without it",
+                        firm, message.number, message.place));
     }
 }
 

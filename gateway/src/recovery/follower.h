@@ -75,6 +75,7 @@ class Follower final : private VenueListener {
     bool may_take_over();
     bool read_on(LogReader &log);
     std::optional<ReplaySummary> all_answered(LogWriter &writer);
+    void check_is_due(const std::string &firm, const GivenMessage &message) const;
     void check_given(std::uint32_t place) const;
 
     // VenueListener
