@@ -307,6 +307,55 @@ void nothing_kept(const fs::path &folder, const std::string &connection) {
     same<std::string>("", start(place), "the file as it was");
 }
 
+// A database that gives each question what it likes: a log that ends at a seal, and all of it to
+// whoever looks whether what was signed last is there.
+class CutForMost final : public LogReader {
+  public:
+    CutForMost(LogReader &whole, std::uint32_t seal)
+        : whole_(whole), end_(whole.seals(seal, 1).at(0).at) {}
+
+    std::vector<Entry> entries(std::uint32_t from, std::uint32_t limit) override {
+        return whole_.entries(from, limit == 1 ? 1 : std::min(limit, end_.place + 1 - from));
+    }
+    std::optional<Entry> last_entry() override { return whole_.entries(end_.place, 1).at(0); }
+    std::vector<ConnectionEvent> connection_events(std::uint32_t from,
+                                                   std::uint32_t limit) override {
+        return whole_.connection_events(from, std::min(limit, end_.event + 1 - from));
+    }
+    std::optional<ConnectionEvent> last_connection() override {
+        return whole_.connection_events(end_.event, 1).at(0);
+    }
+    std::vector<Seal> seals(std::uint32_t from, std::uint32_t limit) override {
+        return whole_.seals(from, std::min(limit, end_.seal + 1 - from));
+    }
+    std::uint32_t count_checkpoints() override { return whole_.count_checkpoints(); }
+    std::optional<Checkpoint> last_checkpoint() override { return whole_.last_checkpoint(); }
+    std::optional<Checkpoint> checkpoint(std::uint32_t number) override {
+        return whole_.checkpoint(number);
+    }
+
+  private:
+    LogReader &whole_;
+    const Position end_;
+};
+
+void two_faced(const fs::path &folder) {
+    const Place place(folder / "sealed_days", "");
+    write_day(place, 5);
+    const auto database = place.open();
+    const auto whole = database->reader();
+    CutForMost cut(*whole, 4);
+    LogGuard guard = guard_at(place);
+    std::string words = "nothing";
+    try {
+        guard.check_found(cut);
+        guard.check_end(cut, cut.last_entry().value());
+    } catch (const LogNotAccepted &fault) {
+        words = fault.what();
+    }
+    told(words, "it was cut off, or is an old backup", "a log that is cut for most");
+}
+
 // A gateway that follows has no file yet, and takes what the one that speaks has signed since; what
 // was signed before, under another number, is no sign of it.
 void one_that_follows(const fs::path &folder, const std::string &connection) {
@@ -560,6 +609,11 @@ TEST_CASE("what is lost is accepted") {
 TEST_CASE("nothing kept") {
     const Scratch folder("seal");
     nothing_kept(folder.path(), connection());
+}
+
+TEST_CASE("two-faced") {
+    const Scratch folder("seal");
+    two_faced(folder.path());
 }
 
 TEST_CASE("one that follows") {

@@ -68,6 +68,7 @@ void LogGuard::check_found(LogReader &log) {
     const auto kept = file_.read();
     was_kept_ = kept.has_value();
     if (kept) {
+        read_on(log); // a gateway that has the same folder may have gone on meanwhile
         check_kept(log, *kept);
     }
 }
@@ -82,19 +83,32 @@ void LogGuard::check_kept(LogReader &log, const Checkpoint &kept) {
                 ? fmt::format("the log ends at entry {}: it was cut off, or is an old backup", end)
                 : fmt::format("entry {} is another one: the log is not the same", kept.at.place));
     }
+    // By the seals, which were verified one behind the other: what a database answers here it need
+    // not answer elsewhere.
+    if (kept.at.seal > sealed_.at.seal) {
+        not_whole(
+            log, kept,
+            fmt::format("the log is sealed up to entry {} alone: it was cut off, or is an old "
+                        "backup",
+                        column_of_place(sealed_.at.place)));
+    }
     if (kept.number == 0) {
         return; // of a begin, or of a loss that an operator has accepted
     }
     const auto row = log.checkpoint(kept.number);
     if (!row || *row != kept) {
-        // Where a seal was taken out, nothing is for an operator to accept.
-        if (const auto last = log.last_entry()) {
-            check_sealed(log, *last);
-        }
-        not_accepted(kept, fmt::format("checkpoint {} is {}: the log was cut off, or is an old "
-                                       "backup",
-                                       kept.number, row ? "another one" : "not there"));
+        not_whole(log, kept,
+                  fmt::format("checkpoint {} is {}: the log was cut off, or is an old backup",
+                              kept.number, row ? "another one" : "not there"));
     }
+}
+
+// Where a seal was taken out, nothing is for an operator to accept.
+void LogGuard::not_whole(LogReader &log, const Checkpoint &kept, const std::string &what) {
+    if (const auto last = log.last_entry()) {
+        check_sealed(log, *last);
+    }
+    not_accepted(kept, what);
 }
 
 void LogGuard::not_accepted(const Checkpoint &kept, const std::string &what) const {

@@ -76,6 +76,7 @@ class LogGuard {
     void keep_last(LogReader &log);
     void check_sealed(LogReader &log, const Entry &last);
     void check_kept(LogReader &log, const Checkpoint &kept);
+    [[noreturn]] void not_whole(LogReader &log, const Checkpoint &kept, const std::string &what);
     [[noreturn]] void not_accepted(const Checkpoint &kept, const std::string &what) const;
     std::string way_out() const;
 
