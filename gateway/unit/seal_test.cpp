@@ -242,6 +242,12 @@ const std::vector<Act> &acts() {
              return "DELETE FROM checkpoint WHERE number = (SELECT max(number) FROM checkpoint);";
          },
          "is not there: the log was cut off, or is an old backup"},
+        {"a checkpoint put in",
+         [](const Place &) {
+             return "INSERT INTO checkpoint SELECT number + 1, term, place, event, seal, is_end, "
+                    "signature FROM checkpoint ORDER BY number DESC LIMIT 1;";
+         },
+         "has the signature of none of the log's gateways"},
         {"the last checkpoint is no end any more",
          [](const Place &) { return "UPDATE checkpoint SET is_end = 0;"; },
          "is another one: the log was cut off, or is an old backup"},

@@ -71,6 +71,7 @@ void LogGuard::check_found(LogReader &log) {
         read_on(log); // a gateway that has the same folder may have gone on meanwhile
         check_kept(log, *kept);
     }
+    check_signed(signed_);
 }
 
 void LogGuard::check_kept(LogReader &log, const Checkpoint &kept) {
@@ -155,14 +156,19 @@ void LogGuard::keep_last(LogReader &log) {
     if (!last || last->number <= signed_.number) {
         return;
     }
-    if (!sealer_.is_signed(*last)) {
-        throw std::runtime_error(
-            fmt::format("checkpoint {} at entry {} has the signature of none of the log's gateways",
-                        last->number, last->at.place));
-    }
+    check_signed(*last);
     file_.write(*last);
     signed_ = *last;
     was_kept_ = true;
+}
+
+// The next one names it, and has the number behind it.
+void LogGuard::check_signed(const Checkpoint &checkpoint) const {
+    if (checkpoint.number != 0 && !sealer_.is_signed(checkpoint)) {
+        throw std::runtime_error(
+            fmt::format("checkpoint {} at entry {} has the signature of none of the log's gateways",
+                        checkpoint.number, checkpoint.at.place));
+    }
 }
 
 void LogGuard::check_end(LogReader &log, const Entry &last) {
@@ -235,6 +241,7 @@ std::string LogGuard::accept(LogReader &log, const std::function<void(const Entr
     if (last) {
         check_sealed(log, *last);
     }
+    check_signed(signed_);
     was_kept_ = false;
     commit(last.value_or(Entry{}));
     read_on(log);

@@ -74,6 +74,7 @@ class LogGuard {
   private:
     [[noreturn]] void tell_change(LogReader &log, const Seal &wrong);
     void keep_last(LogReader &log);
+    void check_signed(const Checkpoint &checkpoint) const;
     void check_sealed(LogReader &log, const Entry &last);
     void check_kept(LogReader &log, const Checkpoint &kept);
     [[noreturn]] void not_whole(LogReader &log, const Checkpoint &kept, const std::string &what);
