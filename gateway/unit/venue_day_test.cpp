@@ -1,9 +1,11 @@
 // A venue's day whose process ends between the gateway's start and the first session, one whose
-// process gives more when it is started again, and one whose program does not say what it is.
+// process gives more when it is started again, one whose program does not say what it is, and one
+// whose first entry somebody has written over.
 #define DOCTEST_CONFIG_IMPLEMENT_WITH_MAIN
 #include <doctest/doctest.h>
 
 #include "check.h"
+#include "common/frame.h"
 #include "common/password.h"
 #include "config/log_location.h"
 #include "day/begin_term.h"
@@ -174,6 +176,53 @@ void begun_without_a_version(const std::filesystem::path &folder) {
     same<std::string>("unknown", day_of(opened.get().first.line).version, "its version");
 }
 
+OpenedDay opened(const Config &config) {
+    const auto database = open_sqlite(config.sqlite.string());
+    DayClock clock(today());
+    const auto events = std::make_shared<spdlog::logger>("none");
+    LogGuard guard(sealer_of(config), config.checkpoints, events);
+    return open_day(config, *database, guard, 0, clock, events);
+}
+
+// Another entry 0 in front of the one that is sealed, which stays the last one. Where columns have
+// no type, `0` as a text stands behind the number, and is read as it.
+void put_in_front(const Config &config, const Entry &other) {
+    const auto file = sqlite::connect(config.sqlite.string(), SQLITE_OPEN_READWRITE);
+    std::string line;
+    std::string hash;
+    append_hexadecimal(line, other.line);
+    append_hexadecimal(hash, {reinterpret_cast<const char *>(other.hash.data()), 32});
+    const std::string text = fmt::format(
+        "CREATE TABLE e ({0}); INSERT INTO e SELECT {0} FROM entry; UPDATE e SET place = '0';"
+        "INSERT INTO e SELECT 0, term, moment, received, firm, number, connection, x'{1}', before, "
+        "x'{2}' FROM entry; DROP TABLE entry; ALTER TABLE e RENAME TO entry;"
+        "CREATE TABLE s (number, term, place, event, notes, hash, mac);"
+        "INSERT INTO s SELECT * FROM seal; UPDATE s SET place = '0';"
+        "DROP TABLE seal; ALTER TABLE s RENAME TO seal;",
+        entry_columns, line, hash);
+    sqlite::execute(file.get(), text.c_str());
+}
+
+// It has other words for the firms than the sealed one.
+void a_first_entry_written_over(const std::filesystem::path &folder) {
+    const Config config = config_of(folder);
+    Entry other = opened(config).first;
+    same(other.place, opened(config).last.place, "the only entry");
+    Day day = day_of(other.line);
+    check(!day.reasons.empty(), "the day gives no reasons");
+    day.reasons.begin()->second = "this quote was accepted";
+    other.line = line_of(day);
+    other.hash = hash_of(other);
+    put_in_front(config, other);
+    std::string told = "nothing";
+    try {
+        opened(config);
+    } catch (const std::runtime_error &fault) {
+        told = fault.what();
+    }
+    same<std::string>("entry 0 was changed while it was read", told, "why it is not opened");
+}
+
 TEST_CASE("given again before sessions") {
     // As the gateway does: the venue may end while it is fed.
     std::signal(SIGPIPE, SIG_IGN);
@@ -186,6 +235,13 @@ TEST_CASE("more than before") {
     std::signal(SIGPIPE, SIG_IGN);
     const Scratch folder("venue_day");
     more_than_before(folder.path());
+}
+
+TEST_CASE("a first entry written over") {
+    // As the gateway does: the venue may end while it is fed.
+    std::signal(SIGPIPE, SIG_IGN);
+    const Scratch folder("venue_day");
+    a_first_entry_written_over(folder.path());
 }
 
 TEST_CASE("begun without a version") {

@@ -196,6 +196,10 @@ OpenedDay open_day(const Config &config, Database &database, LogGuard &guard,
         check_notes(begun, config);
     }
     const Entry last = reader->last_entry().value_or(first);
+    if (last.place == first.place && last.hash != first.hash) {
+        // It is the last one that has to be the sealed one.
+        throw std::runtime_error("entry 0 was changed while it was read");
+    }
     events->info("log found date={} entries={}", clock.date(), last.place);
     return {first, last, begun.reasons};
 }
