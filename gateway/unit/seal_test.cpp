@@ -362,6 +362,23 @@ void two_faced(const fs::path &folder) {
     told(words, "it was cut off, or is an old backup", "a log that is cut for most");
 }
 
+// What somebody has left in the database between two starts, to be done when a gateway writes
+// there.
+void left_in_the_database(const fs::path &folder) {
+    const Place place(folder / "sealed_days", "");
+    write_day(place, 2, false);
+    place.run("CREATE TRIGGER later AFTER INSERT ON entry BEGIN UPDATE entry SET line = 'nothing' "
+              "WHERE place = NEW.place; END;");
+    const auto database = place.open();
+    const auto reader = database->reader();
+    LogGuard guard = guard_at(place);
+    guard.check_found(*reader);
+    write_some(*database, guard, database->take_over().value(), 2);
+    for (const Entry &entry : reader->entries(0, 10)) {
+        check(entry.hash == hash_of(entry), fmt::format("entry {} is another", entry.place));
+    }
+}
+
 // A gateway that follows has no file yet, and takes what the one that speaks has signed since; what
 // was signed before, under another number, is no sign of it.
 void one_that_follows(const fs::path &folder, const std::string &connection) {
@@ -615,6 +632,11 @@ TEST_CASE("what is lost is accepted") {
 TEST_CASE("nothing kept") {
     const Scratch folder("seal");
     nothing_kept(folder.path(), connection());
+}
+
+TEST_CASE("left in the database") {
+    const Scratch folder("seal");
+    left_in_the_database(folder.path());
 }
 
 TEST_CASE("two-faced") {

@@ -138,6 +138,8 @@ class Statement {
     int parameters_ = 0;
 };
 
+// Whoever may write to the file may leave something there that is done later, when this process
+// writes or reads: it is not done.
 inline ConnectionPointer connect(const std::string &path, int flags) {
     sqlite3 *raw = nullptr;
     const int result = sqlite3_open_v2(path.c_str(), &raw, flags | SQLITE_OPEN_NOMUTEX, nullptr);
@@ -146,6 +148,8 @@ inline ConnectionPointer connect(const std::string &path, int flags) {
         throw std::runtime_error(fmt::format("SQLite, {}: {}", path,
                                              raw == nullptr ? "no memory" : sqlite3_errmsg(raw)));
     }
+    sqlite3_db_config(raw, SQLITE_DBCONFIG_ENABLE_TRIGGER, 0, nullptr);
+    sqlite3_db_config(raw, SQLITE_DBCONFIG_ENABLE_VIEW, 0, nullptr);
     sqlite3_extended_result_codes(raw, 1);
     sqlite3_busy_timeout(raw, 10000);
     return connection;
