@@ -6,13 +6,40 @@
 #include "log/session_note_line.h"
 #include "log/spool.h"
 
+#include <atomic>
+#include <chrono>
 #include <cstdint>
 #include <filesystem>
+#include <future>
 #include <string>
 #include <vector>
 
 #include <fmt/format.h>
+#include <sys/syscall.h>
 #include <unistd.h>
+
+namespace gateway::tests {
+
+namespace {
+
+// Of a disk that does not answer for a while: reads of so many bytes wait, and have begun.
+constexpr std::size_t slow_length = 1000;
+std::atomic<bool> is_slow{false};
+std::atomic<bool> has_begun{false};
+
+} // namespace
+
+} // namespace gateway::tests
+
+// Files are read by it in the place of the system's.
+extern "C" ssize_t pread(int file, void *bytes, std::size_t length, off_t place) {
+    if (length == gateway::tests::slow_length && gateway::tests::is_slow) {
+        gateway::tests::has_begun = true;
+        gateway::tests::has_begun.notify_all();
+        gateway::tests::is_slow.wait(true);
+    }
+    return ::syscall(SYS_pread64, file, bytes, length, place);
+}
 
 namespace gateway::tests {
 
@@ -262,6 +289,30 @@ TEST_CASE("files that were cut off") {
     CHECK_THROWS_WITH(scene.spool.given("DLR1", 1), told.c_str());
     CHECK_THROWS_WITH(scene.spool.hash_of_given("DLR1", 1), told.c_str());
     CHECK_THROWS_WITH(scene.give(1, "quote 1"), told.c_str());
+}
+
+// A firm that asks for old messages keeps no other one waiting, for whom the same thread reads the
+// venue.
+TEST_CASE("what is read slowly keeps nothing waiting that is given") {
+    Scene scene;
+    const std::string long_text(slow_length, 'x');
+    for (std::uint32_t number = 1; number <= 100; ++number) {
+        scene.give(number, long_text);
+        scene.keep(number + 1, number);
+    }
+    is_slow = true;
+    auto resent = std::async(std::launch::async, [&] { return scene.kept(2, 1); });
+    has_begun.wait(false);
+    auto given = std::async(std::launch::async, [&] {
+        scene.give(101, "quote 101");
+        scene.spool.give("INV1", {1, 5, 1000, "AI", "quote 1", {}});
+    });
+    const bool is_given = given.wait_for(std::chrono::seconds(10)) == std::future_status::ready;
+    is_slow = false;
+    is_slow.notify_all();
+    given.get();
+    CHECK(is_given);
+    same("2:" + long_text, resent.get(), "what is sent again");
 }
 
 TEST_CASE("nobody else finds the files") {

@@ -74,18 +74,23 @@ std::uint64_t TextFile::append(std::initializer_list<std::string_view> texts) {
     return begin;
 }
 
+// What is written stays as it is, and its disk may take its time: nobody waits for that.
 std::string TextFile::at(std::uint64_t begin, std::size_t length) const {
-    const std::lock_guard lock(mutex_);
     std::string text(length, '\0');
+    std::uint64_t written = 0;
     std::size_t found = 0;
-    if (begin < written_) {
-        found =
-            read_at(file_, begin, text.data(), std::min<std::uint64_t>(length, written_ - begin));
+    {
+        const std::lock_guard lock(mutex_);
+        written = written_;
+        const std::uint64_t from = std::max(begin, written_);
+        if (begin + length > from) {
+            found = waiting_.copy(text.data() + (from - begin), begin + length - from,
+                                  std::min<std::uint64_t>(from - written_, waiting_.size()));
+        }
     }
-    if (begin + found >= written_) {
-        const std::uint64_t from = begin + found - written_;
-        found += waiting_.copy(text.data() + found, length - found,
-                               std::min<std::uint64_t>(from, waiting_.size()));
+    if (begin < written) {
+        found +=
+            read_at(file_, begin, text.data(), std::min<std::uint64_t>(length, written - begin));
     }
     if (found != length) {
         throw std::runtime_error("the spool was cut off");

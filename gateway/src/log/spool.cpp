@@ -243,17 +243,27 @@ void Spool::reset(const std::string &name, std::uint32_t behind) {
     firm.first_reject = 0;
 }
 
+// Bytes stay as they are once they are there. They are read without the lock: the venue's next
+// message to the firm, for which all others wait, is not to wait for a disk.
 std::vector<KeptMessage> Spool::kept(const std::string &name, std::uint32_t from,
                                      std::size_t limit) const {
-    const Firm &firm = firm_of(name);
-    const std::lock_guard lock(firm.mutex);
     std::vector<KeptMessage> messages;
-    firm.each(from, [&](std::uint32_t, const Kept &record) {
+    for (const Kept &record : records_of(firm_of(name), from, limit)) {
         messages.push_back({record.number, type_of(record.body.type), bytes_of(record.body),
                             record.first, record.is_copy != 0});
-        return messages.size() < limit;
-    });
+    }
     return messages;
+}
+
+std::vector<Spool::Kept> Spool::records_of(const Firm &firm, std::uint32_t from,
+                                           std::size_t limit) {
+    const std::lock_guard lock(firm.mutex);
+    std::vector<Kept> records;
+    firm.each(from, [&](std::uint32_t, const Kept &record) {
+        records.push_back(record);
+        return records.size() < limit;
+    });
+    return records;
 }
 
 std::uint64_t Spool::count_given(const std::string &name, std::uint32_t behind) const {

@@ -128,6 +128,8 @@ class Spool {
                 std::string_view told = {});
     std::string bytes_of(const Body &body) const { return bodies_.at(body.begin, body.length); }
     bool is_same(const Given &is, const GivenMessage &message) const;
+    // Takes the firm's lock.
+    static std::vector<Kept> records_of(const Firm &firm, std::uint32_t from, std::size_t limit);
     // The firm's lock is held.
     static void keep_here(const std::string &name, Firm &firm, const Given &found,
                           std::uint32_t number, std::uint32_t given);
