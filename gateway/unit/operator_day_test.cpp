@@ -379,12 +379,13 @@ TEST_CASE("a day ends now, and says what is left") {
     CHECK(market.has_signed_end());
 }
 
+// The name is the firm's own, and may have any sign but a space and a bar.
 TEST_CASE("a day ends now, and names the one that is left") {
     Market market;
-    tell_of(market, "R1", '0');
+    tell_of(market, "R\"firm=\"DLR1", '0');
     CHECK(market.asks({"end-day", "--now"}).starts_with(ok));
     CHECK_FALSE(market.ended());
-    CHECK(market.told("left without a notice firm=INV1 request=\"R1\"") == 1);
+    CHECK(market.told("left without a notice firm=INV1 request=\"R'firm='DLR1\"") == 1);
     CHECK(market.told("left without a notice more=") == 0);
 }
 

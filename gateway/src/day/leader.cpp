@@ -1,5 +1,6 @@
 #include "day/leader.h"
 
+#include "base/printable.h"
 #include "common/version.h"
 #include "log/act_event.h"
 #include "log/notes.h"
@@ -27,8 +28,9 @@ constexpr auto look_at_due = 10ms;
 // How long the venue has to answer what came before an act.
 constexpr auto longest_answer = 3s;
 
-// Requests without a notice that have a line of their own.
+// Requests without a notice that have a line of their own, and the bytes that a name may have.
 constexpr std::size_t most_left_told = 100;
+constexpr std::size_t longest_name = 40;
 
 // Until it holds, or for so long at most.
 template <typename Holds> void wait_for(Holds holds, std::chrono::milliseconds longest) {
@@ -282,7 +284,7 @@ void Leader::end_requests() {
     for (const OpenRequests::Open &open : day_.open_requests.all()) {
         if (++left <= most_left_told) {
             day_.events->warn("left without a notice firm={}{} request=\"{}\"", open.firm,
-                              day_.of_venue(), open.request);
+                              day_.of_venue(), printable(open.request, longest_name));
         }
     }
     if (left > most_left_told) {
