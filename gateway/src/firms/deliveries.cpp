@@ -9,13 +9,25 @@
 
 namespace gateway {
 
+namespace {
+
+Handover handover_to(Engine &engine, const std::string &session) {
+    return {[&engine](const Delivery &delivery, bool more_follow) {
+                engine.deliver(delivery, more_follow);
+            },
+            [&engine](const Delivery &delivery) { return engine.deliver_at_once(delivery); },
+            [&engine, session] { engine.disconnect(session); }};
+}
+
+} // namespace
+
 Deliveries::Deliveries(VenueDay &day, Engine &engine, Log &log) : log_(log) {
     const auto failed = [&status = day.status, &log](const std::string &cause) {
         const std::string told = log.failure();
         status.fail(told.empty() ? cause : told);
     };
     for (const std::string &firm : day.config.firms.names) {
-        mailboxes_.try_emplace(firm, session_name(day.config.venue, firm), engine,
+        mailboxes_.try_emplace(firm, handover_to(engine, session_name(day.config.venue, firm)),
                                day.config.waiting_messages, failed);
     }
 }

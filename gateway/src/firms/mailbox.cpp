@@ -1,5 +1,6 @@
 #include "firms/mailbox.h"
 
+#include <optional>
 #include <stdexcept>
 #include <utility>
 
@@ -12,16 +13,16 @@ constexpr std::size_t most_held = 32;
 
 } // namespace
 
-Mailbox::Mailbox(std::string session, Engine &engine, std::size_t limit,
+Mailbox::Mailbox(Handover session, std::size_t limit,
                  std::function<void(const std::string &)> failed)
-    : session_(std::move(session)), engine_(engine), limit_(limit), failed_(std::move(failed)),
+    : session_(std::move(session)), limit_(limit), failed_(std::move(failed)),
       thread_([this](const std::stop_token &stop) { run(stop); }) {}
 
 void Mailbox::put(Delivery delivery) {
     std::unique_lock lock(mutex_);
     if (waiting_.size() >= limit_) {
         lock.unlock();
-        engine_.disconnect(session_);
+        session_.disconnect();
         lock.lock();
         went_.wait(lock, [&] { return waiting_.size() < limit_ || broken_; });
     }
@@ -33,7 +34,7 @@ void Mailbox::put_now(Delivery delivery) {
     {
         std::unique_lock lock(mutex_);
         const bool is_next = waiting_.empty() && !handing_over_ && !broken_;
-        if (is_next && hand_over(lock, [&] { return engine_.deliver_at_once(delivery); })) {
+        if (is_next && hand_over(lock, [&] { return session_.deliver_at_once(delivery); })) {
             return;
         }
     }
@@ -47,16 +48,16 @@ void Mailbox::wait_until_empty() {
 
 void Mailbox::run(const std::stop_token &stop) {
     std::unique_lock lock(mutex_);
-    for (std::size_t held = 0; !broken_;) {
-        came_.wait(lock, stop, [&] { return !waiting_.empty() && !handing_over_; });
-        if (stop.stop_requested()) {
+    for (std::size_t held = 0;;) {
+        came_.wait(lock, stop, [&] { return broken_ || (!waiting_.empty() && !handing_over_); });
+        if (stop.stop_requested() || broken_) {
             return;
         }
         const Delivery delivery = std::move(waiting_.front());
         waiting_.pop_front();
         held = waiting_.empty() || held == most_held ? 0 : held + 1;
         hand_over(lock, [&] {
-            engine_.deliver(delivery, held > 0);
+            session_.deliver(delivery, held > 0);
             return true;
         });
     }
@@ -66,7 +67,7 @@ bool Mailbox::hand_over(std::unique_lock<std::mutex> &lock, const std::function<
     handing_over_ = true;
     lock.unlock();
     bool done = false;
-    std::string fault;
+    std::optional<std::string> fault;
     try {
         done = deliver();
     } catch (const std::exception &caught) {
@@ -74,14 +75,14 @@ bool Mailbox::hand_over(std::unique_lock<std::mutex> &lock, const std::function<
     }
     lock.lock();
     handing_over_ = false;
-    broken_ = !fault.empty();
+    broken_ = broken_ || fault;
     went_.notify_all();
     if (!waiting_.empty()) {
         came_.notify_one();
     }
-    if (broken_) {
+    if (fault) {
         lock.unlock();
-        failed_(fault);
+        failed_(*fault);
         lock.lock();
     }
     return done;

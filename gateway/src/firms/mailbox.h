@@ -2,7 +2,7 @@
 #ifndef GATEWAY_FIRMS_MAILBOX_H
 #define GATEWAY_FIRMS_MAILBOX_H
 
-#include "session/engine.h"
+#include "session/session_event.h"
 
 #include <condition_variable>
 #include <cstddef>
@@ -15,13 +15,19 @@
 
 namespace gateway {
 
+// How messages come to one session: as by Engine's functions of these names.
+struct Handover {
+    std::function<void(const Delivery &delivery, bool more_follow)> deliver;
+    std::function<bool(const Delivery &delivery)> deliver_at_once;
+    std::function<void()> disconnect;
+};
+
 // One firm's messages of the venue. Whoever reads the venue puts them here, so that a session which
 // is slow holds up nobody but its firm.
 class Mailbox {
   public:
     // failed is called where a message can't be handed over: the log takes nothing any more.
-    Mailbox(std::string session, Engine &engine, std::size_t limit,
-            std::function<void(const std::string &)> failed);
+    Mailbox(Handover session, std::size_t limit, std::function<void(const std::string &)> failed);
 
     // Where too many wait, the firm's connection is ended, and room waited for: without a
     // connection messages are handed over as fast as the log takes them. One thread puts.
@@ -39,8 +45,7 @@ class Mailbox {
     // failed.
     bool hand_over(std::unique_lock<std::mutex> &lock, const std::function<bool()> &deliver);
 
-    const std::string session_;
-    Engine &engine_;
+    const Handover session_;
     const std::size_t limit_;
     std::function<void(const std::string &)> failed_;
 
