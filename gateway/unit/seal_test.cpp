@@ -379,6 +379,41 @@ void left_in_the_database(const fs::path &folder) {
     }
 }
 
+// Nothing of the file may be otherwise: no byte, no line, and nothing behind it.
+void changed_checkpoint(const fs::path &folder) {
+    fs::create_directories(folder);
+    const Sealer sealer = sealer_at(folder);
+    const CheckpointFile file(folder / "checkpoints", sealer);
+    CHECK_FALSE(file.read());
+    Checkpoint put;
+    put.at = {1, 5, sha256("entry"), 2, sha256("event"), 3, sha256("notes")};
+    put.number = 1;
+    put = sealer.sign(put);
+    file.write(put);
+    CHECK(file.read().value() == put);
+    const std::string text = read_public(file.path());
+    const auto is_refused = [&file](const std::string &other) {
+        std::ofstream(file.path()) << other;
+        try {
+            file.read();
+            return false;
+        } catch (const std::runtime_error &) {
+            return true;
+        }
+    };
+    for (std::size_t at = 0; at < text.size(); ++at) {
+        std::string other = text;
+        other[at] = text[at] == '0' ? '1' : '0';
+        check(is_refused(other), fmt::format("byte {} is another: {}", at, other));
+        check(is_refused(text.substr(0, at)), fmt::format("it ends at byte {}", at));
+        const std::size_t end = text.find('\n', at) + 1;
+        check(is_refused(text.substr(0, at) + text.substr(end)),
+              fmt::format("bytes {} to {} are taken out", at, end));
+    }
+    check(is_refused(text + "\n") && is_refused("\n" + text), "another line");
+    CHECK_FALSE(is_refused(text));
+}
+
 // A gateway that follows has no file yet, and takes what the one that speaks has signed since; what
 // was signed before, under another number, is no sign of it.
 void one_that_follows(const fs::path &folder, const std::string &connection) {
@@ -642,6 +677,11 @@ TEST_CASE("left in the database") {
 TEST_CASE("two-faced") {
     const Scratch folder("seal");
     two_faced(folder.path());
+}
+
+TEST_CASE("a checkpoint's file that was changed") {
+    const Scratch folder("seal");
+    changed_checkpoint(folder.path() / "changed");
 }
 
 TEST_CASE("one that follows") {

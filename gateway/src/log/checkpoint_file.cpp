@@ -33,6 +33,12 @@ std::optional<std::uint32_t> number_in(std::string_view text) {
     return is_number ? std::optional(number) : std::nullopt;
 }
 
+// `WORD NUMBER`
+std::optional<std::uint32_t> take_number(std::string_view &text, std::string_view word) {
+    const auto value = take(text, word);
+    return value ? number_in(*value) : std::nullopt;
+}
+
 // `NUMBER HEX`
 bool read_place(std::optional<std::string_view> value, std::uint32_t &place, Digest &hash) {
     const std::size_t space = value ? value->find(' ') : std::string_view::npos;
@@ -64,18 +70,18 @@ std::optional<Checkpoint> checkpoint_of(std::string_view text) {
     for (const char *word : {"venue", "day", "configuration"}) {
         take(text, word);
     }
-    const auto term = take(text, "term");
-    found.at.term = term ? number_in(*term).value_or(0) : 0;
-    if (!read_place(take(text, "entry"), found.at.place, found.at.hash) ||
+    const auto term = take_number(text, "term");
+    if (!term || !read_place(take(text, "entry"), found.at.place, found.at.hash) ||
         !read_place(take(text, "connection"), found.at.event, found.at.event_hash) ||
         !read_place(take(text, "seal"), found.at.seal, found.at.notes)) {
         return std::nullopt;
     }
-    const auto number = take(text, "checkpoint");
-    found.number = number ? number_in(*number).value_or(0) : 0;
-    if (!read_signature(take(text, "before"), found.before)) {
+    const auto number = take_number(text, "checkpoint");
+    if (!number || !read_signature(take(text, "before"), found.before)) {
         return std::nullopt;
     }
+    found.at.term = *term;
+    found.number = *number;
     found.is_end = take(text, "end") == "yes";
     return read_signature(take(text, "signature"), found.signature) ? std::optional(found)
                                                                     : std::nullopt;
@@ -103,9 +109,11 @@ std::optional<Checkpoint> CheckpointFile::read() const {
     if (!std::filesystem::exists(path_)) {
         return std::nullopt;
     }
-    const auto checkpoint = checkpoint_of(read_public(path_));
-    // The whole text follows from the log and the position: another one has another signature.
-    if (!checkpoint || !sealer_.is_signed(*checkpoint)) {
+    const std::string text = read_public(path_);
+    const auto checkpoint = checkpoint_of(text);
+    // The whole text follows from the log and the position: another one has another signature, or
+    // is none that a gateway writes.
+    if (!checkpoint || text_of_file(*checkpoint) != text || !sealer_.is_signed(*checkpoint)) {
         throw std::runtime_error(fmt::format(
             "{} is no checkpoint of this log that one of its gateways signed", path_.string()));
     }
