@@ -6,6 +6,7 @@
 #include "config/trading_days.h"
 #include "health/metrics.h"
 #include "health/operator_events.h"
+#include "service/closed_firms.h"
 #include "session/engine.h"
 #include "session/listening_port.h"
 
@@ -40,14 +41,12 @@ class ClosedVenue {
     const std::string &date() const { return date_; }
 
   private:
-    class Firms;
-
     std::vector<SessionStart> starts();
 
     const std::vector<Config> configs_;
     const std::string date_;
     OperatorEvents told_;
-    std::vector<std::unique_ptr<Firms>> firms_; // of each venue
+    std::vector<std::unique_ptr<ClosedFirms>> firms_; // of each venue
     Engine engine_;
 };
 
