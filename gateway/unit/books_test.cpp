@@ -11,6 +11,7 @@
 #include "venue/trades.h"
 #include "venue/venue_progress.h"
 
+#include <cstdint>
 #include <future>
 #include <set>
 #include <stop_token>
@@ -212,6 +213,34 @@ TEST_CASE("a deadline is told once what was there is answered") {
     std::stop_source stop;
     stop.request_stop();
     CHECK_FALSE(progress.wait_for_deadline(stop.get_token()));
+}
+
+// The clock of a day that has not come stands where it was set.
+TEST_CASE("a deadline is due once its moment has come") {
+    DayClock clock("29991231");
+    VenueProgress progress;
+    const std::stop_token never;
+    REQUIRE_FALSE(progress.due(clock));
+    CHECK(progress.wait_until_none_is_due(clock, 1h, never));
+    progress.put(7, at_nine);
+    clock.not_before(ExactMoment{std::int64_t{at_nine.milliseconds} * 1000 - 1});
+    REQUIRE_FALSE(progress.due(clock));
+    CHECK(progress.wait_until_none_is_due(clock, 1h, never));
+    clock.not_before(ExactMoment{std::int64_t{at_nine.milliseconds} * 1000});
+    REQUIRE(progress.due(clock));
+    CHECK(progress.due(clock)->moment == at_nine);
+    CHECK(progress.due(clock)->place == 7);
+    CHECK_FALSE(progress.wait_until_none_is_due(clock, 0ms, never));
+    std::stop_source stop;
+    stop.request_stop();
+    CHECK_FALSE(progress.wait_until_none_is_due(clock, 1h, stop.get_token()));
+    auto other = std::async([&] { return progress.wait_until_none_is_due(clock, 1h, never); });
+    progress.put(8, at_ten);
+    CHECK(other.get());
+    progress.put(9, at_nine);
+    auto none = std::async([&] { return progress.wait_until_none_is_due(clock, 1h, never); });
+    progress.put(10, std::nullopt);
+    CHECK(none.get());
 }
 
 } // namespace gateway::tests

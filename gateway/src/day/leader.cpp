@@ -262,14 +262,7 @@ void Leader::carry_out(const FirmOrdered &ordered) {
 
 // The sweeper has it told; a request of that deadline may be hit meanwhile, and so end otherwise.
 void Leader::wait_for_due() {
-    const auto latest = std::chrono::steady_clock::now() + longest_due;
-    const std::stop_token stop = day_.status.failed();
-    for (auto next = follower_->progress().deadline();
-         next && day_.clock.until(next->moment) <= 0ms && !stop.stop_requested() &&
-         std::chrono::steady_clock::now() < latest;
-         next = follower_->progress().deadline()) {
-        follower_->progress().wait_for_other(next->moment, look_at_due, stop);
-    }
+    follower_->progress().wait_until_none_is_due(day_.clock, longest_due, day_.status.failed());
     deliveries_.wait_until_handed_over();
 }
 

@@ -83,8 +83,7 @@ void Sweeper::sweep_held(Moment moment, const std::stop_token &stop) {
     {
         const Log::Hold hold(log_, moment);
         progress_.wait(log_.last_place(), longest_hold, stop);
-        const auto due = progress_.deadline();
-        if (due && clock_.until(due->moment) <= 0ms) {
+        if (const auto due = progress_.due(clock_)) {
             swept = log_.append_clock_behind(due->place, due->moment);
         }
     }

@@ -2,6 +2,13 @@
 
 namespace gateway {
 
+namespace {
+
+// How long a deadline that is due is waited for at once.
+constexpr std::chrono::milliseconds look_at_due(10);
+
+} // namespace
+
 void VenueProgress::begin(std::uint32_t last_place) {
     const std::lock_guard lock(mutex_);
     heeded_from_ = last_place;
@@ -64,6 +71,23 @@ void VenueProgress::wait_for_other(Moment known, std::chrono::milliseconds longe
         const auto now = deadline_here();
         return now && now->moment != known;
     });
+}
+
+std::optional<VenueProgress::Deadline> VenueProgress::due(DayClock &clock) {
+    const auto next = deadline();
+    return next && clock.until(next->moment).count() <= 0 ? next : std::nullopt;
+}
+
+bool VenueProgress::wait_until_none_is_due(DayClock &clock, std::chrono::milliseconds longest,
+                                           const std::stop_token &stop) {
+    const auto latest = std::chrono::steady_clock::now() + longest;
+    for (auto next = due(clock); next; next = due(clock)) {
+        if (stop.stop_requested() || std::chrono::steady_clock::now() >= latest) {
+            return false;
+        }
+        wait_for_other(next->moment, look_at_due, stop);
+    }
+    return true;
 }
 
 } // namespace gateway

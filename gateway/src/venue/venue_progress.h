@@ -39,6 +39,11 @@ class VenueProgress {
     // Waits until the deadline of now is another moment, or so long.
     void wait_for_other(Moment known, std::chrono::milliseconds longest,
                         const std::stop_token &stop);
+    // The deadline of now, if it has come by this clock.
+    std::optional<Deadline> due(DayClock &clock);
+    // Whether none is due; waits for that until the stop is asked for, or so long.
+    bool wait_until_none_is_due(DayClock &clock, std::chrono::milliseconds longest,
+                                const std::stop_token &stop);
 
   private:
     // The lock is held.
