@@ -1,4 +1,5 @@
 // The program mireseason-gateway: reads its arguments, and runs the service or what they ask for.
+#include "base/event_form.h"
 #include "base/patient_stderr.h"
 #include "base/private_file.h"
 #include "common/moment.h"
@@ -23,7 +24,6 @@
 #include <optional>
 #include <thread>
 
-#include <spdlog/pattern_formatter.h>
 #include <spdlog/spdlog.h>
 #include <unistd.h>
 
@@ -55,22 +55,6 @@ int print_hash() {
     return 0;
 }
 
-// The words of an event in one line, whatever they have of a stranger's bytes: SOH is a bar, and
-// any other control character a question mark.
-class OneLine final : public spdlog::custom_flag_formatter {
-  public:
-    void format(const spdlog::details::log_msg &event, const std::tm &,
-                spdlog::memory_buf_t &line) override {
-        for (const char c : event.payload) {
-            const auto byte = static_cast<unsigned char>(c);
-            line.push_back(byte >= ' ' && byte != 0x7f ? c : byte == 1 ? '|' : '?');
-        }
-    }
-    std::unique_ptr<custom_flag_formatter> clone() const override {
-        return std::make_unique<OneLine>();
-    }
-};
-
 std::shared_ptr<spdlog::logger> make_events(const std::string &level,
                                             std::shared_ptr<gateway::RecentEvents> recent = {}) {
     std::vector<spdlog::sink_ptr> sinks = {std::make_shared<gateway::PatientStderr>()};
@@ -79,9 +63,7 @@ std::shared_ptr<spdlog::logger> make_events(const std::string &level,
     }
     auto events = std::make_shared<spdlog::logger>("gateway", sinks.begin(), sinks.end());
     events->set_level(spdlog::level::from_str(level));
-    auto form = std::make_unique<spdlog::pattern_formatter>(spdlog::pattern_time_type::utc);
-    form->add_flag<OneLine>('*').set_pattern("%Y-%m-%dT%H:%M:%S.%eZ %l %*");
-    events->set_formatter(std::move(form));
+    events->set_formatter(gateway::event_form());
     events->flush_on(spdlog::level::debug);
     return events;
 }

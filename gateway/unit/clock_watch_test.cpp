@@ -127,6 +127,25 @@ TEST_CASE("what the log has of the clock") {
                                                      "# clock unsynchronised 8"});
 }
 
+// The first sixty-four each, and all of them in sum.
+TEST_CASE("steps that wait for a log") {
+    using Steps = std::vector<std::chrono::microseconds>;
+    ClockSteps steps;
+    CHECK(steps.take().empty());
+    Steps wanted;
+    for (int step = 1; step <= 64; ++step) {
+        steps.put(std::chrono::microseconds(step));
+        wanted.emplace_back(step);
+    }
+    CHECK(steps.take() == wanted);
+    CHECK(steps.take().empty());
+    for (int step = 1; step <= 66; ++step) {
+        steps.put(std::chrono::microseconds(step));
+    }
+    wanted.back() = 64us + 65us + 66us;
+    CHECK(steps.take() == wanted);
+}
+
 TEST_CASE("what the kernel says") {
     check(read_kernel_clock().greatest_error >= 0us, "an error below nothing");
 }

@@ -245,6 +245,31 @@ std::string said_by(const Metrics &metrics, const std::string &name) {
     return text.substr(begin, text.find('\n', begin) - begin);
 }
 
+// Those that are shown, and those that are asked for.
+TEST_CASE("a number for each file of certificates") {
+    const Scratch folder("certificates");
+    EngineSettings settings;
+    Metrics metrics;
+    count_certificates(settings, metrics);
+    settings.certificate = folder.path() / "own.pem";
+    settings.authorities = folder.path() / "firms.pem";
+    const auto said_of = [&metrics](const std::string &file) {
+        return said_by(metrics, fmt::format("mireseason_certificate_expiry_timestamp_seconds"
+                                            "{{file=\"{}\"}}",
+                                            file));
+    };
+    count_certificates(settings, metrics);
+    CHECK(said_of(settings.certificate) == "");
+    CHECK(said_of(settings.authorities) == "");
+    add_certificate(settings.certificate, 3600);
+    add_certificate(settings.authorities, 7200);
+    count_certificates(settings, metrics);
+    for (const std::string &file : {settings.certificate, settings.authorities}) {
+        const auto end = end_of_certificates(file)->time_since_epoch().count();
+        CHECK(std::stod(said_of(file)) == static_cast<double>(end));
+    }
+}
+
 // A time is told by the bound that it stays below: 1, 2 and 5 of each power of ten, up to a second.
 TEST_CASE("bounds of times") {
     Metrics metrics;

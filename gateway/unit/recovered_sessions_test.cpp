@@ -6,6 +6,7 @@
 #include "check.h"
 #include "common/frame.h"
 #include "log/session_note_line.h"
+#include "recovery/firm_state.h"
 #include "recovery/recovered_sessions.h"
 
 #include <functional>
@@ -263,6 +264,33 @@ TEST_CASE("more notes than are read at once") {
         }
     }
     same<std::uint32_t>(4001, scene.finished().numbers.next, "the next number");
+}
+
+// A firm that has gone is none of the day if nothing was said on it but that the venue is closed.
+TEST_CASE("a firm that the venue does not have") {
+    const auto told = [](const FirmState &state, const std::vector<std::string> &firms) {
+        try {
+            check_known({{"DLR1", FirmState{}}, {"GONE", state}}, firms);
+            return std::string();
+        } catch (const std::runtime_error &fault) {
+            return std::string(fault.what());
+        }
+    };
+    FirmState refused;
+    refused.numbers.expected = 3;
+    refused.numbers.next = 3;
+    refused.numbers.is_one_free = false;
+    same<std::string>("", told(refused, {"DLR1"}), "one that was refused before the day opened");
+    std::vector<FirmState> begun(4, refused);
+    begun[0].entries = 1;
+    begun[1].given = 1;
+    begun[2].numbers.last_kept = 1;
+    begun[3].numbers.last_logon = 1;
+    for (const FirmState &state : begun) {
+        same<std::string>("the log has GONE, and the venue has no such firm", told(state, {"DLR1"}),
+                          "one that has begun");
+        same<std::string>("", told(state, {"DLR1", "GONE"}), "one that is there");
+    }
 }
 
 } // namespace gateway::tests

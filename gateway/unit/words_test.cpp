@@ -1,16 +1,21 @@
-// Words that are written and read back: an operator's request, any bytes as ASCII, and a mistyped
-// word.
+// Words that are written and read back: an operator's request, any bytes as ASCII, a mistyped word,
+// and an event.
 #define DOCTEST_CONFIG_IMPLEMENT_WITH_MAIN
 #include <doctest/doctest.h>
 
 #include "base/escaped.h"
+#include "base/event_form.h"
 #include "base/nearest_word.h"
 #include "check.h"
 #include "operator/admin_words.h"
 
 #include <array>
+#include <chrono>
 #include <string>
+#include <string_view>
 #include <vector>
+
+#include <spdlog/details/log_msg.h>
 
 namespace gateway::tests {
 
@@ -55,6 +60,27 @@ TEST_CASE("any bytes are ASCII") {
     for (const char *none : {"\\", "\\x", "\\x2", "\\x2g", "\\xg2", "\\x41", "\\x5C", "\"", "\n"}) {
         CHECK_FALSE_MESSAGE(unescaped(none), none);
     }
+}
+
+// What a stranger sent ends no line, and moves no cursor of a terminal: the first and the last
+// control character, those beside a bar, and DEL. All else is as it came.
+TEST_CASE("an event is one line of what can be shown") {
+    using namespace std::chrono_literals;
+    const auto at = std::chrono::sys_days{std::chrono::year{2025} / 3 / 14} + 9h + 7ms;
+    const auto line_of_words = [at](std::string_view words) {
+        spdlog::memory_buf_t line;
+        event_form()->format({at, {}, "gateway", spdlog::level::warn, words}, line);
+        return std::string(line.data(), line.size());
+    };
+    const std::string head = "2025-03-14T09:00:00.007Z warning ";
+    CHECK(line_of_words("8=FIX\x01"
+                        "35=A\x01") == head + "8=FIX|35=A|\n");
+    CHECK(line_of_words({"\0\2\t\n\r\x1b[2K\x1f\x7f", 11}) == head + "??????[2K??\n");
+    CHECK(line_of_words(" !~\xc3\xa9") == head + " !~\xc3\xa9\n");
+    const auto form = event_form()->clone();
+    spdlog::memory_buf_t line;
+    form->format({at, {}, "gateway", spdlog::level::info, "a\nb"}, line);
+    CHECK(std::string(line.data(), line.size()) == "2025-03-14T09:00:00.007Z info a?b\n");
 }
 
 // A letter of three may be wrong: added, left out, changed, or changed with its neighbour.

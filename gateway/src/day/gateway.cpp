@@ -102,7 +102,7 @@ void Gateway::listen() {
     engine_.listen(std::move(port_));
     status_.is_now(Phase::ready);
     const EngineSettings &settings = configs_.front().engine;
-    count_certificates(settings);
+    count_certificates(settings, metrics_);
     events_->info("ready address={}:{} tls={} firms={}", settings.address, settings.port,
                   !settings.certificate.empty(), engine_.sessions());
     open(true);
@@ -122,7 +122,7 @@ void Gateway::renew() {
             read.push_back(read_access(path_, config));
         }
         engine_.renew(read.front().engine);
-        count_certificates(read.front().engine);
+        count_certificates(read.front().engine, metrics_);
         for (std::size_t at = 0; at < leaders_.size(); ++at) {
             leaders_[at]->renew(read[at].credentials);
         }
@@ -151,14 +151,6 @@ std::optional<std::string> Gateway::renew_within(std::chrono::milliseconds longe
 
 std::vector<std::string> Gateway::unknown_firms() const {
     return gateway::unknown_firms(path_, configs_);
-}
-
-void Gateway::count_certificates(const EngineSettings &settings) {
-    for (const std::string &file : {settings.certificate, settings.authorities}) {
-        if (const auto end = file.empty() ? std::nullopt : end_of_certificates(file)) {
-            metrics_.certificate_ends(file, *end);
-        }
-    }
 }
 
 std::vector<std::string> Gateway::halts() const {

@@ -100,7 +100,6 @@ class Gateway final {
     void open(bool is_open);
     void renew();
     void tell_renewed(const std::string &fault);
-    void count_certificates(const EngineSettings &settings);
 
     const std::filesystem::path path_;
     const std::vector<Config> configs_;

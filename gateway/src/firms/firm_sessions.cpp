@@ -12,25 +12,10 @@
 
 namespace gateway {
 
-namespace {
-
-// Else it was refused before the day opened, and perhaps the venue has it no more.
-bool has_begun(const FirmState &state) {
-    const SessionNumbers &numbers = state.numbers;
-    return state.entries > 0 || state.given > 0 || numbers.last_kept > 0 || numbers.last_logon > 0;
-}
-
-} // namespace
-
 FirmSessions::FirmSessions(VenueDay &day, Log &log, const States &states)
     : day_(day), log_(log), authenticator_(day.config), rows_(day, log) {
     open_firms(states);
-    for (const auto &[name, state] : states) {
-        if (!firms_.contains(name) && has_begun(state)) {
-            throw std::runtime_error(
-                fmt::format("the log has {}, and the venue has no such firm", name));
-        }
-    }
+    check_known(states, day_.config.firms.names);
 }
 
 void FirmSessions::open_firms(const States &states) {

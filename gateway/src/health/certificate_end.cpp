@@ -45,4 +45,12 @@ std::optional<std::chrono::sys_seconds> end_of_certificates(const std::filesyste
     return first;
 }
 
+void count_certificates(const EngineSettings &settings, Metrics &metrics) {
+    for (const std::string &file : {settings.certificate, settings.authorities}) {
+        if (const auto end = file.empty() ? std::nullopt : end_of_certificates(file)) {
+            metrics.certificate_ends(file, *end);
+        }
+    }
+}
+
 } // namespace gateway

@@ -56,6 +56,14 @@ std::optional<microseconds> ClockWatch::look() {
     return std::nullopt;
 }
 
+void ClockSteps::put(microseconds step) {
+    if (steps_.size() < most) {
+        steps_.push_back(step);
+    } else {
+        steps_.back() += step;
+    }
+}
+
 KernelClock read_kernel_clock() {
     timex clock{};
     const int state = ::adjtimex(&clock);

@@ -4,8 +4,11 @@
 #define GATEWAY_HEALTH_CLOCK_WATCH_H
 
 #include <chrono>
+#include <cstddef>
 #include <functional>
 #include <optional>
+#include <utility>
+#include <vector>
 
 namespace gateway {
 
@@ -33,6 +36,20 @@ class ClockWatch {
     const Read read_;
     Reading last_;
     std::chrono::microseconds set_by_{0}; // since the last step that was told, but for slewing
+};
+
+// Steps by which the clock was set, until there is a log to put them into.
+class ClockSteps {
+  public:
+    // Those behind the first ones become one with the last of these.
+    void put(std::chrono::microseconds step);
+    // All of them, and none is left.
+    std::vector<std::chrono::microseconds> take() { return std::exchange(steps_, {}); }
+
+  private:
+    static constexpr std::size_t most = 64;
+
+    std::vector<std::chrono::microseconds> steps_;
 };
 
 // What the kernel says of its clock (adjtimex).

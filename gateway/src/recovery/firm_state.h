@@ -5,6 +5,9 @@
 #include "session/session_numbers.h"
 
 #include <cstdint>
+#include <map>
+#include <string>
+#include <vector>
 
 namespace gateway {
 
@@ -17,6 +20,11 @@ struct FirmState {
     std::uint32_t noted = 0;   // and how many of them session notes name
     std::uint32_t act = 0;     // the place of the last act that a session note names
 };
+
+// Throws std::runtime_error where the log has a day of a firm that the venue does not have. One
+// that was only refused before the day opened may have gone since.
+void check_known(const std::map<std::string, FirmState> &states,
+                 const std::vector<std::string> &firms);
 
 } // namespace gateway
 

@@ -12,20 +12,21 @@ namespace gateway {
 
 namespace {
 
-// How many passwords are judged at one time, and how many handshakes go on. A password takes 16 MB,
-// and a processor for tens of milliseconds, and whoever connects may ask for both: half of the
-// processors are left to the firms that trade.
-std::size_t judged_at_once() {
-    constexpr int most = 4;
+int own_processors() {
     cpu_set_t own{};
-    const int processors = ::sched_getaffinity(0, sizeof own, &own) == 0 ? CPU_COUNT(&own) : 1;
-    return static_cast<std::size_t>(std::clamp(processors / 2, 1, most));
+    return ::sched_getaffinity(0, sizeof own, &own) == 0 ? CPU_COUNT(&own) : 1;
 }
 
 } // namespace
 
+std::size_t judged_at_once(int processors) {
+    constexpr int most = 4;
+    return static_cast<std::size_t>(std::clamp(processors / 2, 1, most));
+}
+
 Sessions::Sessions(const std::vector<SessionStart> &starts, EngineEvents &events)
-    : events_(events), turns_(judged_at_once()), handshakes_(judged_at_once()) {
+    : events_(events), turns_(judged_at_once(own_processors())),
+      handshakes_(judged_at_once(own_processors())) {
     add(starts);
 }
 

@@ -7,6 +7,7 @@
 #include "session/turns.h"
 
 #include <atomic>
+#include <cstddef>
 #include <cstdint>
 #include <map>
 #include <memory>
@@ -16,6 +17,11 @@
 namespace gateway {
 
 class FirmSession;
+
+// How many passwords are judged at one time on a machine with so many processors, and how many
+// handshakes go on. A password takes 16 MB, and a processor for tens of milliseconds, and whoever
+// connects may ask for both: half of the processors are left to the firms that trade.
+std::size_t judged_at_once(int processors);
 
 // One a firm and venue, for as long as this stands.
 class Sessions {

@@ -11,10 +11,6 @@ namespace gateway {
 
 namespace {
 
-// Steps of the clock that are kept until there is a log to put them into. Those behind them become
-// one.
-constexpr std::size_t most_steps = 64;
-
 // Throws where it is none of today.
 std::unique_ptr<Database> open_database(const Config &config, DayClock &clock) {
     if (clock.day() != DayClock::Day::goes_on) {
@@ -52,11 +48,7 @@ void VenueDay::tell_if_clock_was_set() {
     metrics.clock_set();
     const double seconds = std::chrono::duration<double>(*step).count();
     events->error("clock was set{} by={:.3f} s", of_venue(), seconds);
-    if (steps_.size() < most_steps) {
-        steps_.push_back(*step);
-    } else {
-        steps_.back() += *step;
-    }
+    steps_.put(*step);
     // Steps that no operator has accepted add up.
     clock_set_meanwhile += step->count();
     const std::chrono::microseconds set_by = clock_was_set_by();
@@ -113,7 +105,7 @@ void VenueDay::look_at_disk() {
 }
 
 std::vector<std::chrono::microseconds> VenueDay::take_steps() {
-    return std::exchange(steps_, {});
+    return steps_.take();
 }
 
 void VenueDay::look_at_clock() {

@@ -102,7 +102,7 @@ struct VenueDay {
     ClockWatch clock_watch_;
     bool told_of_disk_ = false;
     KernelClock kernel_clock_ = read_kernel_clock();
-    std::vector<std::chrono::microseconds> steps_;
+    ClockSteps steps_;
 };
 
 } // namespace gateway

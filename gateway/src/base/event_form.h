@@ -1,0 +1,17 @@
+// How an event is written for the operator.
+#ifndef GATEWAY_BASE_EVENT_FORM_H
+#define GATEWAY_BASE_EVENT_FORM_H
+
+#include <memory>
+
+#include <spdlog/formatter.h>
+
+namespace gateway {
+
+// `2025-03-14T09:00:00.000Z LEVEL WORDS`, in UTC and in one line, whatever the words have of a
+// stranger's bytes: SOH is a bar, and any other control character a question mark.
+std::unique_ptr<spdlog::formatter> event_form();
+
+} // namespace gateway
+
+#endif
