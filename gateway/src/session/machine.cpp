@@ -64,7 +64,6 @@ std::string text_in(std::string_view frames) {
 Machine::Machine(SessionNames names, const std::optional<SessionNumbers> &kept)
     : names_(std::move(names)) {
     fix_sessions_new(&state_);
-    next_ = state_;
     if (kept) {
         begin_with(*kept);
     }
@@ -73,7 +72,6 @@ Machine::Machine(SessionNames names, const std::optional<SessionNumbers> &kept)
 void Machine::begin_with(const SessionNumbers &numbers) {
     fix_sessions_new(&state_);
     state_.day = day_of(numbers);
-    next_ = state_;
 }
 
 bool Machine::has(const SessionState &state, std::uint64_t connection) {
@@ -106,8 +104,7 @@ bool Machine::call(Call call, SessionState &state, Told &told, std::uint32_t mom
 
 const MachineTurn &Machine::take(bool is_done, const char *event) {
     if (!is_done) {
-        next_ = state_;
-        turn_ = MachineTurn{};
+        // What it has left there is gone with the next event, which begins with the state.
         throw std::runtime_error(names_.firm + ": the session did nothing at " + event);
     }
     const std::string_view out(reinterpret_cast<const char *>(out_.data()), out_.size());
