@@ -10,6 +10,7 @@
 #include <fstream>
 #include <iterator>
 #include <string>
+#include <thread>
 
 namespace gateway::tests {
 
@@ -42,6 +43,23 @@ TEST_CASE_FIXTURE(NoPipeSignal, "a line a checkpoint, all of them by the end") {
     same<std::string>("mireseason log 6\tcheckpoint 1\tsignature ab\n"
                       "mireseason log 6\tcheckpoint 2\tsignature cd\n",
                       text_in(file), "what was sent");
+}
+
+// A host that is lost in the next second has sent it.
+TEST_CASE_FIXTURE(NoPipeSignal, "a checkpoint leaves when it is made") {
+    const Scratch folder("sender");
+    const auto file = folder.path() / "sent";
+    CheckpointSender sender({"tee", file.string()}, silent);
+    std::string wanted;
+    for (const std::string line : {"checkpoint 1\n", "checkpoint 2\n"}) {
+        sender.send(line);
+        wanted += line;
+        const auto latest = std::chrono::steady_clock::now() + 60s;
+        while (text_in(file) != wanted && std::chrono::steady_clock::now() < latest) {
+            std::this_thread::sleep_for(1ms);
+        }
+        same(wanted, text_in(file), "what was sent");
+    }
 }
 
 TEST_CASE_FIXTURE(NoPipeSignal, "nobody waits for a program that reads nothing") {

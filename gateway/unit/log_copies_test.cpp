@@ -7,8 +7,11 @@
 #include "log_days.h"
 
 #include <algorithm>
+#include <functional>
 #include <set>
 #include <string>
+#include <tuple>
+#include <utility>
 #include <vector>
 
 #include <fmt/format.h>
@@ -22,21 +25,28 @@ class RememberingDatabase final : public Database {
   public:
     std::unique_ptr<LogReader> reader() override { return nullptr; }
     std::optional<std::uint32_t> take_over() override { return 0; }
-    std::unique_ptr<LogWriter> writer() override { return std::make_unique<Writer>(batches_); }
+    std::unique_ptr<LogWriter> writer() override { return std::make_unique<Writer>(*this); }
 
     const std::vector<Batch> &batches() const { return batches_; }
+    // How many of them were committed as the copy alone.
+    int alone() const { return alone_; }
 
   private:
     class Writer final : public LogWriter {
       public:
-        explicit Writer(std::vector<Batch> &batches) : batches_(batches) {}
-        void commit(const Batch &batch) override { batches_.push_back(batch); }
+        explicit Writer(RememberingDatabase &database) : database_(database) {}
+        void commit(const Batch &batch) override { database_.batches_.push_back(batch); }
+        void commit_copies(const Batch &batch) override {
+            ++database_.alone_;
+            commit(batch);
+        }
         void be_seen() override {}
 
       private:
-        std::vector<Batch> &batches_;
+        RememberingDatabase &database_;
     };
     std::vector<Batch> batches_;
+    int alone_ = 0;
 };
 
 // A session was given the venue's message of this number, with a mark that names it.
@@ -78,6 +88,48 @@ void put_entry(Log &log, std::uint32_t number) {
     log.wait_for_entry(number);
 }
 
+// What a log has done once it has ended, to which this is put by whoever has just committed its
+// first entry: before it looks whether the copy can be committed by itself.
+template <typename Put> void put_behind_an_entry(RememberingDatabase &database, Put put) {
+    DayClock clock(today());
+    Metrics metrics;
+    EntryFeed feed(0);
+    Log *own = nullptr;
+    bool is_first = true;
+    Log::Start start;
+    start.stored = [&] {
+        if (std::exchange(is_first, false)) {
+            put(*own);
+        }
+    };
+    Log log(database, feed, clock, metrics, std::move(start), [](const std::string &) {});
+    own = &log;
+    put_entry(log, 1);
+}
+
+// So many rows of the copy.
+void put_copies(Log &log, std::uint32_t count) {
+    for (std::uint32_t number = 1; number <= count; ++number) {
+        log.put(given(number));
+    }
+}
+
+constexpr std::uint32_t enough = 8;
+
+bool are_committed_alone(std::uint32_t count) {
+    RememberingDatabase database;
+    put_behind_an_entry(database, [count](Log &log) { put_copies(log, count); });
+    return database.alone() > 0;
+}
+
+ConnectionEvent a_logon() {
+    ConnectionEvent event;
+    event.event = connection_events::logon;
+    event.firm = "F";
+    event.address = "192.0.2.1:1";
+    return event;
+}
+
 constexpr std::uint32_t entries = 60;
 constexpr std::uint32_t messages_of_each = 3;
 
@@ -104,6 +156,48 @@ TEST_CASE("no entry waits for the copy of what was sent") {
     }
     same<std::size_t>(entries, placed, "entries");
     same<std::size_t>(std::size_t{entries} * messages_of_each, copied.size(), "rows");
+}
+
+// Also where the copy would be committed by itself: whoever waits for the other would wait for it.
+TEST_CASE("what is put before the copy is not committed behind it") {
+    using Holds = bool (*)(const Batch &);
+    const std::tuple<const char *, std::function<void(Log &)>, Holds> all[] = {
+        {"an entry",
+         [](Log &log) { log.append_message("F", came(2), "x", Log::Committer::caller); },
+         [](const Batch &batch) { return !batch.entries.empty() && batch.entries[0].place == 2; }},
+        {"a session note",
+         [](Log &log) {
+             log.put({"F", {}, {"reject"}});
+         },
+         [](const Batch &batch) { return std::ranges::count(batch.notes, "reject") > 0; }},
+        {"a connection", [](Log &log) { log.put_connection(a_logon()); },
+         [](const Batch &batch) { return !batch.connections.empty(); }},
+        {"a checkpoint", [](Log &log) { log.put_checkpoint({}); },
+         [](const Batch &batch) { return !batch.checkpoints.empty(); }},
+    };
+    for (const auto &[what, put, holds] : all) {
+        RememberingDatabase database;
+        put_behind_an_entry(database, [&put = put](Log &log) {
+            put(log);
+            put_copies(log, enough);
+        });
+        const std::vector<Batch> &batches = database.batches();
+        const auto other = std::ranges::find_if(batches, holds);
+        const auto copy =
+            std::ranges::find_if(batches, [](const Batch &batch) { return !batch.sent.empty(); });
+        check(other != batches.end() && copy != batches.end(), fmt::format("{} is lost", what));
+        check(other <= copy, fmt::format("{} waits for the copy", what));
+    }
+}
+
+// A log that a busy machine keeps from it for long commits them with all else.
+TEST_CASE("so many rows of the copy are committed by themselves") {
+    CHECK_FALSE(are_committed_alone(enough - 1));
+    bool is_alone = false;
+    for (int tries = 0; tries < 100 && !is_alone; ++tries) {
+        is_alone = are_committed_alone(enough);
+    }
+    CHECK(is_alone);
 }
 
 TEST_CASE("no mark stands in front of what it names") {

@@ -24,6 +24,7 @@
 
 #include <fmt/format.h>
 #include <fmt/ranges.h>
+#include <grp.h>
 #include <sys/socket.h>
 #include <unistd.h>
 
@@ -211,6 +212,9 @@ TEST_CASE("help lists every command") {
     CHECK(text.find("\nstatus ") != std::string::npos);
     CHECK(text.find("says what the gateway does\n") != std::string::npos);
     CHECK(admin_commands().size() == 20);
+    const std::string rows = ann.asks({"help"}, true);
+    CHECK(rows.find("{\"command\": \"halt [--bond ID] --because TEXT\", ") != std::string::npos);
+    CHECK(rows.find("{\"command\": \"status\", ") != std::string::npos);
     for (const AdminCommand &command : admin_commands()) {
         CHECK(text.find("\n" + std::string(command.name) + " ") != std::string::npos);
     }
@@ -292,19 +296,28 @@ TEST_CASE("who is at the other end, and may") {
         return; // to be another is root's alone
     }
     constexpr uid_t other = 3999999999;
-    constexpr gid_t group = 3999999998;
+    constexpr gid_t group = 3999999990;
+    std::vector<gid_t> before(static_cast<std::size_t>(::getgroups(0, nullptr)));
+    REQUIRE(::getgroups(static_cast<int>(before.size()), before.data()) >= 0);
+    const std::array<gid_t, 2> more = {group + 2, group + 3};
+    REQUIRE(::setgroups(more.size(), more.data()) == 0);
     REQUIRE(::setegid(group) == 0);
     REQUIRE(::seteuid(other) == 0);
     const auto others = make_ends();
     REQUIRE(::seteuid(0) == 0);
     REQUIRE(::setegid(0) == 0);
+    REQUIRE(::setgroups(before.size(), before.data()) == 0);
     const auto stranger = peer_of(others[0].number(), std::nullopt);
     REQUIRE(stranger);
     CHECK(stranger->user == other);
     CHECK(stranger->who == who_is(other));
     CHECK_FALSE(stranger->may);
-    CHECK_FALSE(peer_of(others[0].number(), group + 1)->may);
-    CHECK(peer_of(others[0].number(), group)->may);
+    for (const gid_t none : {gid_t{0}, group + 1, group + 4}) {
+        CHECK_FALSE(peer_of(others[0].number(), none)->may);
+    }
+    for (const gid_t own_group : {group, more[0], more[1]}) {
+        CHECK(peer_of(others[0].number(), own_group)->may);
+    }
 }
 
 // ---------------------------------------------------------------- the report that a firm brings

@@ -5,12 +5,14 @@
 
 #include "check.h"
 #include "config/configuration_for_firm.h"
+#include "firms/connection_rows.h"
 #include "health/condition.h"
 #include "health/firm_metrics.h"
 #include "service/overview.h"
 #include "session/session_event.h"
 #include "venue/open_requests.h"
 
+#include <algorithm>
 #include <stdexcept>
 
 #include <toml++/toml.h>
@@ -135,10 +137,32 @@ TEST_CASE("pages show text as text") {
     check(page.find("&lt;script&gt;alert(&#39;x&#39;)&lt;/script&gt; &amp; more") !=
               std::string::npos,
           "an event stands there as it is");
-    seen.requests.assign(250, {"INV1", "A", "09:30:00.125"});
-    const std::string long_page = html_of(seen);
-    check(long_page.find("Open requests: 250") != std::string::npos, "all are counted");
-    check(long_page.size() < 20000, "and a hundred are shown");
+}
+
+// A certificate is told where there is one.
+TEST_CASE("a connection is told with what it came with") {
+    ConnectionEvent logon;
+    logon.number = 7;
+    logon.address = "192.0.2.1:4001";
+    CHECK(words_of(logon) == "connection=7 address=192.0.2.1:4001");
+    logon.certificate = "DLR1";
+    CHECK(words_of(logon) == "connection=7 address=192.0.2.1:4001 certificate=\"DLR1\"");
+}
+
+// All are counted, and a hundred are shown.
+TEST_CASE("a page has room for a hundred requests") {
+    for (const std::size_t count : {99U, 100U, 101U, 250U}) {
+        Overview seen;
+        seen.requests.assign(count, {"INV1", "A", "09:30:00.125"});
+        const std::string page = html_of(seen);
+        CHECK(page.find(fmt::format("Open requests: {}<", count)) != std::string::npos);
+        std::size_t shown = 0;
+        for (std::size_t at = page.find("<td>INV1</td>"); at != std::string::npos;
+             at = page.find("<td>INV1</td>", at + 1)) {
+            ++shown;
+        }
+        same(std::min<std::size_t>(count, 100), shown, "requests that are shown");
+    }
 }
 
 constexpr const char *venue_text = R"(

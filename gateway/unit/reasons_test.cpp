@@ -3,10 +3,16 @@
 #define DOCTEST_CONFIG_IMPLEMENT_WITH_MAIN
 #include <doctest/doctest.h>
 
+#include "base/digest.h"
 #include "check.h"
 #include "common/frame.h"
 #include "log/reasons.h"
 #include "log/records.h"
+
+#include <stdexcept>
+#include <string>
+#include <tuple>
+#include <vector>
 
 namespace gateway::tests {
 
@@ -118,6 +124,40 @@ TEST_CASE("entry 0 has the table") {
             continue;
         }
         check(false, fmt::format("entry 0 is taken with `{}`", wrong));
+    }
+}
+
+TEST_CASE("entry 0 that was changed is none") {
+    Day day;
+    day.version = "1.2 (abc)";
+    day.program = sha256("program");
+    day.configuration = "version = 1\n";
+    const std::string line = line_of(day);
+    const Day read = day_of(line);
+    check(read.version == day.version && read.program == day.program && read.venue.empty() &&
+              read.configuration == day.configuration,
+          "it is read otherwise");
+    day.venue = "north";
+    check(day_of(line_of(day)).venue == "north", "its venue is read otherwise");
+    const std::string digits = text_of(day.program);
+    const std::string no_digits = "entry 0: a SHA-256 has 64 small hexadecimal digits";
+    for (const auto &[was, is, told] :
+         std::vector<std::tuple<std::string, std::string, std::string>>{
+             {"venue -\n", "", "entry 0 has no line `venue`"},
+             {"venue -\n", "venue\n", "entry 0 has no line `venue`"},
+             {"version 1.2 (abc)\n", "", "entry 0 has no line `version`"},
+             {"program ", "program", "entry 0 has no line `program`"},
+             {digits, digits.substr(1), no_digits},
+             {"configuration ", "configuration x", no_digits},
+             {"%%\n", "", "entry 0 has no line `%%`"},
+             {"version = 1", "version = 2",
+              "entry 0 was changed: its configuration has another SHA-256"},
+             {"version = 1\n", "version = 1\n\n",
+              "entry 0 was changed: its configuration has another SHA-256"},
+         }) {
+        std::string other = line;
+        CHECK_THROWS_WITH_AS(day_of(other.replace(other.find(was), was.size(), is)), told.c_str(),
+                             std::runtime_error);
     }
 }
 

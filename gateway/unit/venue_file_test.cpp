@@ -260,5 +260,7 @@ TEST_CASE("what is taken is taken from entry 0 too, where its date stands above 
     std::string text(lawful);
     text += std::string(longest_toml - date.size() - text.size() - 1, '#') + "\n";
     CHECK(read_venue_file("venue.toml", text, "20261124").text.size() == longest_toml);
-    CHECK_THROWS_AS(read_venue_file("venue.toml", "#" + text, "20261124"), VenueFileFaults);
+    CHECK_THROWS_WITH_AS(read_venue_file("venue.toml", text + "#", "20261124"),
+                         "venue.toml: line 1: with its date the file has more than 1048576 bytes",
+                         VenueFileFaults);
 }

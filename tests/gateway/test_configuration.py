@@ -71,6 +71,60 @@ def test_checked_beforehand(stage: Stage) -> None:
         check(found.returncode == 1 and wrong in found.stderr, "%s: %r" % (wrong, found))
 
 
+def asked(program: Path, *words: str, given: str = "") -> tuple[int, str, str]:
+    """The status of a program, and what it says on standard output and on standard error."""
+    done = subprocess.run(
+        [program, *words],
+        input=given,
+        capture_output=True,
+        text=True,
+        timeout=LONG,
+        check=False,
+    )
+    return done.returncode, done.stdout, done.stderr
+
+
+def test_what_the_program_does(gateway_program: Path, place: Path) -> None:
+    """Its status is 0 where it did what it was asked for, and 1, with the cause, where it could not."""
+    version = (ROOT / "VERSION").read_text().splitlines()[0]
+    status, told, fault = asked(gateway_program, "--version")
+    check(status == 0 and told.startswith("mireseason-gateway %s (" % version), told + fault)
+    status, told, fault = asked(gateway_program, "--hash", given="right\n")
+    check(status == 0 and re.fullmatch(r"\$y\$\S+\n", told) is not None, told + fault)
+    keys, none = str(place / "keys"), str(place / "none.toml")
+    status, told, fault = asked(gateway_program, "--make-keys", keys, "a", "b")
+    made = [Path(file).name for file in told.split()]
+    check(status == 0 and made == ["seal.key", "a.pem", "a.pub", "b.pem", "b.pub"], told + fault)
+    for words in (("--make-keys", keys, "a"), ("--check", none), ("--accept-loss", none), (none,)):
+        status, told, fault = asked(gateway_program, *words)
+        check(status == 1 and fault.startswith("mireseason-gateway: "), "%s: %s" % (words, fault))
+
+
+def test_what_the_program_does_not(gateway_program: Path) -> None:
+    """Its status is 2 where it was asked for nothing that it does."""
+    for given in ("", "\n"):
+        check(asked(gateway_program, "--hash", given=given)[0] == 2, "no password is hashed")
+    day = asked(gateway_program, "--check", "none.toml", "--date", "2025031")
+    check(day[0] == 2 and "eight digits" in day[2], "a day of seven digits: %s" % day[2])
+    nothing: list[list[str]] = [
+        ["--version", "1"],
+        ["--hash", "right"],
+        ["--make-keys"],
+        ["--confined"],
+        ["--accept-loss"],
+        ["--accept-loss", "none.toml", "none.toml"],
+        ["--check"],
+        ["--check", "none.toml", "--date"],
+        ["--check", "none.toml", "--data", "20250314"],
+        ["--chec", "none.toml"],
+        ["none.toml", "none.toml"],
+        [],
+    ]
+    for words in nothing:
+        status, _, fault = asked(gateway_program, *words)
+        check(status == 2 and fault.startswith("usage: "), "%s: %d %s" % (words, status, fault))
+
+
 def test_begun_with_a_wrong_key(stage: Stage) -> None:
     """So does a start: before there is a log, and not where sessions would begin."""
     with_tls(stage)
