@@ -6,6 +6,7 @@
 #include "log/sqlite_statement.h"
 #include "log_days.h"
 #include "log_schema.h"
+#include "room_of_day.h"
 
 #include <cstdlib>
 
@@ -105,6 +106,7 @@ void times_of_receipt(Database &database) {
 }
 
 TEST_CASE("exact moments") {
+    wait_for_room_of_day();
     const ExactMoment moment{((9 * 60 + 5) * 60 + 7) * 1'000'000LL + 80'009};
     same<std::string>("09:05:07.080009", text_of(moment), "a moment");
     same<std::string>("09:05:07.080", text_of(moment.cut()), "its millisecond");
@@ -174,6 +176,7 @@ std::unique_ptr<Database> database_of(const std::filesystem::path &folder) {
 }
 
 TEST_CASE("connections and times of receipt") {
+    wait_for_room_of_day();
     const Scratch folder("connection_log");
     const std::unique_ptr<Database> database = database_of(folder.path());
     begin_day(*database);

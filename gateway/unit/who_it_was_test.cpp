@@ -9,6 +9,7 @@
 #include "common/password.h"
 #include "day/begin_term.h"
 #include "log/sqlite_statement.h"
+#include "room_of_day.h"
 #include "session/refusal_words.h"
 #include "test_keys.h"
 
@@ -40,6 +41,7 @@ done
 )sh";
 
 Config config_of(const std::filesystem::path &folder) {
+    wait_for_room_of_day();
     std::filesystem::remove_all(folder);
     std::filesystem::create_directories(folder);
     std::ofstream(folder / "venue.sh") << venue_text;
