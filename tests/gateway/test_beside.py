@@ -36,12 +36,22 @@ def passed(words: list[str | Path], options: Options, **more: str) -> int:
 
 def test_two_gateways_on_one_log(gateway_program: Path, place: Path) -> None:
     """Terms keep one of two writers out, and a server that does not wait for its standby is refused."""
-    programs, test = postgres.programs(), gateway_program.parent / "terms_test"
+    passes_in_postgres(gateway_program.parent / "terms_test", place)
+
+
+def test_connections_in_postgres(gateway_program: Path, place: Path) -> None:
+    """What happened to a connection is read as it was put there."""
+    passes_in_postgres(gateway_program.parent / "connection_log_test", place)
+
+
+def passes_in_postgres(test: Path, place: Path) -> None:
+    """A unit test, where it is built, with a server of its own."""
+    programs = postgres.programs()
     if programs is None or not test.exists():
         pytest.skip(
             "PostgreSQL is not installed"
             if programs is None
-            else "terms_test is not built beside the gateway"
+            else "%s is not built beside the gateway" % test.name
         )
     with postgres.running(programs, place / "server") as server:
         own = {
