@@ -206,7 +206,8 @@ void no_memory(Database &database) {
 // What the gateway says in a firm's name has the number behind the firm's last message: one that
 // was read before it, and comes to the log behind it, stays behind it.
 TEST_CASE("what is said in a firm's name stays in front of what comes to the log behind it") {
-    const auto database = open_sqlite(fresh("behind.db"));
+    const Scratch folder("log");
+    const auto database = open_sqlite(folder.path() / "behind.db");
     begin_day(*database);
     DayThatGoesOn day(*database);
     const auto read = std::chrono::system_clock::now();
