@@ -1,0 +1,374 @@
+// Tests the calls of fix_sessions.h as C++ makes them, by whichever implementation is linked: which
+// argument is none, what a Logon asks for, and which time is kept of a day.
+#define DOCTEST_CONFIG_IMPLEMENT_WITH_MAIN
+#include <doctest/doctest.h>
+
+#include "check.h"
+#include "common/frame.h"
+#include "session/fix_sessions.h"
+
+#include <array>
+#include <chrono>
+#include <cstring>
+#include <functional>
+#include <optional>
+#include <string>
+#include <string_view>
+#include <vector>
+
+namespace gateway::tests {
+
+namespace {
+
+constexpr std::uint32_t nine = 9 * 3'600'000;
+constexpr std::uint32_t midnight = 86'400'000;
+
+Bytes at(std::string_view text) {
+    return reinterpret_cast<Bytes>(text.empty() ? "" : text.data());
+}
+
+// A message of these fields, which are written with bars.
+std::string message(const std::string &fields) {
+    return framed(with_soh(fields));
+}
+
+std::string logon_of(const std::string &date) {
+    return message("35=A|49=DLR1|56=VENUE|34=1|52=" + date + "-09:00:00|98=0|108=30|1137=9|");
+}
+
+// A session, and the arguments of its calls.
+struct Calls {
+    Calls() { fix_sessions_new(&state); }
+
+    template <typename Call, typename... Rest> bool call(Call one, Rest... rest) {
+        return one(&state, at(firm), firm.size(), at(venue), venue.size(), at(desk), desk.size(),
+                   at(date), date.size(), moment, rest..., out.data(), room, &told);
+    }
+    bool came(const std::string &bytes) {
+        return call(fix_sessions_came, connection, at(bytes), bytes.size(), true, is_denied,
+                    std::uint64_t{4}, at(id), id.size(), at(text), text.size());
+    }
+    bool given(const std::string &frame) {
+        return call(fix_sessions_given, at(frame), frame.size());
+    }
+    bool hands(const std::string &frame, std::uint32_t first) {
+        return call(fix_sessions_hands, std::uint64_t{9}, at(frame), frame.size(), first, false);
+    }
+    bool tick() { return call(fix_sessions_tick); }
+    bool ordered(std::uint32_t kind) { return call(fix_sessions_ordered, kind, std::uint64_t{0}); }
+    bool log_out(const std::string &why) { return call(fix_sessions_log_out, at(why), why.size()); }
+
+    // Opens the venue, and logs the firm on.
+    void begin() {
+        REQUIRE(ordered(0));
+        REQUIRE(came(logon_of(date)));
+        REQUIRE(state.phase == 1);
+    }
+
+    SessionState state{};
+    Told told{};
+    std::array<std::uint8_t, 12'288> out{};
+    std::size_t room = 12'288;
+    std::string firm = "DLR1", venue = "VENUE", desk, date = "20250314";
+    std::uint32_t moment = nine;
+    std::uint64_t connection = 1;
+    bool is_denied = false;
+    std::string id, text;
+};
+
+// All bytes of a session: what is not written keeps them.
+using Snapshot = std::array<unsigned char, sizeof(SessionState)>;
+Snapshot snapshot(const Calls &calls) {
+    Snapshot bytes{};
+    std::memcpy(bytes.data(), &calls.state, bytes.size());
+    return bytes;
+}
+
+using Ask = std::function<bool(Calls &)>;
+
+// What every event is asked with: the events themselves, of which each is one that a session takes.
+std::vector<Ask> events() {
+    return {[](Calls &calls) { return calls.came(logon_of("20250314")); },
+            [](Calls &calls) { return calls.given(message("35=AI|117=a|")); },
+            [](Calls &calls) { return calls.hands("", 0); },
+            [](Calls &calls) { return calls.tick(); },
+            [](Calls &calls) { return calls.ordered(1); },
+            [](Calls &calls) { return calls.log_out("held too long"); }};
+}
+
+// Each event does nothing, and the session is as before.
+void refuses(const std::function<void(Calls &)> &change, const std::string &what) {
+    for (const Ask &ask : events()) {
+        Calls calls;
+        change(calls);
+        const Snapshot before = snapshot(calls);
+        CHECK_MESSAGE(!ask(calls), what);
+        CHECK_MESSAGE(before == snapshot(calls), what);
+    }
+}
+
+void takes(const std::function<void(Calls &)> &change, const std::string &what) {
+    for (const Ask &ask : events()) {
+        Calls calls;
+        change(calls);
+        CHECK_MESSAGE(ask(calls), what);
+    }
+}
+
+// The texts of a Logon, as a question copies them.
+std::optional<std::vector<std::string>> asked(const std::string &logon, std::size_t room = 5'120) {
+    std::vector<std::uint8_t> out(5'120);
+    Asked lengths{};
+    if (!fix_sessions_question(at(logon), logon.size(), out.data(), room, &lengths)) {
+        return std::nullopt;
+    }
+    std::vector<std::string> texts;
+    const std::uint8_t *from = out.data();
+    for (const std::size_t length :
+         {lengths.firm, lengths.venue, lengths.desk, lengths.username, lengths.password}) {
+        texts.emplace_back(reinterpret_cast<const char *>(from), length);
+        from += length;
+    }
+    return texts;
+}
+
+std::string logon_with(const std::string &firm, const std::string &venue, const std::string &rest) {
+    return message("35=A|49=" + firm + "|56=" + venue + "|34=1|52=20250314-09:00:00|" + rest);
+}
+
+// A SendingTime (52) as a session keeps it: milliseconds since 1970, and those of 719,528 days.
+std::uint64_t kept_time(std::chrono::year_month_day day, std::uint32_t moment) {
+    const auto days = std::chrono::sys_days{day}.time_since_epoch().count();
+    return (static_cast<std::uint64_t>(days) + 719'528) * midnight + moment;
+}
+
+} // namespace
+
+TEST_CASE("names, a date and a moment that are none") {
+    refuses([](Calls &calls) { calls.firm.clear(); }, "no firm");
+    refuses([](Calls &calls) { calls.venue.clear(); }, "no venue");
+    takes([](Calls &calls) { calls.firm = calls.venue = std::string(40, 'x'); }, "40 bytes");
+    refuses([](Calls &calls) { calls.firm = std::string(41, 'x'); }, "a firm of 41 bytes");
+    refuses([](Calls &calls) { calls.venue = std::string(41, 'x'); }, "a venue of 41 bytes");
+    refuses([](Calls &calls) { calls.firm = with_soh("a|b"); }, "a SOH in a firm's name");
+    refuses([](Calls &calls) { calls.venue = with_soh("|"); }, "a SOH in the venue's name");
+    for (const char *date :
+         {"", "2025031", "202503140", "2025031x", "20250014", "20251314", "20250300", "20250332"}) {
+        refuses([&](Calls &calls) { calls.date = date; }, date);
+    }
+    for (const char *date : {"20250101", "20251231", "00000131", "99991231"}) {
+        takes([&](Calls &calls) { calls.date = date; }, date);
+    }
+    takes([](Calls &calls) { calls.moment = midnight - 1; }, "the last moment of a day");
+    refuses([](Calls &calls) { calls.moment = midnight; }, "the moment behind it");
+}
+
+TEST_CASE("a reason for which a message is not taken") {
+    const auto denied = [](const std::string &id, const std::string &text) {
+        Calls calls;
+        calls.begin();
+        calls.is_denied = true;
+        calls.id = id;
+        calls.text = text;
+        const Snapshot before = snapshot(calls);
+        const bool is_done =
+            calls.came(message("35=S|49=DLR1|56=VENUE|34=2|52=20250314-09:00:00|"));
+        CHECK(is_done == (before != snapshot(calls)));
+        return is_done;
+    };
+    CHECK(denied("q1", "closed"));
+    CHECK(denied("", "x"));
+    CHECK(denied(std::string(200, 'i'), std::string(200, 't')));
+    CHECK(!denied("q1", ""));
+    CHECK(!denied("q1", std::string(201, 't')));
+    CHECK(!denied("q1", with_soh("a|b")));
+    CHECK(!denied(std::string(201, 'i'), "closed"));
+    CHECK(!denied(with_soh("a|b"), "closed"));
+}
+
+TEST_CASE("a text of a Logout by the gateway") {
+    const auto logged_out = [](const std::string &text) {
+        Calls calls;
+        calls.begin();
+        const Snapshot before = snapshot(calls);
+        const bool is_done = calls.log_out(text);
+        CHECK(is_done == (before != snapshot(calls)));
+        return is_done;
+    };
+    CHECK(logged_out("x"));
+    CHECK(logged_out(std::string(200, 'x')));
+    CHECK(!logged_out(""));
+    CHECK(!logged_out(std::string(201, 'x')));
+    CHECK(!logged_out(with_soh("a|b")));
+}
+
+TEST_CASE("an order that is none") {
+    Calls calls;
+    CHECK(calls.ordered(5));
+    const Snapshot before = snapshot(calls);
+    CHECK(!calls.ordered(6));
+    CHECK(before == snapshot(calls));
+}
+
+TEST_CASE("a frame of the venue's that is none") {
+    const auto long_body = [](std::size_t length) {
+        const std::string front = "35=AI|58=";
+        return message(front + std::string(length - front.size() - 1, 'x') + "|");
+    };
+    Calls calls;
+    const Snapshot before = snapshot(calls);
+    std::string wrong_sum = message("35=AI|117=a|");
+    wrong_sum[wrong_sum.size() - 2] ^= 1;
+    for (const std::string &frame :
+         {std::string(), std::string("x"), message("35=AI|117=a|") + "x", wrong_sum,
+          message("117=a|35=AI|"), message("35=AI|x=a|"), message("35=AI|8=a|"),
+          message("35=AI|117=a"), long_body(3'801)}) {
+        CHECK_MESSAGE(!calls.given(frame), frame);
+        CHECK_MESSAGE((frame.empty() || !calls.hands(frame, 0)), frame);
+        CHECK_MESSAGE(before == snapshot(calls), frame);
+    }
+    CHECK(calls.given(long_body(3'800)));
+    CHECK(calls.hands(long_body(3'800), 0));
+    CHECK(calls.hands(long_body(3'800), midnight - 1));
+    CHECK(!calls.hands(long_body(3'800), midnight));
+    CHECK(!calls.hands("", midnight));
+}
+
+TEST_CASE("no room for what a turn says") {
+    Calls whole;
+    whole.begin();
+    const std::size_t length = whole.told.first.len;
+    Calls calls;
+    REQUIRE(calls.ordered(0));
+    const Snapshot before = snapshot(calls);
+    calls.room = length - 1;
+    CHECK(!calls.came(logon_of(calls.date)));
+    CHECK(before == snapshot(calls));
+    calls.room = length;
+    CHECK(calls.came(logon_of(calls.date)));
+    CHECK(calls.told.first.len == length);
+    CHECK(calls.state.phase == 1);
+}
+
+TEST_CASE("what a Logon asks for") {
+    using Texts = std::vector<std::string>;
+    CHECK(asked(logon_with("F", "VENUE", "57=B1|553=user|554=secret|")) ==
+          Texts{"F", "VENUE", "B1", "user", "secret"});
+    CHECK(asked(logon_with("F", "VENUE", "")) == Texts{"F", "VENUE", "", "", ""});
+    CHECK(asked(logon_with("F", "VENUE", "554=secret|")) == Texts{"F", "VENUE", "", "", "secret"});
+    const std::string most(1'024, 'x');
+    const std::string more(1'025, 'x');
+    CHECK(asked(logon_with(most, "VENUE", "")) == Texts{most, "VENUE", "", "", ""});
+    CHECK(asked(logon_with("F", most, "")) == Texts{"F", most, "", "", ""});
+    CHECK(asked(logon_with("F", "V", "57=" + most + "|553=" + most + "|")) ==
+          Texts{"F", "V", most, most, ""});
+    CHECK(asked(logon_with("F", "V", "57=a|554=" + most + "|")) == Texts{"F", "V", "a", "", most});
+    CHECK(asked(logon_with("F", "V", "57=" + more + "|553=" + more + "|")) ==
+          Texts{"F", "V", "", "", ""});
+    CHECK(asked(logon_with("F", "V", "553=a|554=" + more + "|")) == Texts{"F", "V", "", "a", ""});
+    CHECK(!asked(logon_with(more, "VENUE", "")));
+    CHECK(!asked(logon_with("F", more, "")));
+    CHECK(!asked(logon_with("", "VENUE", "")));
+    CHECK(!asked(logon_with("F", "", "")));
+}
+
+TEST_CASE("what is no Logon asks for nothing") {
+    const std::string logon = logon_with("F", "VENUE", "554=secret|");
+    CHECK(asked(logon, 12));
+    CHECK(!asked(logon, 11));
+    CHECK(!asked(""));
+    CHECK(!asked(logon + "x"));
+    CHECK(!asked(logon.substr(0, logon.size() - 1)));
+    CHECK(!asked(message("35=0|49=F|56=VENUE|34=1|")));
+    CHECK(!asked(message("35=A|56=VENUE|34=1|")));
+    CHECK(!asked(message("35=A|49=F|34=1|")));
+    CHECK(!asked(message("35=A|49=F|56=VENUE|")));
+    CHECK(!asked(message("35=A|49=F|56=VENUE|34=0|")));
+    CHECK(!asked(message("35=A|49=F|56=VENUE|34=1|34=1|")));
+    CHECK(!asked(message("35=A|49=F|56=VENUE|34=1|554=a|554=b|")));
+    CHECK(!asked(message("35=A|49=F|56=VENUE|34=1|112=|")));
+}
+
+TEST_CASE("what is a Logout") {
+    const auto is_logout = [](const std::string &bytes) {
+        return fix_sessions_is_logout(at(bytes), bytes.size());
+    };
+    const std::string logout = message("35=5|49=F|56=VENUE|34=2|");
+    CHECK(is_logout(logout));
+    CHECK(is_logout(message("35=5|")));
+    CHECK(!is_logout(logout + "x"));
+    CHECK(!is_logout(logout.substr(1)));
+    CHECK(!is_logout(message("35=0|49=F|56=VENUE|34=2|")));
+    CHECK(!is_logout(message("35=55|")));
+    CHECK(!is_logout(with_soh("8=FIX.4.4|9=5|35=5|10=168|")));
+    CHECK(!is_logout(""));
+}
+
+TEST_CASE("ten seconds for a first message, and two for a Logout") {
+    const std::string date = "20250314";
+    const auto is_late = [&](std::uint64_t since, std::uint32_t moment) {
+        return fix_sessions_is_first_late(since, at(date), date.size(), moment);
+    };
+    const auto is_over = [&](std::uint64_t since, std::uint32_t moment) {
+        return fix_sessions_is_parting_over(since, at(date), date.size(), moment);
+    };
+    CHECK(!is_late(nine, nine + 9'999));
+    CHECK(is_late(nine, nine + 10'000));
+    CHECK(!is_late(nine, nine - 10'000));
+    CHECK(!is_over(nine, nine + 1'999));
+    CHECK(is_over(nine, nine + 2'000));
+    CHECK(!is_over(nine, nine - 2'000));
+    CHECK(is_late(0, midnight - 1));
+    CHECK(!is_late(0, midnight));
+    CHECK(is_over(0, midnight - 1));
+    CHECK(!is_over(0, midnight));
+    CHECK(!fix_sessions_is_first_late(0, at("2025"), 4, nine));
+    CHECK(!fix_sessions_is_parting_over(0, at("2025"), 4, nine));
+}
+
+TEST_CASE("the time of a Logon and of a reset, on days of every kind") {
+    using namespace std::chrono;
+    for (const year_month_day day :
+         {1970y / January / 1,   2000y / February / 29, 2000y / March / 1,
+          2023y / December / 31, 2024y / January / 1,   2024y / January / 31,
+          2024y / February / 29, 2024y / March / 1,     2024y / December / 31,
+          2025y / February / 28, 2025y / March / 1,     2025y / March / 31,
+          2025y / April / 30,    2025y / May / 31,      2025y / June / 30,
+          2025y / July / 31,     2025y / August / 31,   2025y / September / 30,
+          2025y / October / 31,  2025y / November / 30, 2100y / February / 28,
+          2100y / March / 1,     2400y / March / 1}) {
+        Calls calls;
+        calls.date =
+            fmt::format("{:04}{:02}{:02}", static_cast<int>(day.year()),
+                        static_cast<unsigned>(day.month()), static_cast<unsigned>(day.day()));
+        CAPTURE(calls.date);
+        calls.begin();
+        CHECK(calls.state.day.last_logon == kept_time(day, nine));
+        calls.moment = nine + 61'001;
+        REQUIRE(calls.ordered(5));
+        CHECK(calls.state.day.reset_at == kept_time(day, nine + 61'001));
+    }
+}
+
+TEST_CASE("two minutes over the end of a month and of a year") {
+    for (const auto &[date, next] :
+         std::vector<std::pair<std::string, std::string>>{{"20240228", "20240229"},
+                                                          {"20240229", "20240301"},
+                                                          {"20250228", "20250301"},
+                                                          {"20241231", "20250101"},
+                                                          {"21000228", "21000301"},
+                                                          {"20000228", "20000229"}}) {
+        CAPTURE(date);
+        for (const auto &[time, is_taken] :
+             {std::pair{"-00:01:30", true}, std::pair{"-00:01:30.001", false}}) {
+            Calls calls;
+            calls.date = date;
+            calls.begin();
+            calls.moment = midnight - 30'000;
+            REQUIRE(calls.came(message("35=S|49=DLR1|56=VENUE|34=2|52=" + next + time + "|")));
+            CHECK((calls.told.takes == 2) == is_taken);
+        }
+    }
+}
+
+} // namespace gateway::tests
