@@ -8,9 +8,12 @@
 
 #include <algorithm>
 #include <cstring>
+#include <functional>
 #include <set>
 #include <sstream>
 #include <string>
+#include <tuple>
+#include <vector>
 
 namespace session_model::tests {
 
@@ -111,6 +114,60 @@ class ByCalls {
     std::set<std::uint64_t> given_; // numbers of the venue's messages
 };
 
+// The hash of one message.
+constexpr RunningHash one_message{1, 2, 3, 4};
+
+// A session that is recovered step by step. Each step says what its call says.
+struct Steps {
+    Steps() { session_recovery_begin(&at); }
+
+    // A note that fits, but for what is changed of it. It uses no number, but an answer to a Logon.
+    std::uint32_t note(char kind, const std::function<void(NoteNumbers &)> &change = {}) {
+        NoteNumbers note{};
+        note.kind = static_cast<unsigned char>(kind);
+        note.epoch = at.epoch;
+        note.expected = at.day.expected;
+        note.had = at.day.had;
+        note.given = at.given;
+        note.hash = at.hash;
+        if (change) {
+            change(note);
+        }
+        return session_recovery_note(&at, &note, copies);
+    }
+    std::uint32_t message() { return session_recovery_message(&at, &one_message); }
+    std::uint32_t entry(std::uint64_t place, std::uint64_t number) {
+        return session_recovery_entry(&at, place, number);
+    }
+
+    Recovered at{};
+    std::uint64_t copies = 0;
+};
+
+// A session that was logged on, has answered the TestRequest under number 3, was given a message
+// under number 2, is locked, and has carried out the act at place 5.
+Steps played() {
+    Steps steps;
+    REQUIRE(steps.message() == 0);
+    REQUIRE(steps.note('A', [](NoteNumbers &note) {
+        note.number = 1;
+        note.expected = 2;
+        note.last_logon = 77;
+    }) == 0);
+    REQUIRE(steps.note('1', [](NoteNumbers &note) { note.number = 3; }) == 0);
+    REQUIRE(steps.note('L', [](NoteNumbers &note) { note.act = 5; }) == 0);
+    REQUIRE(steps.note('L', [](NoteNumbers &note) {
+        note.is_locked = true;
+        note.expected = 3;
+        note.had = 3;
+    }) == 0);
+    return steps;
+}
+
+bool is_same(const RunningHash &one, const RunningHash &other) {
+    return std::memcmp(&one, &other, sizeof one) == 0;
+}
+
 } // namespace
 
 TEST_CASE("days of the model") {
@@ -120,6 +177,150 @@ TEST_CASE("days of the model") {
         CAPTURE(one.name);
         CHECK(ByCalls(one).line() == one.expected.substr(0, one.expected.find('\n')));
     }
+}
+
+TEST_CASE("what a day's line does not show") {
+    const Steps steps = played();
+    const Day &day = steps.at.day;
+    CHECK(day.is_locked);
+    CHECK(day.last_logon == 77);
+    CHECK(day.reset_at == 0);
+    CHECK(day.expected == 3);
+    CHECK(day.had == 3);
+    CHECK(day.next == 4);
+    CHECK(steps.at.act == 5);
+    CHECK(steps.at.given == 1);
+    CHECK(is_same(steps.at.hash, one_message));
+}
+
+TEST_CASE("a release") {
+    Steps steps = played();
+    REQUIRE(steps.note('L', [](NoteNumbers &note) { note.act = 6; }) == 0);
+    CHECK_FALSE(steps.at.day.is_locked);
+    CHECK(steps.at.act == 6);
+    CHECK(steps.at.day.last_logon == 77);
+}
+
+TEST_CASE("a reset, with a copy and without") {
+    for (const std::uint64_t copies : {1, 0}) {
+        CAPTURE(copies);
+        Steps steps = played();
+        steps.copies = copies;
+        REQUIRE(steps.note('R', [](NoteNumbers &note) {
+            note.act = 8;
+            note.last = 9;
+            note.moment = 99;
+        }) == 0);
+        const Day &day = steps.at.day;
+        CHECK(steps.at.epoch == 1);
+        CHECK(steps.at.since == 9);
+        CHECK(steps.at.act == 8);
+        CHECK(steps.at.given == 1);
+        CHECK(is_same(steps.at.hash, one_message));
+        CHECK(day.reset_at == 99);
+        CHECK(day.is_reset);
+        CHECK(day.is_one_free);
+        CHECK_FALSE(day.is_locked);
+        CHECK(day.last_logon == 0);
+        CHECK(day.expected == 1);
+        CHECK(day.had == 0);
+        CHECK(day.next == 2 + copies);
+        CHECK(day.first_given == 2 * copies);
+        CHECK(day.last_given == 2 * copies);
+        CHECK(day.last_kept == 2 * copies);
+    }
+}
+
+TEST_CASE("an entry counts behind the last reset") {
+    Steps steps = played();
+    REQUIRE(steps.note('R', [](NoteNumbers &note) { note.act = note.last = 8; }) == 0);
+    CHECK(steps.entry(8, 20) == 0);
+    CHECK(steps.at.taken == 0);
+    CHECK_FALSE(steps.at.day.was_taken);
+    CHECK(steps.entry(9, 20) == 0);
+    CHECK(steps.at.taken == 20);
+    CHECK(steps.at.day.was_taken);
+    CHECK(steps.at.day.expected == 21);
+    CHECK(steps.entry(10, 20) == recovery_not_behind);
+    CHECK(steps.at.taken == 20);
+    CHECK(steps.entry(10, 21) == 0);
+    CHECK(steps.at.day.expected == 22);
+}
+
+// Why a note is refused, in what it differs from one that is taken.
+TEST_CASE("a note that does not fit") {
+    using Change = std::function<void(NoteNumbers &)>;
+    const std::vector<std::tuple<char, std::uint32_t, Change>> all = {
+        {'M', recovery_goes_on, {}},
+        {'M', recovery_other_epoch, [](NoteNumbers &note) { note.epoch = 1; }},
+        {'M', recovery_other_given, [](NoteNumbers &note) { note.given = 0; }},
+        {'M', recovery_other_given, [](NoteNumbers &note) { note.given = 2; }},
+        {'M', recovery_other_hash, [](NoteNumbers &note) { note.hash.first = 0; }},
+        {'M', recovery_other_hash, [](NoteNumbers &note) { note.hash.fourth = 0; }},
+        {'M', recovery_other_number, [](NoteNumbers &note) { note.number = 4; }},
+        {'M', recovery_had_falls, [](NoteNumbers &note) { note.had = 2; }},
+        {'M', recovery_expected_falls, [](NoteNumbers &note) { note.expected = 2; }},
+        {'0', recovery_goes_on, [](NoteNumbers &note) { note.number = 4; }},
+        {'0', recovery_other_number, [](NoteNumbers &note) { note.number = 3; }},
+        {'0', recovery_other_number, [](NoteNumbers &note) { note.number = 1; }},
+        {'5', recovery_goes_on, [](NoteNumbers &note) { note.number = 4; }},
+        {'5', recovery_other_number, [](NoteNumbers &note) { note.number = 1; }},
+        {'A', recovery_goes_on, [](NoteNumbers &note) { note.number = 4; }},
+        {'A', recovery_other_number, [](NoteNumbers &note) { note.number = 1; }},
+        {'A', recovery_goes_on,
+         [](NoteNumbers &note) {
+             note.resets = true;
+             note.number = 1;
+             note.expected = 2;
+         }},
+        {'A', recovery_other_number,
+         [](NoteNumbers &note) {
+             note.resets = true;
+             note.number = 4;
+             note.expected = 2;
+         }},
+        {'A', recovery_expected_falls,
+         [](NoteNumbers &note) {
+             note.resets = true;
+             note.number = 1;
+         }},
+        {'L', recovery_other_number,
+         [](NoteNumbers &note) {
+             note.is_locked = true;
+             note.number = 4;
+         }},
+        {'L', recovery_goes_on, [](NoteNumbers &note) { note.act = 6; }},
+        {'L', recovery_act_again, [](NoteNumbers &note) { note.act = 5; }},
+        {'R', recovery_goes_on, [](NoteNumbers &note) { note.act = note.last = 6; }},
+        {'R', recovery_act_again, [](NoteNumbers &note) { note.act = 5, note.last = 6; }},
+        {'R', recovery_act_again, [](NoteNumbers &note) { note.act = 7, note.last = 6; }},
+        {'R', recovery_other_number,
+         [](NoteNumbers &note) {
+             note.act = note.last = 6;
+             note.number = 4;
+         }},
+        {'x', recovery_no_kind, {}},
+    };
+    for (const auto &[kind, fault, change] : all) {
+        CAPTURE(kind);
+        Steps steps = played();
+        const Recovered before = steps.at;
+        CHECK(steps.note(kind, change) == fault);
+        if (fault != recovery_goes_on) {
+            CHECK(steps.at.day.next == before.day.next);
+            CHECK(steps.at.day.expected == before.day.expected);
+            CHECK(steps.at.act == before.act);
+        }
+    }
+}
+
+TEST_CASE("a second reset counts no entries from before the first") {
+    Steps steps = played();
+    REQUIRE(steps.note('R', [](NoteNumbers &note) { note.act = 8, note.last = 20; }) == 0);
+    CHECK(steps.note('R', [](NoteNumbers &note) { note.act = 9, note.last = 19; }) ==
+          recovery_act_again);
+    CHECK(steps.note('R', [](NoteNumbers &note) { note.act = 9, note.last = 20; }) == 0);
+    CHECK(steps.at.epoch == 2);
 }
 
 TEST_CASE("a kind that is none") {
