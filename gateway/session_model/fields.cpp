@@ -141,7 +141,7 @@ Fields Fields::of_body(Text body) {
 
 Fields Fields::of_beginning(Text bytes) {
     const std::size_t last = bytes.rfind(SOH);
-    return of_body(bytes.substr(0, last == Text::npos ? 0 : last + 1));
+    return last == Text::npos ? Fields() : of_body(bytes.substr(0, last + 1));
 }
 
 std::optional<Text> Fields::value(std::uint32_t tag) const {
