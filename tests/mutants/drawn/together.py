@@ -25,7 +25,8 @@ HERE = Path(__file__).resolve().parent
 SETTINGS = (
     "-DCMAKE_BUILD_TYPE=Debug",
     # A file that ccache names shorter than its #line is a header to the compiler, in which no type is a file's own.
-    "-DCMAKE_CXX_FLAGS_DEBUG=-O0 -Wno-subobject-linkage",
+    # The library asserts what has no meaning, as the value of an optional that has none: such a mistake ends the program.
+    "-DCMAKE_CXX_FLAGS_DEBUG=-O0 -Wno-subobject-linkage -D_GLIBCXX_ASSERTIONS",
     "-DCMAKE_PROJECT_INCLUDE=%s" % (HERE / "together.cmake"),
     "-DDPKG_QUERY=OFF",
     "-DSESSION=model",
