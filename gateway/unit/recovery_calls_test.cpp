@@ -314,6 +314,24 @@ TEST_CASE("a note that does not fit") {
     }
 }
 
+TEST_CASE("a message has a number up to 999,999,990, and none behind that") {
+    Steps steps;
+    steps.at.day.next = 999'999'990;
+    REQUIRE(steps.message() == 0);
+    CHECK(steps.at.day.next == 999'999'991);
+    CHECK(steps.at.day.last_given == 999'999'990);
+    REQUIRE(steps.message() == 0);
+    CHECK(steps.at.day.next == 999'999'991);
+    CHECK(steps.at.day.last_given == 999'999'990);
+    CHECK(steps.at.given == 2);
+    for (const std::uint64_t expected : {999'999'990, 999'999'991}) {
+        Steps counted;
+        counted.at.day.expected = expected;
+        REQUIRE(counted.message() == 0);
+        CHECK((counted.at.day.next == 3) == (expected == 999'999'990));
+    }
+}
+
 TEST_CASE("a second reset counts no entries from before the first") {
     Steps steps = played();
     REQUIRE(steps.note('R', [](NoteNumbers &note) { note.act = 8, note.last = 20; }) == 0);

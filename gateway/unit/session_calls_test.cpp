@@ -14,6 +14,7 @@
 #include <optional>
 #include <string>
 #include <string_view>
+#include <tuple>
 #include <vector>
 
 namespace gateway::tests {
@@ -55,7 +56,9 @@ struct Calls {
         return call(fix_sessions_hands, std::uint64_t{9}, at(frame), frame.size(), first, false);
     }
     bool tick() { return call(fix_sessions_tick); }
-    bool ordered(std::uint32_t kind) { return call(fix_sessions_ordered, kind, std::uint64_t{0}); }
+    bool ordered(std::uint32_t kind, std::uint64_t copies = 0) {
+        return call(fix_sessions_ordered, kind, copies);
+    }
     bool log_out(const std::string &why) { return call(fix_sessions_log_out, at(why), why.size()); }
 
     // Opens the venue, and logs the firm on.
@@ -134,6 +137,35 @@ std::optional<std::vector<std::string>> asked(const std::string &logon, std::siz
 
 std::string logon_with(const std::string &firm, const std::string &venue, const std::string &rest) {
     return message("35=A|49=" + firm + "|56=" + venue + "|34=1|52=20250314-09:00:00|" + rest);
+}
+
+// What a connection has that is logged on.
+std::vector<std::uint64_t> numbers_of(const Line &line) {
+    return {line.connection, line.heartbeat, line.received,       line.sent,
+            line.gap,        line.gap_since, line.again,          line.again_end,
+            line.fresh,      line.split,     line.first_test,     line.last_test,
+            line.test_since, line.overtook,  line.settling_since, line.is_settled,
+            line.is_held,    line.is_asked,  line.is_test_due,    line.is_request_due};
+}
+
+// A session without a connection: it has no line, and no Logout is waited for.
+void check_away(const SessionState &state) {
+    CHECK(state.phase == 0);
+    CHECK(numbers_of(state.line) == numbers_of(Line{}));
+    CHECK(state.connection == 0);
+    CHECK(state.since == 0);
+}
+
+void check_nobody_waits(const SessionState &state) {
+    CHECK_FALSE(state.waits);
+    CHECK(state.waiting.connection == 0);
+    CHECK(state.waiting.since == 0);
+    CHECK_FALSE(state.waiting.is_alive);
+}
+
+std::string firms(const std::string &type, int number, const std::string &rest = "") {
+    return message("35=" + type + "|49=DLR1|56=VENUE|34=" + std::to_string(number) +
+                   "|52=20250314-09:00:00|" + rest);
 }
 
 // A SendingTime (52) as a session keeps it: milliseconds since 1970, and those of 719,528 days.
@@ -250,6 +282,52 @@ TEST_CASE("no room for what a turn says") {
     CHECK(calls.state.phase == 1);
 }
 
+TEST_CASE("a turn that says nothing, and one that keeps nothing") {
+    Calls calls;
+    REQUIRE(calls.ordered(0));
+    CHECK(calls.told.first.number == 0);
+    CHECK(calls.told.first.len == 0);
+    CHECK_FALSE(calls.told.first.is_kept);
+    CHECK(calls.told.kept_len == 0);
+    REQUIRE(calls.came(logon_of(calls.date)));
+    CHECK(calls.told.first.number == 1);
+    CHECK_FALSE(calls.told.first.is_kept);
+    CHECK(calls.told.kept_len == 0);
+    CHECK(calls.told.second.number == 0);
+    REQUIRE(calls.given(message("35=AI|117=a|")));
+    CHECK(calls.told.first.number == 2);
+    CHECK(calls.told.first.is_kept);
+    CHECK(calls.told.kept_len == message("35=AI|117=a|").size());
+}
+
+TEST_CASE("the longest message of a stream, and a longer one") {
+    const auto next = [](const std::string &bytes) {
+        FoundNext found{7, 7, 7};
+        fix_sessions_next(at(bytes), bytes.size(), &found);
+        return std::vector<std::size_t>{found.skip, found.kind, found.len};
+    };
+    using Found = std::vector<std::size_t>;
+    const auto long_message = [](std::size_t length) {
+        const std::string front = "8=FIXT.1.1|9=00000|35=S|58=";
+        const std::size_t rest = length - front.size() - 8;
+        return message("35=S|58=" + std::string(rest, 'x') + "|");
+    };
+    const std::string most = long_message(65'536);
+    REQUIRE(most.size() == 65'536);
+    CHECK(next(most) == Found{0, 1, 65'536});
+    CHECK(next(most + most) == Found{0, 1, 65'536});
+    CHECK(next(most.substr(0, 65'535)) == Found{0, 0, 0});
+    const std::string more = long_message(65'537);
+    CHECK(next(more) == Found{0, 2, 0});
+    CHECK(next(more.substr(0, 65'536)) == Found{0, 2, 0});
+    CHECK(next(more.substr(0, 65'535)) == Found{0, 0, 0});
+    CHECK(next("xy" + more) == Found{2, 2, 0});
+    CHECK(next(with_soh("8=F|9=999999999|") + std::string(65'519, 'x')) == Found{0, 0, 0});
+    CHECK(next(with_soh("8=F|9=999999999|") + std::string(65'520, 'x')) == Found{0, 2, 0});
+    CHECK(next("xyz") == Found{3, 0, 0});
+    CHECK(next("") == Found{0, 0, 0});
+}
+
 TEST_CASE("what a Logon asks for") {
     using Texts = std::vector<std::string>;
     CHECK(asked(logon_with("F", "VENUE", "57=B1|553=user|554=secret|")) ==
@@ -302,6 +380,137 @@ TEST_CASE("what is a Logout") {
     CHECK(!is_logout(message("35=55|")));
     CHECK(!is_logout(with_soh("8=FIX.4.4|9=5|35=5|10=168|")));
     CHECK(!is_logout(""));
+}
+
+TEST_CASE("what a session is once its connection is gone, or has ended") {
+    Calls calls;
+    check_away(calls.state);
+    calls.begin();
+    fix_sessions_gone(&calls.state, 2);
+    CHECK(calls.state.phase == 1);
+    fix_sessions_gone(&calls.state, 1);
+    check_away(calls.state);
+    Calls parted;
+    parted.begin();
+    REQUIRE(parted.came(firms("5", 2)));
+    CHECK(parted.told.ending == 1);
+    check_away(parted.state);
+}
+
+TEST_CASE("what a session is while a Logout is waited for, and behind it") {
+    Calls calls;
+    calls.begin();
+    REQUIRE(calls.tick());
+    REQUIRE(calls.came(firms("0", 2, "112=2|")));
+    REQUIRE(calls.state.line.is_settled);
+    calls.moment = nine + 500;
+    REQUIRE(calls.log_out("held too long"));
+    CHECK(calls.state.phase == 2);
+    CHECK(numbers_of(calls.state.line) == numbers_of(Line{}));
+    CHECK(calls.state.connection == 1);
+    CHECK(calls.state.since == nine + 500);
+    calls.moment = nine + 2'499;
+    REQUIRE(calls.tick());
+    CHECK(calls.state.phase == 2);
+    calls.moment = nine + 2'500;
+    REQUIRE(calls.tick());
+    CHECK(calls.told.connection == 1);
+    CHECK(calls.told.ending == 1);
+    check_away(calls.state);
+}
+
+TEST_CASE("what a session is behind an operator's reset, with copies and without") {
+    for (const auto &[copies, first, last] :
+         std::vector<std::tuple<std::uint64_t, std::uint64_t, std::uint64_t>>{
+             {0, 0, 0}, {1, 2, 2}, {3, 2, 4}}) {
+        CAPTURE(copies);
+        Calls calls;
+        calls.begin();
+        REQUIRE(calls.given(message("35=AI|117=a|")));
+        REQUIRE(calls.came(firms("S", 2)));
+        REQUIRE(calls.ordered(5, copies));
+        CHECK(calls.told.connection == 1);
+        CHECK(calls.told.ending == 1);
+        CHECK(calls.told.drops_rejects);
+        check_away(calls.state);
+        const Day &day = calls.state.day;
+        CHECK(day.expected == 1);
+        CHECK(day.next == 2 + copies);
+        CHECK(day.had == 0);
+        CHECK(day.first_given == first);
+        CHECK(day.last_given == last);
+        CHECK(day.last_kept == last);
+        CHECK(day.is_one_free);
+        CHECK_FALSE(day.was_taken);
+        CHECK(day.is_reset);
+        CHECK_FALSE(day.is_locked);
+        CHECK(day.last_logon == 0);
+        CHECK(day.is_open);
+        CHECK_FALSE(day.is_suspended);
+    }
+}
+
+TEST_CASE("a reset of a session that is away, closed or suspended") {
+    Calls calls;
+    REQUIRE(calls.ordered(2));
+    REQUIRE(calls.ordered(5));
+    CHECK(calls.told.connection == 0);
+    CHECK(calls.told.ending == 0);
+    CHECK_FALSE(calls.state.day.is_open);
+    CHECK(calls.state.day.is_suspended);
+}
+
+TEST_CASE("who waits for a connection, and who does not any more") {
+    Calls calls;
+    calls.begin();
+    check_nobody_waits(calls.state);
+    calls.connection = 2;
+    calls.moment = nine + 1;
+    REQUIRE(calls.came(firms("A", 2, "98=0|108=30|1137=9|")));
+    CHECK(calls.state.waits);
+    CHECK(calls.state.waiting.connection == 2);
+    CHECK(calls.state.waiting.since == nine + 1);
+    CHECK_FALSE(calls.state.waiting.is_alive);
+    calls.connection = 1;
+    REQUIRE(calls.came(firms("0", 2)));
+    CHECK(calls.state.waiting.is_alive);
+    fix_sessions_gone(&calls.state, 3);
+    CHECK(calls.state.waits);
+    Calls in_vain = calls;
+    fix_sessions_gone(&calls.state, 2);
+    check_nobody_waits(calls.state);
+    REQUIRE(calls.came(firms("0", 3)));
+    check_nobody_waits(calls.state);
+    in_vain.moment = nine + 2'001;
+    REQUIRE(in_vain.tick());
+    CHECK(in_vain.told.connection == 2);
+    CHECK(in_vain.told.ending == 1);
+    check_nobody_waits(in_vain.state);
+}
+
+TEST_CASE("numbers that no connection has count as used up") {
+    using Change = std::function<void(SessionState &)>;
+    const auto disconnects = [](const Change &change) {
+        Calls calls;
+        calls.begin();
+        change(calls.state);
+        REQUIRE(calls.tick());
+        return calls.told.ending == 1 && calls.state.phase == 0;
+    };
+    CHECK_FALSE(disconnects([](SessionState &) {}));
+    CHECK_FALSE(disconnects([](SessionState &state) { state.line.fresh = state.day.next; }));
+    CHECK(disconnects([](SessionState &state) { state.line.fresh = state.day.next + 1; }));
+    CHECK_FALSE(disconnects([](SessionState &state) { state.line.again_end = state.day.next; }));
+    CHECK(disconnects([](SessionState &state) { state.line.again_end = state.day.next + 1; }));
+    CHECK_FALSE(disconnects([](SessionState &state) { state.line.overtook = state.day.next; }));
+    CHECK(disconnects([](SessionState &state) { state.line.overtook = state.day.next + 1; }));
+    CHECK_FALSE(disconnects([](SessionState &state) { state.day.expected = 999'999'990; }));
+    CHECK(disconnects([](SessionState &state) { state.day.expected = 999'999'991; }));
+    const auto next_is = [](std::uint64_t next) {
+        return [next](SessionState &state) { state.day.next = state.line.fresh = next; };
+    };
+    CHECK_FALSE(disconnects(next_is(999'999'990)));
+    CHECK(disconnects(next_is(999'999'991)));
 }
 
 TEST_CASE("ten seconds for a first message, and two for a Logout") {
