@@ -5,6 +5,7 @@
 
 #include "recovered_cases.h"
 
+#include <string>
 #include <vector>
 
 namespace session_model::tests {
@@ -94,6 +95,22 @@ TEST_CASE("numbers that do not rise") {
     CHECK_THROWS_AS(recovered({{2, 4}, {3, 4}}, {}, {}, {}), NotRecovered);
     CHECK_THROWS_AS(recovered({}, {}, {}, {said('1', 3)}), NotRecovered);
     CHECK_THROWS_AS(recovered({}, {}, {}, {said('1', 2, 5), said('0', 3, 4)}), NotRecovered);
+}
+
+TEST_CASE("which note does not fit is told, or which entry") {
+    const auto told = [](const std::vector<RecoveredEntry> &entries,
+                         const std::vector<RecoveredNote> &notes) -> std::string {
+        try {
+            recovered(entries, {}, {}, notes);
+        } catch (const NotRecovered &fault) {
+            return fault.what();
+        }
+        return "";
+    };
+    CHECK(told({}, {said('1', 3)}).starts_with("note 1: "));
+    CHECK(told({}, {said('1', 2), said('1', 4)}).starts_with("note 2: "));
+    CHECK(told({{2, 4}, {3, 4}}, {}).starts_with("entry 3: "));
+    CHECK(told({{2, 4}}, {said('1', 2)}) == "");
 }
 
 TEST_CASE("141=Y where more than its Logon is counted") {

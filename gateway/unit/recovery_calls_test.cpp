@@ -179,8 +179,9 @@ TEST_CASE("days of the model") {
     }
 }
 
-TEST_CASE("what a day's line does not show") {
-    const Steps steps = played();
+TEST_CASE("what a day's line does not show, and a mark leaves as it is") {
+    Steps steps = played();
+    REQUIRE(steps.note('M') == 0);
     const Day &day = steps.at.day;
     CHECK(day.is_locked);
     CHECK(day.last_logon == 77);
@@ -211,6 +212,7 @@ TEST_CASE("a reset, with a copy and without") {
             note.last = 9;
             note.moment = 99;
         }) == 0);
+        REQUIRE(steps.note('M') == 0);
         const Day &day = steps.at.day;
         CHECK(steps.at.epoch == 1);
         CHECK(steps.at.since == 9);
@@ -242,7 +244,9 @@ TEST_CASE("an entry counts behind the last reset") {
     CHECK(steps.at.day.was_taken);
     CHECK(steps.at.day.expected == 21);
     CHECK(steps.entry(10, 20) == recovery_not_behind);
+    CHECK(steps.entry(7, 30) == 0);
     CHECK(steps.at.taken == 20);
+    CHECK(steps.at.day.was_taken);
     CHECK(steps.entry(10, 21) == 0);
     CHECK(steps.at.day.expected == 22);
 }

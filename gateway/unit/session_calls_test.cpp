@@ -52,8 +52,17 @@ struct Calls {
     bool given(const std::string &frame) {
         return call(fix_sessions_given, at(frame), frame.size());
     }
-    bool hands(const std::string &frame, std::uint32_t first) {
-        return call(fix_sessions_hands, std::uint64_t{9}, at(frame), frame.size(), first, false);
+    bool hands(const std::string &frame, std::uint32_t first, bool is_copy = false) {
+        return call(fix_sessions_hands, std::uint64_t{9}, at(frame), frame.size(), first, is_copy);
+    }
+    Wanted wants() const {
+        Wanted wanted{7, 7};
+        fix_sessions_wants(&state, &wanted);
+        return wanted;
+    }
+    // What left first, with bars for SOH.
+    std::string first() const {
+        return with_bars({reinterpret_cast<const char *>(out.data()), told.first.len});
     }
     bool tick() { return call(fix_sessions_tick); }
     bool ordered(std::uint32_t kind, std::uint64_t copies = 0) {
@@ -486,6 +495,48 @@ TEST_CASE("who waits for a connection, and who does not any more") {
     CHECK(in_vain.told.connection == 2);
     CHECK(in_vain.told.ending == 1);
     check_nobody_waits(in_vain.state);
+}
+
+// A Reject is held until the firm answers, and a TestRequest overtakes it.
+TEST_CASE("what a session asks for, one after the other") {
+    enum : std::uint32_t { nothing, again, fresh, tick };
+    const std::string reject = message("35=3|45=2|371=112|372=1|373=1|");
+    Calls calls;
+    const auto wants = [&](std::uint32_t kind, std::uint64_t number) {
+        const Wanted wanted = calls.wants();
+        return wanted.kind == kind && wanted.number == number;
+    };
+    calls.begin();
+    CHECK(wants(tick, 0));
+    REQUIRE(calls.tick());
+    CHECK(wants(nothing, 0));
+    REQUIRE(calls.came(firms("1", 2)));
+    CHECK(calls.state.day.last_kept == 3);
+    CHECK(wants(fresh, 3));
+    REQUIRE(calls.hands(reject, nine));
+    CHECK(wants(nothing, 0));
+    REQUIRE(calls.given(message("35=AI|117=a|")));
+    CHECK(calls.state.day.first_given == 4);
+    CHECK(calls.state.day.last_given == 4);
+    CHECK(calls.state.day.last_kept == 4);
+    calls.moment = nine + 10'000;
+    REQUIRE(calls.tick());
+    CHECK(calls.state.line.overtook == 5);
+    REQUIRE(calls.came(firms("0", 3, "112=5|")));
+    CHECK(calls.state.line.is_settled);
+    CHECK(calls.state.day.had == 5);
+    CHECK(wants(fresh, 3));
+    REQUIRE(calls.hands(reject, nine));
+    CHECK(wants(fresh, 4));
+    REQUIRE(calls.hands(message("35=AI|117=a|"), nine, true));
+    CHECK(calls.first().find("|97=Y|117=a|") != std::string::npos);
+    CHECK(wants(fresh, 5));
+    REQUIRE(calls.came(firms("2", 4, "7=5|16=0|")));
+    CHECK(wants(again, 5));
+    CHECK(calls.state.line.again_end == 6);
+    REQUIRE(calls.hands("", 0));
+    CHECK(wants(nothing, 0));
+    CHECK(calls.state.line.fresh == 6);
 }
 
 TEST_CASE("numbers that no connection has count as used up") {
