@@ -291,6 +291,30 @@ TEST_CASE("no room for what a turn says") {
     CHECK(calls.state.phase == 1);
 }
 
+TEST_CASE("each byte of what leaves, and of what leaves again") {
+    const std::string header = "|49=VENUE|56=DLR1|34=";
+    Calls calls;
+    calls.begin();
+    CHECK(calls.first() ==
+          with_bars(message("35=A" + header + "1|52=20250314-09:00:00.000|98=0|108=30|1137=9|")));
+    calls.moment = nine + 1'002;
+    REQUIRE(calls.given(message("35=AI|117=a|")));
+    CHECK(calls.first() ==
+          with_bars(message("35=AI" + header + "2|52=20250314-09:00:01.002|117=a|")));
+    REQUIRE(calls.came(firms("2", 2, "7=1|16=0|")));
+    calls.moment = nine + 60'045;
+    REQUIRE(calls.hands("", 0));
+    CHECK(calls.first() ==
+          with_bars(message("35=4" + header +
+                            "1|43=Y|52=20250314-09:01:00.045|122=20250314-09:01:00.045|123=Y|"
+                            "36=2|")));
+    REQUIRE(calls.hands(message("35=AI|117=a|"), nine + 1'002, true));
+    CHECK(calls.first() ==
+          with_bars(message("35=AI" + header +
+                            "2|43=Y|52=20250314-09:01:00.045|122=20250314-09:00:01.002|97=Y|"
+                            "117=a|")));
+}
+
 TEST_CASE("a turn that says nothing, and one that keeps nothing") {
     Calls calls;
     REQUIRE(calls.ordered(0));
@@ -513,6 +537,10 @@ TEST_CASE("what a session asks for, one after the other") {
     REQUIRE(calls.came(firms("1", 2)));
     CHECK(calls.state.day.last_kept == 3);
     CHECK(wants(fresh, 3));
+    Calls waiting = calls;
+    waiting.moment = nine + 10'000;
+    REQUIRE(waiting.tick());
+    CHECK(waiting.told.first.number == 0); // it overtakes what is held, and nothing else
     REQUIRE(calls.hands(reject, nine));
     CHECK(wants(nothing, 0));
     REQUIRE(calls.given(message("35=AI|117=a|")));
