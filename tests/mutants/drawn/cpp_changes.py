@@ -13,7 +13,7 @@ JUMPS = {CursorKind.BREAK_STMT, CursorKind.CONTINUE_STMT, CursorKind.CXX_THROW_E
 FUNCTIONS = {CursorKind.FUNCTION_DECL, CursorKind.CXX_METHOD, CursorKind.CONSTRUCTOR}
 WRAPPERS = {CursorKind.UNEXPOSED_EXPR, CursorKind.PAREN_EXPR}
 NAMED = {CursorKind.MEMBER_REF_EXPR, CursorKind.DECL_REF_EXPR}
-SYMMETRIC = {"operator==", "operator!="}  # whose sides nobody confuses
+SYMMETRIC = {"operator==", "operator!=", "min", "max"}  # whose sides may change places
 BOTH = {"&&": "true", "||": "false"}
 
 
