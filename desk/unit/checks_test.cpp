@@ -3,11 +3,13 @@
 #include <doctest/doctest.h>
 
 #include "checks.h"
+#include "trader_of.h"
 #include "unit.h"
 
 using namespace desk;
 using desk_tests::entry;
 using desk_tests::Folder;
+using desk_tests::trader_of;
 using Kind = Entry::Kind;
 
 namespace {
@@ -17,15 +19,6 @@ const Moment now_ = *moment_of("20260314-00:00:04.000");
 const Moment deadline = *moment_of("20260314-00:05:00.000"); // of each request
 const std::chrono::milliseconds moment_before{1};
 
-Trader trader(const std::string &login, const std::string &name) {
-    Trader one;
-    one.login = login;
-    one.name = name;
-    one.may_act = true;
-    one.names = {name};
-    return one;
-}
-
 Price points(int whole) {
     return Price{whole * 256};
 }
@@ -34,7 +27,7 @@ Price points(int whole) {
 struct Dealer {
     DealerDay day;
     Market market;
-    Trader tess = trader("tess", "T1"), tom = trader("tom", "T4");
+    Trader tess = trader_of("tess", "T1"), tom = trader_of("tom", "T4");
     int received = 0, sent = 0;
 
     Dealer() {
@@ -84,7 +77,7 @@ struct Dealer {
 struct Investor {
     InvestorDay day;
     Market market;
-    Trader tess = trader("tess", "T8");
+    Trader tess = trader_of("tess", "T8");
     int received = 0, sent = 0;
 
     Investor() {
@@ -177,7 +170,7 @@ TEST_CASE_FIXTURE(Dealer,
     CHECK(why(tom, "R3").starts_with("Your own exposure would be 4,000,000 of the 2,000,000"));
     refuse("R2", "q2");
     CHECK(why(tom, "R3") == "");
-    Trader other = trader("other", "T7");
+    Trader other = trader_of("other", "T7");
     other.exposure = 1;
     CHECK(why(other, "R3").starts_with("Your own exposure would be 2,000,000 of the 1 that"));
     CHECK(exposure_of(tess, day) == 2'000'000);

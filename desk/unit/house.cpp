@@ -1,6 +1,7 @@
 #include "house.h"
 
 #include "common/web/secrets.h"
+#include "trader_of.h"
 
 #include <doctest/doctest.h>
 
@@ -24,12 +25,9 @@ constexpr const char *hash = "$1$desk$SsESOLg5wnV47Kvq8nOCf."; // of `password`
 constexpr unsigned short port = 8443;
 
 Trader trader(const std::string &login, const std::string &name, bool may_act) {
-    Trader one;
-    one.login = login;
+    Trader one = trader_of(login, name);
     one.password = hash;
-    one.name = name;
     one.may_act = may_act;
-    one.names = {name};
     return one;
 }
 

@@ -12,6 +12,7 @@
 #include "config/configuration_for_firm.h"
 #include "config/venue_file.h"
 #include "log/make_keys.h"
+#include "venue_rows.h"
 
 #include <cstdint>
 #include <cstdlib>
@@ -27,21 +28,7 @@ using gateway::ConfigFiles;
 
 constexpr std::string_view day = "20261124";
 
-const std::string venue_text = R"(version = 1
-[[bond]]
-id = "BONDA0000001"
-[[dealer]]
-name = "DLR1"
-traders = ["T1"]
-quotes = 1024
-exposure = 1000000000
-[[investor]]
-name = "INV1"
-traders = ["T8"]
-requests = 256
-open = 16
-quantity = 5000000
-)";
+const std::string venue_text = gateway::tests::least_venue();
 
 [[noreturn]] void violated(const std::string &what) {
     std::cerr << what << '\n';

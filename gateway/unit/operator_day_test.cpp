@@ -13,6 +13,19 @@
 
 namespace gateway::tests {
 
+namespace {
+
+// The day ends, and each of these words stands in a line of its log.
+void ends_with(Market &market, const Words &all) {
+    market.end();
+    const Words lines = market.lines();
+    for (const std::string &words : all) {
+        CHECK_MESSAGE(has_line(lines, words), words);
+    }
+}
+
+} // namespace
+
 TEST_CASE("a firm is suspended, and goes on") {
     Market market;
     CHECK(market.asks({"suspend", "NONE", "--because", "x"}) ==
@@ -29,13 +42,9 @@ TEST_CASE("a firm is suspended, and goes on") {
     CHECK(market.asks({"resume", "DLR1"}) == "ok\nDLR1 may log on again\n");
     CHECK(market.has_firm("DLR1", "\"set\": \"\""));
     CHECK(denial_of_quote(market) == "");
-    market.end();
-    const Words lines = market.lines();
-    CHECK(has_line(lines, "# act ann(7) suspend DLR1 because=\"a call\""));
-    CHECK(has_line(lines, "# act ann(7) resume DLR1"));
-    CHECK(has_line(lines, "|35=Z|49=DLR1|56=VENUE|34=1|"));
-    CHECK(has_line(lines, "|50=T1|298=4|"));
-    CHECK_FALSE(has_line(lines, "49=INV1"));
+    ends_with(market, {"# act ann(7) suspend DLR1 because=\"a call\"", "# act ann(7) resume DLR1",
+                       "|35=Z|49=DLR1|56=VENUE|34=1|", "|50=T1|298=4|"});
+    CHECK_FALSE(has_line(market.lines(), "49=INV1"));
     CHECK(market.told("operator act=\"ann(7) suspend DLR1\" because=\"a call\"") == 1);
 }
 
@@ -49,13 +58,9 @@ TEST_CASE("what an investor has open is passed") {
     CHECK(market.has_firm("INV1", "\"messages\": 2, "));
     CHECK(market.has_firm("INV2", "\"messages\": 0, "));
     CHECK(market.has_firm("INV2", "\"set\": \"\""));
-    market.end();
-    const Words lines = market.lines();
-    CHECK(has_line(lines, "|35=AJ|49=INV1|56=VENUE|34=1|"));
-    CHECK(has_line(lines, "|50=V1|693=gateway-1|694=6|131=R1|"));
-    CHECK(has_line(lines, "|35=AJ|49=INV1|56=VENUE|34=2|"));
-    CHECK(has_line(lines, "|50=V1|693=gateway-2|694=6|131=R2|"));
-    CHECK_FALSE(has_line(lines, "131=R3"));
+    ends_with(market, {"|35=AJ|49=INV1|56=VENUE|34=1|", "|50=V1|693=gateway-1|694=6|131=R1|",
+                       "|35=AJ|49=INV1|56=VENUE|34=2|", "|50=V1|693=gateway-2|694=6|131=R2|"});
+    CHECK_FALSE(has_line(market.lines(), "131=R3"));
 }
 
 // The limits of the venue, of a bond, of the clock and of the disk do not count for it.
@@ -94,8 +99,7 @@ TEST_CASE("a halt, of the venue or of a bond") {
           "ok\nBONDA0000001 goes on, but for this:\nan operator has halted the venue\n");
     CHECK(market.asks({"resume"}) == "ok\nthe venue goes on\n");
     CHECK(denial_of_quote(market) == "");
-    market.end();
-    CHECK(has_line(market.lines(), "# act ann(7) halt --bond BONDA0000001 because=\"x\""));
+    ends_with(market, {"# act ann(7) halt --bond BONDA0000001 because=\"x\""});
 }
 
 TEST_CASE("a firm's limits and counts") {
@@ -164,9 +168,7 @@ TEST_CASE("quotes are taken back") {
     }
     CHECK(market.has_firm("DLR1", "\"messages\": 1, "));
     CHECK(market.has_firm("DLR2", "\"messages\": 1, "));
-    market.end();
-    CHECK(has_line(market.lines(), "|50=T3|298=4|"));
-    CHECK(has_line(market.lines(), "|50=T2|298=4|"));
+    ends_with(market, {"|50=T3|298=4|", "|50=T2|298=4|"});
     CHECK(market.told("cancel of all firm=DLR1 trader=T2") == 1);
 }
 
@@ -178,14 +180,10 @@ TEST_CASE("quotes of one trader are taken back one by one") {
     CHECK(asks_once_answered(market, {"cancel", "DLR1", "--trader", "T1", "--because", "x"})
               .starts_with(ok));
     CHECK(market.has_firm("DLR1", "\"messages\": 2, "));
-    market.end();
-    const Words lines = market.lines();
-    CHECK(has_line(lines, "# act ann(7) cancel DLR1 --trader T1 because=\"x\""));
-    CHECK(has_line(lines, "|35=Z|49=DLR1|56=VENUE|34=1|"));
-    CHECK(has_line(lines, "|50=T1|298=5|117=q1|"));
-    CHECK(has_line(lines, "|35=Z|49=DLR1|56=VENUE|34=2|"));
-    CHECK(has_line(lines, "|50=T1|298=5|117=q3|"));
-    CHECK_FALSE(has_line(lines, "117=q2"));
+    ends_with(market,
+              {"# act ann(7) cancel DLR1 --trader T1 because=\"x\"", "|35=Z|49=DLR1|56=VENUE|34=1|",
+               "|50=T1|298=5|117=q1|", "|35=Z|49=DLR1|56=VENUE|34=2|", "|50=T1|298=5|117=q3|"});
+    CHECK_FALSE(has_line(market.lines(), "117=q2"));
 }
 
 // Three seconds, twice. By the name of one trader it is not known what is open; one message that
@@ -205,9 +203,7 @@ TEST_CASE("quotes are taken back while the venue is silent") {
     market.has_venue_wait(false);
     CHECK(asks_once_answered(market, {"cancel", "DLR1", "--trader", "T1", "--because", "x"})
               .starts_with(ok));
-    market.end();
-    CHECK(has_line(market.lines(), "|50=T1|298=5|117=q1|"));
-    CHECK(has_line(market.lines(), "|694=6|131=R1|"));
+    ends_with(market, {"|50=T1|298=5|117=q1|", "|694=6|131=R1|"});
 }
 
 TEST_CASE("a trade is voided once") {
@@ -227,8 +223,7 @@ TEST_CASE("a trade is voided once") {
     CHECK(bust(name) ==
           "ok\n" + name + " is void: the record says so, and no firm is sent anything\n");
     CHECK(bust(name) == "error\n" + name + " is void already: mireseason-audit acts says why\n");
-    market.end();
-    CHECK(has_line(market.lines(), "# act ann(7) bust " + name + " because=\"by phone\""));
+    ends_with(market, {"# act ann(7) bust " + name + " because=\"by phone\""});
 }
 
 TEST_CASE("a clock that was set is accepted") {
@@ -251,8 +246,7 @@ TEST_CASE("what can't be read again stays") {
     Market market;
     CHECK(market.asks({"reload"})
               .starts_with("error\ncredentials and certificates stay as they were: "));
-    market.end();
-    CHECK(has_line(market.lines(), "# act ann(7) reload refused"));
+    ends_with(market, {"# act ann(7) reload refused"});
 }
 
 // ---------------------------------------------------------------- what an operator is told

@@ -11,6 +11,7 @@
 #include "service/overview.h"
 #include "session/session_event.h"
 #include "venue/open_requests.h"
+#include "venue_rows.h"
 
 #include <algorithm>
 #include <stdexcept>
@@ -165,38 +166,14 @@ TEST_CASE("a page has room for a hundred requests") {
     }
 }
 
-constexpr const char *venue_text = R"(
-version = 3
-date = "20250314"
-[[bond]]
-id = "BONDA0000001"
-grid = 128
-low = "95.5"
-high = "105"
-name = "Treasury 4 % 2034"
-[[dealer]]
-name = "DLR1"
-traders = ["T1", "T7"]
-quotes = 4096
-exposure = 250000000
-[[dealer]]
-name = "DLR2"
-traders = ["T2"]
-quotes = 10
-exposure = 777000000
-[[investor]]
-name = "INV1"
-traders = ["T8"]
-requests = 256
-open = 16
-quantity = 5000000
-[[investor]]
-name = "INV2"
-traders = ["T9"]
-requests = 31
-open = 3
-quantity = 888000000
-)";
+const std::string venue_text =
+    "version = 3\ndate = \"20250314\"\n" +
+    bond_row("grid = 128\nlow = \"95.5\"\nhigh = \"105\"\nname = \"Treasury 4 % 2034\"\n") +
+    dealer_row({.traders = R"("T1", "T7")"}) +
+    dealer_row({.name = "DLR2", .traders = R"("T2")", .quotes = 10, .exposure = 777'000'000}) +
+    investor_row() +
+    investor_row(
+        {.name = "INV2", .traders = R"("T9")", .requests = 31, .open = 3, .quantity = 888'000'000});
 
 TEST_CASE("hand outs tell a firm its own") {
     const toml::table dealer = toml::parse(configuration_for_firm(venue_text, "DLR1"));

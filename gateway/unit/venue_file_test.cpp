@@ -5,6 +5,7 @@
 
 #include "common/toml_bounds.h"
 #include "config/venue_file.h"
+#include "venue_rows.h"
 
 #include <array>
 #include <fstream>
@@ -17,25 +18,11 @@ using namespace gateway;
 
 namespace {
 
-constexpr std::string_view lawful = R"(version = 2
-[[bond]]
-id = "BONDA0000001"
-grid = 32
-name = "Treasury 4 % 2034"
-currency = "USD"
-quoted = "32nds"
-[[dealer]]
-name = "DLR1"
-traders = ["T1", "T7"]
-quotes = 4096
-exposure = 250000000
-[[investor]]
-name = "INV1"
-traders = ["T8"]
-requests = 256
-open = 16
-quantity = 5000000
-)";
+const std::string lawful =
+    "version = 2\n" +
+    tests::bond_row("grid = 32\nname = \"Treasury 4 % 2034\"\ncurrency = \"USD\"\n"
+                    "quoted = \"32nds\"\n") +
+    tests::dealer_row({.traders = R"("T1", "T7")"}) + tests::investor_row();
 
 // One change of the lawful text, and the fault that it gives.
 struct Case {
@@ -119,7 +106,7 @@ constexpr std::array cases = {
 };
 
 std::string changed(std::string_view was, std::string_view is) {
-    std::string text(lawful);
+    std::string text = lawful;
     const std::size_t at = text.find(was);
     REQUIRE(at != std::string::npos);
     return text.replace(at, was.size(), is);
@@ -145,10 +132,10 @@ std::string rows_of(std::string_view table, int count, std::string_view rest) {
 } // namespace
 
 TEST_CASE("a lawful configuration is given to the venue with the day's date in front") {
-    const VenueFile venue = read_venue_file("venue.toml", std::string(lawful), "20261127");
+    const VenueFile venue = read_venue_file("venue.toml", lawful, "20261127");
     CHECK(venue.date == "20261127");
     CHECK(venue.firms == std::vector<std::string>{"DLR1", "INV1"});
-    CHECK(venue.text == "date = \"20261127\"\n" + std::string(lawful));
+    CHECK(venue.text == "date = \"20261127\"\n" + lawful);
 }
 
 TEST_CASE("an ISIN and a market's code are no fault where they are right") {
@@ -160,7 +147,7 @@ TEST_CASE("an ISIN and a market's code are no fault where they are right") {
 }
 
 TEST_CASE("a date of its own stays, and the text with it, but for a line feed at its end") {
-    const std::string own = "date = \"20250314\"\n" + std::string(lawful);
+    const std::string own = "date = \"20250314\"\n" + lawful;
     const VenueFile venue =
         read_venue_file("venue.toml", own.substr(0, own.size() - 1), "20261127");
     CHECK(venue.date == "20250314");
@@ -257,7 +244,7 @@ TEST_CASE("a key with a letter less is told with the key that was meant, whichev
 
 TEST_CASE("what is taken is taken from entry 0 too, where its date stands above it") {
     const std::string date = "date = \"20261124\"\n";
-    std::string text(lawful);
+    std::string text = lawful;
     text += std::string(longest_toml - date.size() - text.size() - 1, '#') + "\n";
     CHECK(read_venue_file("venue.toml", text, "20261124").text.size() == longest_toml);
     CHECK_THROWS_WITH_AS(read_venue_file("venue.toml", text + "#", "20261124"),
