@@ -91,7 +91,8 @@ std::optional<BondValue> BondValues::of_yield(const std::string &id, double yiel
         const std::optional<Settlement> settlement = one->settlement(traded);
         exact = settlement ? one->price_of(yield, *settlement) : std::nullopt;
     }
-    if (!exact || !(*exact > 0) || *exact > Price::greatest / 256) {
+    // The greatest price is a 256th below this. What is rounded to more is no price, either.
+    if (!exact || !(*exact > 0) || *exact > (Price::greatest + 1) / 256) {
         return {};
     }
     const int step = 256 / grid;

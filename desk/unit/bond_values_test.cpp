@@ -225,6 +225,25 @@ TEST_CASE("a yield becomes the nearest price of the grid, and has that price's o
     CHECK_FALSE(values.of_yield("T", -19.9, 256, 2200y / 1 / 1));
 }
 
+// Nineteen coupons and the redemption, none of them discounted.
+TEST_CASE("a yield has a price up to the greatest that there is, 999 and 255 256ths") {
+    const auto value = [](double price) {
+        BondTerms terms = annual(0);
+        terms.coupon = (price - 100) / 19;
+        terms.dated = 1999y / 7 / 1;
+        terms.first_coupon.reset();
+        terms.maturity = 2018y / 7 / 1;
+        return BondValues({{"B", terms}}).of_yield("B", 0, 256, 1999y / 7 / 1);
+    };
+    for (const double price : {996.5, 998.75, 999.5, 999.99609375}) {
+        CAPTURE(price);
+        REQUIRE(value(price));
+        CHECK(value(price)->price == points(price));
+    }
+    CHECK_FALSE(value(1000));
+    CHECK_FALSE(value(1001));
+}
+
 TEST_CASE("a bond without data, one that has ended, and a price without a yield have no value") {
     const BondValues values({{"T", treasury()}});
     CHECK_FALSE(values.of_price("X", points(100), 2004y / 11 / 22));
