@@ -140,6 +140,17 @@ TEST_CASE_FIXTURE(Fixture, "of a cancel of all is told what it withdrew, not wha
     CHECK(day.notice()->text == "Cancel all: 1 quote withdrawn, none is live");
 }
 
+TEST_CASE_FIXTURE(Fixture, "of a cancel of all is told what it withdrew, not what its trader did") {
+    quote_live(2, "q1", "R1");
+    send(3, "35=Z|298=4|");
+    quote_live(4, "q2", "R2");
+    send(5, "35=Z|298=5|117=q2|");
+    receive("35=AI|117=q2|297=17|");
+    CHECK(day.notice()->text == "Cancel all sent by T3, not answered yet");
+    receive("35=AI|117=q1|297=17|");
+    CHECK(day.notice()->text == "Cancel all: 1 quote withdrawn, none is live");
+}
+
 TEST_CASE_FIXTURE(Fixture, "a quote that the venue does not take has ended, in the venue's words") {
     send(2, "35=S|131=R1|117=q1|133=99.5|");
     day.apply(entry(Kind::received, 1500,

@@ -42,6 +42,23 @@ PlayedVenue::PlayedVenue() : listener_(::socket(AF_INET, SOCK_STREAM | SOCK_CLOE
 
 desk::Message PlayedVenue::let_in() {
     const int before = heard_;
+    const desk::Message logon = take_logon();
+    write("A", "98=0|108=10|1137=9|");
+    if (heard_ > before + 1) {
+        write("2", "7=" + std::to_string(before + 1) + "|16=0|");
+    }
+    return logon;
+}
+
+desk::Message PlayedVenue::let_in_anew() {
+    const desk::Message logon = take_logon();
+    said_ = numbered_ = 0;
+    heard_ = 1;
+    write("A", "98=0|108=10|141=Y|1137=9|");
+    return logon;
+}
+
+desk::Message PlayedVenue::take_logon() {
     std::optional<desk::Message> logon;
     while (!logon || has_ended()) {
         wait_for(listener_);
@@ -51,10 +68,6 @@ desk::Message PlayedVenue::let_in() {
     }
     REQUIRE(logon->type() == "A");
     firm_ = logon->get(49);
-    write("A", "98=0|108=10|1137=9|");
-    if (heard_ > before + 1) {
-        write("2", "7=" + std::to_string(before + 1) + "|16=0|");
-    }
     return *logon;
 }
 

@@ -20,6 +20,8 @@ class PlayedVenue {
     // Waits for the desk to connect, lets it in, and asks for what it has missed; the desk's Logon.
     // A connection that the desk has given up, before this took it, is none.
     desk::Message let_in();
+    // The same of a session whose numbers begin anew (141=Y): the venue's next day.
+    desk::Message let_in_anew();
     // The next message of the desk's that is none of the session itself.
     desk::Message hear();
     // A message of the venue's, whose fields behind the header have bars for SOH.
@@ -30,6 +32,8 @@ class PlayedVenue {
     void hang_up() { line_.close(); }
 
   private:
+    // Waits for the desk to connect: its Logon.
+    desk::Message take_logon();
     void wait_for(const gateway::Descriptor &one);
     desk::Message read();
     // Nothing where the line has ended.

@@ -446,6 +446,28 @@ TEST_CASE("an investor's traders: a request, a hit, a pass, a group and a list")
         CHECK(house.act(page, list_of("Another", {line_of(alder, 5)})) ==
               "The desk takes no more lists for now: stop one first.");
     }
+    SUBCASE("a line that was refused right before the venue's day began anew is forgotten") {
+        CHECK(house.act(page, list_of("Monday", {line_of(alder, 1'000)})) == "");
+        CHECK(house.act("ada", {{"do", "set limits"},
+                                {"login", "tess"},
+                                {"quantity", 999},
+                                {"exposure", nullptr}}) == "");
+        house.site->tick();
+        house.until([&] {
+            const json line = page.last("lists").at("lists").at(0).at("lines").at(0);
+            return line.at("state") == "refused";
+        });
+        house.lose();
+        house.venue.let_in_anew();
+        house.until([&] {
+            return house.own->hello(house.config.traders[0]).at("session").at("on") == true;
+        });
+        CHECK(house.own->all_lists().at("lists").empty());
+        house.site->tick();
+        CHECK(house.act(page, list_of("Tuesday", {line_of(alder, 7)})) == "");
+        house.site->tick();
+        CHECK(house.venue.hear().get(tag::order_qty) == "7");
+    }
     SUBCASE("a line is judged when it is asked") {
         CHECK(house.act(page, list_of("Monday", {line_of(alder, 1'000), line_of(alder, 5)})) == "");
         CHECK(house.act("ada", {{"do", "set limits"},
