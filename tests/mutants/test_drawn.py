@@ -55,6 +55,17 @@ PYTHON = [
     ("a = c\n", Kind.STATEMENT_DROPPED, []),
     ("x = [a, b]\n", Kind.ENTRY, ["x = [b]\n", "x = [a]\n"]),
     ("x = [a]\n", Kind.ENTRY, []),
+    ("x = (a, b, c)\n", Kind.ENTRY, ["x = (b, c)\n", "x = (a, c)\n", "x = (a, b)\n"]),
+    ("def f(a: tuple[b, c, d]) -> tuple[b, c, d]:\n    pass\n", Kind.ENTRY, []),
+    ("X = Callable[[a, b], c]\n", Kind.ENTRY, []),
+    (
+        "def f(a: b = [c, d]) -> None:\n    pass\n",
+        Kind.ENTRY,
+        [
+            "def f(a: b = [d]) -> None:\n    pass\n",
+            "def f(a: b = [c]) -> None:\n    pass\n",
+        ],
+    ),
     (
         "def f() -> None:\n    a()\n    if b:\n        c()\n",
         Kind.EARLY,

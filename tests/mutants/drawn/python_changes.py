@@ -6,6 +6,10 @@ from collections.abc import Sequence
 
 from tests.mutants.drawn.change import BOUNDS, OPPOSITES, Change, Drawing, Kind, Span
 
+# What stands in their brackets is a type, which mypy reads and no program.
+GENERIC = frozenset(
+    "tuple list dict set frozenset type Callable Iterator Iterable Sequence Mapping".split()
+)
 SIGNS: dict[type[ast.cmpop], str] = {ast.Lt: "<", ast.LtE: "<=", ast.Gt: ">", ast.GtE: ">="}
 
 
@@ -116,7 +120,12 @@ class Reader(ast.NodeVisitor):
     def visit_FunctionDef(self, node: ast.FunctionDef) -> None:
         if isinstance(node.returns, ast.Constant) and node.returns.value is None:
             self.early(node.body)
-        self.generic_visit(node)
+        for child in ast.iter_child_nodes(node):
+            if child is not node.returns:
+                self.visit(child)
+
+    def visit_arg(self, node: ast.arg) -> None:
+        """Its type is for who reads the code: mypy refuses another one, and no program looks at it."""
 
     def early(self, body: Sequence[ast.stmt]) -> None:
         """A function that gives nothing back ends before one of its statements."""
@@ -138,6 +147,8 @@ class Reader(ast.NodeVisitor):
             self.drawing.add(Kind.OPPOSITE, self.span(node), OPPOSITES[node.id])
 
     def visit_Subscript(self, node: ast.Subscript) -> None:
+        if isinstance(node.value, ast.Name) and node.value.id in GENERIC:
+            return
         ends = {"[0]": "[-1]", "[-1]": "[0]"}
         at = self.span(node)
         tail = Span(at.line, self.span(node.value).end, at.end)
