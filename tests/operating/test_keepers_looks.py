@@ -8,11 +8,12 @@ import fcntl
 import hashlib
 import os
 import shutil
+import sqlite3
 import subprocess
 import sys
 from collections.abc import Callable, Iterator
-from contextlib import contextmanager
-from dataclasses import dataclass, field
+from contextlib import closing, contextmanager
+from dataclasses import dataclass, field, replace
 from datetime import datetime, timedelta, timezone
 from pathlib import Path
 from types import SimpleNamespace
@@ -24,7 +25,13 @@ from mireseason_keeper import keeper as keepers
 from mireseason_keeper import main
 from mireseason_keeper.copies import DayCopy
 from mireseason_keeper.database import Column, End, Log, Table
-from mireseason_keeper.day_file import digest_of_file, digest_of_log, write_day
+from mireseason_keeper.day_file import (
+    definition,
+    digest_of_file,
+    digest_of_log,
+    tables_of,
+    write_day,
+)
 from mireseason_keeper.faults import Fault
 from mireseason_keeper.given_copies import GivenCopy
 from mireseason_keeper.keeper import Counts, Keeper
@@ -563,9 +570,11 @@ def test_copies_that_are_not_what_they_were(copied: Copied) -> None:
     copied.is_refused("^its copy is another: later.checkpoints$")
     checkpoints.touch()
     copied.is_checked()
-    (copied.folder / "new").touch()
-    copied.is_refused("^its copy is another: new$")
-    (copied.folder / "new").unlink()
+    for name in ("new", "also"):  # of several the first by its name is told
+        (copied.folder / name).touch()
+        copied.is_refused("^its copy is another: %s$" % name)
+    for name in ("new", "also"):
+        (copied.folder / name).unlink()
     (copied.place / "seal.pem").unlink()
     copied.is_refused("seal.pem")
     (copied.folder / "SHA256SUMS").unlink()
@@ -593,6 +602,23 @@ def test_a_disk_that_keeps_something_else(copied: Copied, monkeypatch: pytest.Mo
     monkeypatch.setattr(copying, "digest_of_file", lambda path: "another")
     with pytest.raises(Fault, match="look at the disk"):
         copied.copies.begin(copied.log, SECOND, copied.place / "copies" / "20261126")
+
+
+def test_what_rows_are_ordered_by() -> None:
+    """By the key, wherever its columns stand, else by all: a log and its copy are read in one order."""
+    more, key = Column("more", "text", False, False), Column("number", "bigint", True, True)
+    for columns, order in (
+        ((more, key), (key,)),
+        ((more, key, key), (key, key)),
+        ((more,), (more,)),
+    ):
+        table = Table("rows", columns)
+        assert table.order == order
+        with closing(sqlite3.connect(":memory:")) as file:
+            named = [replace(one, name="%s_%d" % (one.name, at)) for at, one in enumerate(columns)]
+            table = Table("rows", tuple(named))
+            file.execute(definition(table))
+            assert tables_of(file) == [("rows", ", ".join(one.name for one in table.order))]
 
 
 def test_a_file_that_is_no_copy(copied: Copied) -> None:

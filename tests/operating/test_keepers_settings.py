@@ -57,6 +57,13 @@ FAULTS = {
     "another part": ("[copies]", "[copy]", "there is no part [copy]"),
     "a number as a text": ('folder = "copies"', "folder = 1", "has to be a text"),
     "nothing kept": ("[seal]", "keep = 0\n[seal]", "has to be a number from 1 on"),
+    "a part of a day kept": ("[seal]", "keep = 1.5\n[seal]", "keep is 1.5, and has to be a number"),
+    "a word for a number": (
+        "[seal]",
+        "keep = true\n[seal]",
+        "keep is True, and has to be a number",
+    ),
+    "a text for a number": ("[seal]", 'keep = "2"\n[seal]', "keep is '2', and has to be a number"),
     "a schema without a date": ("[copies]", 'schema = "day"\n[copies]', "schema needs {date}"),
     "a venue without a name": (
         "[copies]",
