@@ -400,8 +400,13 @@ class Commands(LogCase):
         # then.
         self.assertRegex(without, r"[1-9][0-9]* hits of its quotes name them")
         self.assertNotRegex(without, r"lifted no longer: [1-9]")
-        self.assertEqual(audit("pair", self.log, "FJORD").status, 2)
-        self.assertEqual(audit("pair", self.log, "NOBODY").status, 2)
+
+    def test_pair_of_no_dealer(self) -> None:
+        """An investor has no list of its own; and nobody else is asked about."""
+        for name in ("FJORD", "NOBODY"):
+            ran = audit("pair", self.log, name)
+            told = "mireseason-audit: the day has no dealer %s\n" % name
+            self.assertEqual((ran.status, ran.out, ran.err), (2, "", told))
 
     def test_pair_of_two_files(self) -> None:
         """Messages that the program frames are moved, named anew and left out as others are; what

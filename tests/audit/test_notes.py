@@ -1,11 +1,15 @@
 """What operators did, how the clock was and who speaks: by the lines of entries that the venue ignores, as the page has them."""
 
 import json
+import re
 from collections.abc import Iterator
 from typing import cast
 
 import pytest
+from mireseason_audit.faults import Unreadable
+from mireseason_audit.findings import Finding
 from mireseason_audit.log import Log
+from mireseason_audit.noted import ANOTHER_NOTE, firm_of, misnoted
 from mireseason_audit.notes import (
     ACTS,
     CLOCK_NOTES,
@@ -149,3 +153,53 @@ def test_who_speaks() -> None:
     assert first is not None and second is not None
     assert first == (1, 3, "gw1", "mireseason-gateway 2.0") and second == (2, 3, "", "2.0")
     assert first.words == "gw1 mireseason-gateway 2.0, from entry 1, in term 3"
+
+
+# ------------------------------------------------------------ what is noted beside messages
+
+WHY, OTHER, LATER = b"why DLR1 3 58=late", b"why DLR1 3 58=early", b"trade DLR1 5 1003=x"
+# What the session tells, what the venue notes with its entry; and of the finding its entry, number, and both texts.
+NOTED: dict[str, tuple[list[bytes], list[tuple[int, bytes]], list[object] | None]] = {
+    "the same": ([WHY, LATER], [(7, WHY), (9, LATER)], None),
+    "another reason": ([OTHER, LATER], [(7, WHY), (9, LATER)], [7, 3, WHY, OTHER]),
+    "only the venue has it": ([WHY], [(7, WHY), (9, LATER)], [9, 5, LATER, None]),
+    "only the session has it": ([WHY, LATER], [(7, WHY)], [None, 5, None, LATER]),
+    "the session lacks the first": ([LATER], [(7, WHY), (9, LATER)], [7, 3, WHY, LATER]),
+    "the session has one in front": ([WHY, LATER], [(9, LATER)], [None, 3, LATER, WHY]),
+    "neither has any": ([], [], None),
+}
+
+
+@pytest.mark.parametrize("name", NOTED)
+def test_notes_that_a_session_tells_otherwise(name: str) -> None:
+    """The first is told: of two messages the one with the lower number, whose entry is known where the venue notes it."""
+    told, noted, expected = NOTED[name]
+    found = list(misnoted("DLR1", told, noted))
+    if expected is None:
+        assert found == []
+        return
+    words = "the venue notes", "it tells"
+    (one,) = found
+    about = ("reasons and trades",)
+    assert one == Finding("DLR1", ANOTHER_NOTE, *expected, *words, named_items=about)  # type: ignore[arg-type]
+
+
+@pytest.mark.parametrize(
+    "note",
+    [b"why DLR1 x 58=late", b"why DLR1 3 ", b"whys DLR1 3 x", b"trade DLR1 3", b"why DLR1 3 a b"],
+)
+def test_a_note_of_no_form(note: bytes) -> None:
+    words = "`live --notes` prints a note of no form: %r" % note
+    with pytest.raises(Unreadable, match="^%s$" % re.escape(words)):
+        list(misnoted("DLR1", [WHY], [(7, note)]))
+
+
+def test_how_much_of_a_note_is_shown() -> None:
+    """The first 64 bytes of what has no form."""
+    note = b"why DLR1 x " + 64 * b"y"
+    with pytest.raises(Unreadable, match=": %r$" % note[:64]):
+        list(misnoted("DLR1", [], [(7, note)]))
+
+
+def test_whose_a_note_is() -> None:
+    assert [firm_of(one) for one in (WHY, b"trade FJORD 5 1003=x")] == ["DLR1", "FJORD"]

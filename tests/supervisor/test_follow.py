@@ -8,14 +8,17 @@ import sqlite3
 import subprocess
 import threading
 from collections.abc import Iterator
-from contextlib import closing
+from contextlib import closing, nullcontext
 from dataclasses import dataclass, field
 from pathlib import Path
+from types import SimpleNamespace
 
 import pytest
-from mireseason_audit.follow import Follower, Stand
+from mireseason_audit.faults import Unreadable
+from mireseason_audit.follow import Follower, Stand, share
 from mireseason_audit.log import Log, Source
 from mireseason_audit.pages import Pager
+from mireseason_audit.records import Checkpoint
 
 from tests.audit.common import AUDIT, ROOT
 from tests.audit.draw_day import BONDS
@@ -266,6 +269,105 @@ def test_a_page_waits_for_its_answers(tmp_path: Path, monkeypatch: pytest.Monkey
     builds = Builds(NoLog(), tmp_path / "live", 0.2, tmp_path, no_pager)
     builds.run()
     assert builds.done == [(entry, True) for entry in range(STEPS)]
+
+
+@dataclass(frozen=True)
+class Ending(Source):
+    """A log up to entry 7, whose last checkpoint is of an entry, and perhaps of the end of the day."""
+
+    last: Checkpoint
+    numbers: bool = True
+    name = "a log"
+
+    def open(self) -> Log:
+        first = self.last._replace(place=3, is_end=False)
+        told = {"numbers_checkpoints": self.numbers, "last_place": lambda: 7}
+        log = SimpleNamespace(**told, checkpoints=lambda: iter((first, self.last)))
+        return nullcontext(log)  # type: ignore[return-value]
+
+
+# Of the last checkpoint its entry and whether it says that the day has ended, whether the log numbers checkpoints, which entry is
+# shown already; and whether the next look finds that the day has ended.
+ENDINGS = {
+    "it has ended": (7, True, True, 7, True),
+    "its last entry is not shown yet": (7, True, True, 6, False),
+    "an entry came behind its end": (6, True, True, 7, False),
+    "it goes on": (7, False, True, 7, False),
+    "a log that says no end": (7, True, False, 7, False),
+}
+
+
+@pytest.mark.parametrize("name", ENDINGS)
+def test_when_a_day_has_ended(tmp_path: Path, name: str) -> None:
+    """Once its last checkpoint says so, and one look after its last entry was shown."""
+    place, is_end, numbers, shown, expected = ENDINGS[name]
+    source = Ending(Checkpoint(2, 0, place, b"", 0, b"", b"", is_end), numbers)
+    follower = Follower(source, tmp_path, 0.2, tmp_path, no_pager)
+    follower.built = Stand(shown)
+    assert follower._look() == Stand(7, expected)
+
+
+def test_what_whoever_started_it_is_told(tmp_path: Path) -> None:
+    """The first pages, a fault when it is first seen, and the end; not each build."""
+    said: list[str] = []
+    follower = Follower(NoLog(), tmp_path, 0.2, tmp_path, no_pager, say=said.append)
+
+    def told(number: int, is_good: bool, is_ended: bool = False) -> list[str]:
+        said.clear()
+        follower.number, follower.built = number, Stand(4, is_ended)
+        follower._tell(SimpleNamespace(is_good=is_good, words="a\nb"))  # type: ignore[arg-type]
+        return list(said)
+
+    at_fault = "up to entry 4: a\\nb"
+    assert told(1, True) == ["pages up to entry 4: %s" % (tmp_path / "index.html")]
+    assert told(2, True) == []
+    assert told(3, False) == [at_fault] and told(4, False) == []
+    assert told(5, True) == [] and told(6, False) == [at_fault]
+    (ended,) = told(7, False, True)
+    assert ended.startswith("the day has ended: ")
+
+
+def test_a_signal_while_pages_are_made(tmp_path: Path) -> None:
+    """The programs that were asked have ended by it: that is no fault. Without a signal it is one."""
+
+    class Asks(Follower):
+        def _build(self, stand: Stand) -> None:
+            raise Unreadable("it says nothing")
+
+    asks = Asks(NoLog(), tmp_path, 0.2, tmp_path, no_pager)
+    with pytest.raises(Unreadable):
+        asks._try(Stand(1))
+    asks.over.set()
+    assert not asks._try(Stand(1))
+
+
+def test_files_that_did_not_change(tmp_path: Path) -> None:
+    """They are those of the build before, and whatever else there is stays as it was made."""
+    before, now = tmp_path / "1", tmp_path / "2"
+    for folder, texts in ((before, ("same", "old")), (now, ("same", "new", "more"))):
+        (folder / "inner").mkdir(parents=True)
+        for name, text in zip(("a", "inner/b", "c"), texts):
+            (folder / name).write_text(text)
+    for _ in range(2):
+        share(now, before)
+        assert [path.name for path in sorted(now.rglob("*"))] == ["a", "c", "inner", "b"]
+        shared = [name for name in ("a", "inner/b") if (now / name).samefile(before / name)]
+        assert shared == ["a"]
+        assert [(now / name).read_text() for name in ("inner/b", "c")] == ["new", "more"]
+
+
+def test_builds_that_stay(tmp_path: Path) -> None:
+    """Three: `now` leads to the last, which it does at each moment."""
+    follower = Follower(NoLog(), tmp_path, 0.2, tmp_path, no_pager)
+    for number in range(1, 6):
+        folder = tmp_path / "builds" / str(number)
+        folder.mkdir(parents=True)
+        follower.number = number
+        follower._show(folder)
+        follower._forget()
+        assert (tmp_path / "now").samefile(folder)
+    assert sorted(path.name for path in (tmp_path / "builds").iterdir()) == ["3", "4", "5"]
+    assert sorted(path.name for path in tmp_path.iterdir()) == ["builds", "now"]
 
 
 @pytest.mark.parametrize(
