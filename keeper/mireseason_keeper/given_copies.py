@@ -78,18 +78,23 @@ class GivenCopy:
     def opened(self, name: str) -> Iterator[BinaryIO]:
         """A plain file of the folder; Fault where it is a link, a pipe or anything else."""
         try:
-            flags = os.O_RDONLY | os.O_NOFOLLOW | os.O_CLOEXEC
-            folder = os.open(self.folder, flags | os.O_DIRECTORY)
-            try:
-                number = os.open(name, flags | os.O_NONBLOCK, dir_fd=folder)
-            finally:
-                os.close(folder)
-            with open(number, "rb") as file:
-                if not stat.S_ISREG(os.fstat(number).st_mode):
-                    raise Fault("%s is no plain file" % (self.folder / name))
+            with open(self.number_of(name), "rb") as file:
                 yield file
         except OSError as fault:
             raise Fault("%s: %s" % (self.folder / name, one_line(fault))) from None
+
+    def number_of(self, name: str) -> int:
+        """The descriptor of a plain file, the only one that stays open."""
+        flags = os.O_RDONLY | os.O_NOFOLLOW | os.O_CLOEXEC
+        folder = os.open(self.folder, flags | os.O_DIRECTORY)
+        try:
+            number = os.open(name, flags | os.O_NONBLOCK, dir_fd=folder)
+        finally:
+            os.close(folder)
+        if stat.S_ISREG(os.fstat(number).st_mode):
+            return number
+        os.close(number)
+        raise Fault("%s is no plain file" % (self.folder / name))
 
 
 def names_in(folder: Path) -> list[str]:

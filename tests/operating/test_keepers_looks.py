@@ -29,6 +29,7 @@ from mireseason_keeper.day_file import (
     definition,
     digest_of_file,
     digest_of_log,
+    on_disk,
     tables_of,
     write_day,
 )
@@ -636,6 +637,44 @@ def test_an_entry_that_takes_without_end(copied: Copied, monkeypatch: pytest.Mon
     monkeypatch.setattr(day_file, "ENTRY_SECONDS", -1.0)
     with pytest.raises(Fault, match="^%s.db: interrupted$" % FIRST):
         day_file.first_line(log)
+
+
+def test_the_parts_of_entry_0() -> None:
+    """A word a line, and after them the configuration; no more than 64 KiB of words are taken for any."""
+    assert copying.parts_of(b"venue north\nprogram a b\n%%\nx = 1\n%%\n") == (
+        {"venue": "north", "program": "a b"},
+        b"x = 1\n%%\n",
+    )
+    assert copying.parts_of(b"%%\n") == ({}, b"")
+    longest = b"venue " + b"x" * (65_536 - 7) + b"\n"
+    assert copying.parts_of(longest + b"%%\n") == ({"venue": "x" * (65_536 - 7)}, b"")
+    for none in (None, b"", b"venue north\n", b"x" + longest + b"%%\n"):
+        with pytest.raises(Fault, match="^it has no entry 0$"):
+            copying.parts_of(none)
+
+
+def test_nothing_stays_open(place: Path) -> None:
+    """A run takes many files: neither a file nor its folder stays open, whatever is found there."""
+    (place / "day.db").write_bytes(b"x")
+    (place / "link").symlink_to("day.db")
+    os.mkfifo(place / "pipe")
+    (place / "folder").mkdir()
+    given, before = GivenCopy(place, "day.db"), os.listdir("/proc/self/fd")
+    with given.opened("day.db") as file:
+        assert file.read() == b"x"
+    for name, why in (
+        ("link", ": .*symbolic"),
+        ("pipe", " is no plain file$"),
+        ("folder", " is no plain file$"),
+        ("none", ": .*No such"),
+    ):
+        with pytest.raises(Fault, match="^%s%s" % (place / name, why)), given.opened(name):
+            pass
+    with pytest.raises(Fault, match="No such"), GivenCopy(place / "away", "x").opened("x"):
+        pass
+    on_disk(place / "day.db")
+    on_disk(place)
+    assert os.listdir("/proc/self/fd") == before
 
 
 def test_a_list_of_sums_that_is_too_long(place: Path) -> None:
