@@ -277,6 +277,26 @@ def test_where_readers_read(file: Path) -> None:
         read_settings(file)
 
 
+@pytest.mark.parametrize("key", ["opens", "ends"])
+@pytest.mark.parametrize(
+    "text", ["08:60", "24:01", "25:00", "8:00", "08:0", "08:00:00", "08-00", " 08:00", "08:0x", ""]
+)
+def test_what_is_no_time_of_day(file: Path, key: str, text: str) -> None:
+    file.write_text(RIGHT + '[day]\n%s = "%s"\n' % (key, text))
+    with pytest.raises(Fault) as fault:
+        read_settings(file)
+    assert str(fault.value) == "%s: [day] %s is %s, and has to be HH:MM" % (file, key, text)
+
+
+def test_times_of_day(file: Path) -> None:
+    """From midnight to midnight, with the last minute of each hour."""
+    for opens, ends in (("00:00", "00:01"), ("08:59", "09:00"), ("23:59", "24:00")):
+        file.write_text(RIGHT + '[day]\nopens = "%s"\nends = "%s"\n' % (opens, ends))
+        days = read_settings(file).days
+        for found, text in ((days.opens, opens), (days.ends, ends)):
+            assert found == timedelta(hours=int(text[:2]), minutes=int(text[3:]))
+
+
 LAST = {
     "its end": ("2026-11-25T22:30", "20261125"),
     "a second before": ("2026-11-25T22:29:59", "20261124"),
