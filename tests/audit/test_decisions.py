@@ -1,19 +1,25 @@
 """Decisions of the audit that a whole day seldom reaches: each by itself, against what the pages and the commands' help say."""
 
 import argparse
+import re
+import subprocess
+from collections import Counter
 from decimal import Decimal
 from pathlib import Path
 
 import pytest
 from mireseason_audit.certificates import Second, chosen, movers, second_for
 from mireseason_audit.check import dealt, epoch_findings, once_each, target_findings
+from mireseason_audit.checkpoints import Numbered
 from mireseason_audit.command import check_whole
+from mireseason_audit.differing import differing
+from mireseason_audit.door import Door
 from mireseason_audit.facts import QuoteFact, RequestFact
 from mireseason_audit.faults import Unreadable
 from mireseason_audit.findings import Finding
 from mireseason_audit.frame import fields_of
-from mireseason_audit.identity import Identity
-from mireseason_audit.looks import listed
+from mireseason_audit.identity import Asked, Identity
+from mireseason_audit.looks import Look, listed
 from mireseason_audit.order_events import (
     NEW,
     Order,
@@ -21,14 +27,26 @@ from mireseason_audit.order_events import (
     in_order,
     side_said,
 )
+from mireseason_audit.pair import (
+    COVER,
+    DROP,
+    END,
+    LIFTED,
+    OWN,
+    SHOWN,
+    Differences,
+    difference_words,
+)
 from mireseason_audit.parties import Parties
 from mireseason_audit.request_lists import lists_of
+from mireseason_audit.records import Checkpoint
 from mireseason_audit.requests import Request
 from mireseason_audit.sqlite_log import SqliteSource
 from mireseason_audit.statistics import Spread
 from mireseason_audit.verdict import Verdict
+from mireseason_audit.version import commit_of, first_line, version_text
 
-from tests.audit.common import DAY
+from tests.audit.common import DAY, ROOT
 
 # ------------------------------------------------------------ quotes and figures
 
@@ -356,3 +374,254 @@ def test_what_is_no_field() -> None:
         (0, b"-1=2"),
         (58, b"a=b"),
     ]
+
+
+# ------------------------------------------------------------ what was looked at
+
+WRONG_ENTRY, WRONG_DOOR = Finding("entries", "x", 3), Finding("door", "x")
+
+
+def verdict_of(**more: object) -> Verdict:
+    with SqliteSource(DAY).open() as log:
+        day = log.day()
+    made = Verdict("day.db", day, Identity(day, {}), True, True, last_place=9)
+    for name, value in more.items():
+        setattr(made, name, value)
+    return made
+
+
+def look(verdict: Verdict, name: str) -> Look:
+    (found,) = [one for one in verdict.looks if one.name == name]
+    return found
+
+
+# What a verdict has, the item, and its kind, words and what it leaves open in the verdict's sentence.
+LOOKS: dict[str, tuple[dict[str, object], str, tuple[str, str, str]]] = {
+    "no checkpoint from outside": (
+        {},
+        "cut-off end",
+        ("not checked", "without --checkpoint the end may have been cut off", "cut-off end"),
+    ),
+    "one that reaches the end": (
+        {"reach": 9, "uncut": "up to entry 9"},
+        "cut-off end",
+        ("checked", "up to entry 9", ""),
+    ),
+    "one that reaches to the entry before": (
+        {"reach": 8, "uncut": "up to entry 8"},
+        "cut-off end",
+        ("in part", "up to entry 8", "cut-off end after entry 8"),
+    ),
+    "one of entry 0": (
+        {"reach": 0, "uncut": "up to entry 0"},
+        "cut-off end",
+        ("in part", "up to entry 0", "cut-off end after entry 0"),
+    ),
+    "no seal": (
+        {"findings": [WRONG_ENTRY]},
+        "supervisor's seal",
+        (
+            "not checked",
+            "without --key no seal that a supervisor took was looked at",
+            "supervisor's seal",
+        ),
+    ),
+    "a seal": (
+        {"seal": "it agrees", "findings": [WRONG_DOOR]},
+        "supervisor's seal",
+        ("checked", "it agrees", ""),
+    ),
+    "a seal of a chain that does not hold": (
+        {"seal": "it agrees", "findings": [WRONG_DOOR, WRONG_ENTRY]},
+        "supervisor's seal",
+        ("found wrong", "it agrees", ""),
+    ),
+    "no signatures": (
+        {},
+        "signatures",
+        ("not checked", "without --gateway-key the chain may have been made anew", "signatures"),
+    ),
+    "signatures": ({"signed": "3 agree"}, "signatures", ("checked", "3 agree", "")),
+    "reasons": (
+        {},
+        "reasons and trades",
+        ("checked", "58 and 1003 say what the program notes, and stand nowhere else", ""),
+    ),
+    "reasons of two files": (
+        {"has_chain": False},
+        "reasons and trades",
+        ("not checked", "two files have none", "reasons and trades"),
+    ),
+    "reasons of a session at fault": (
+        {
+            "findings": [
+                Finding(at, "x", named_items=("sessions",)) for at in ("INV1", "DLR1", "INV1")
+            ]
+        },
+        "reasons and trades",
+        (
+            "not checked",
+            "58 and 1003 were not looked at where a session is at fault: DLR1 and INV1",
+            "reasons and trades",
+        ),
+    ),
+    "seals": (
+        {},
+        "seals",
+        (
+            "checked",
+            "the last covers the last entry and row; whether it is right only a gateway can tell",
+            "",
+        ),
+    ),
+    "no seals": (
+        {"has_seals": False},
+        "seals",
+        ("not checked", "gateways of this form of the log made none", "seals"),
+    ),
+    "no numbers of checkpoints": (
+        {},
+        "checkpoints",
+        (
+            "not checked",
+            "in this form of the log none says where a day ended, and none is missed",
+            "checkpoints",
+        ),
+    ),
+}
+
+
+@pytest.mark.parametrize("name", LOOKS)
+def test_what_is_said_of_an_item(name: str) -> None:
+    more, item, (kind, words, unchecked) = LOOKS[name]
+    found = look(verdict_of(**more), item)
+    assert (found.kind, found.words, found.unchecked) == (kind, words, unchecked)
+
+
+# Of an item whether it was looked at in full, its words and what was left, with so many findings; and its words then.
+FOUND = {
+    "none": (Look("entries", True, "all"), 0, "checked     entries: all"),
+    "one": (
+        Look("door", True, "all"),
+        1,
+        "found wrong door: NOT AS IT SHOULD BE, in its rows, its chain or what came on which connection: 1 finding",
+    ),
+    "two, of what says so itself": (
+        Look("supervisor's seal", True, "it does NOT agree"),
+        2,
+        "found wrong supervisor's seal: it does NOT agree: 2 findings",
+    ),
+    "of what was left in part": (
+        Look("checkpoints", False, "5 of them", left="the end"),
+        1,
+        "found wrong checkpoints: NOT AS THEY SHOULD BE: 1 finding; not checked in full: the end",
+    ),
+    "of what was not checked": (
+        Look("tables", False, "two files have none"),
+        1,
+        "found wrong tables: NOT those of the log's form alone: 1 finding; not checked in full: two files have none",
+    ),
+}
+
+
+@pytest.mark.parametrize("name", FOUND)
+def test_what_is_said_of_an_item_with_findings(name: str) -> None:
+    made, count, line = FOUND[name]
+    assert made.found(count).line == line and made.found(count).is_wrong == (count > 0)
+
+
+def test_the_sentence_of_a_good_day() -> None:
+    """Whole where all was looked at, consistent where something was not; of two files it says neither."""
+    text, whole = "each firm was sent what the rules give, byte for byte", verdict_of()
+    left = "not checked: door, checkpoints, day asked for, proved program, signatures, cut-off end"
+    consistent = text + ", and the record is consistent"
+    assert whole.words == "%s; %s, supervisor's seal" % (consistent, left)
+    two_files = verdict_of(has_chain=False, has_seals=False).words
+    assert two_files.startswith(text + "; not checked: entries, tables, door, sessions, ")
+    outside = verdict_of(uncut="x", reach=4)
+    words = consistent + "; checkpoints from outside reach up to entry 4 of 9"
+    assert outside.words.startswith(words + ", and their signatures were not checked; not checked")
+    outside.signed = "x"
+    assert outside.words.startswith(words + "; not checked: ")
+    whole.chained.door = Door()
+    whole.numbered = Numbered(1, Checkpoint(1, 0, 9, b"", 0, b"", b"", True))
+    asked = Asked("20261125", "-", "0" * 64)
+    whole.identity = Identity(whole.day, {whole.day.program: "x"}, asked=asked)
+    whole.signed, whole.uncut, whole.reach, whole.seal = "x", "x", 9, "x"
+    reached = "; checkpoints from outside reach up to entry 9 of 9"
+    assert whole.words == text + ", and the record is whole" + reached
+
+
+# ------------------------------------------------------------ what differs
+
+
+def fields(*pairs: tuple[int, str]) -> bytes:
+    return b"".join(b"%d=%b\x01" % (tag, text.encode()) for tag, text in pairs)
+
+
+def test_fields_of_which_two_messages_differ() -> None:
+    """Up to six are named, and how many more there are; the frame's own fields follow from the others."""
+    for count in (1, 5, 6, 7, 9):
+        pairs = [(tag, "a") for tag in range(50, 50 + count)]
+        named = ["%d: a given, b found" % tag for tag, _ in pairs[:6]]
+        named += ["and %d fields more" % (count - 6)] if count > 6 else []
+        other = fields((8, "x"), (9, "1"), *((tag, "b") for tag, _ in pairs), (10, "1"))
+        one = fields((8, "y"), (9, "2"), *pairs, (10, "2"))
+        assert differing(one, other) == "; ".join(named)
+
+
+def test_values_that_differ() -> None:
+    """Up to 40 characters of each, several of one tag together, and a word where there is none."""
+    short, long = "x" * 40, "x" * 41
+    for value, text in ((short, short), (long, short + "..")):
+        assert differing(fields((58, value)), fields((58, "y"))) == "58: %s given, y found" % text
+    one = fields((448, "A"), (448, "B")) + b"none\x01"
+    assert differing(one, fields((448, "B"), (448, "A"))) == (
+        "448: A, B given, B, A found; no field: none given, nothing found"
+    )
+    assert differing(fields((1, "a")), fields((1, "b")), frozenset({1})) == ""
+    assert differing(fields((1, "a")), fields((1, "b")), words="%s, %s") == "1: a, b"
+
+
+def test_how_two_lists_of_a_dealer_differ_in_words() -> None:
+    """Each difference once, with why it is declared, or that it must not be."""
+    found = Differences(
+        notices=Counter({("cover", "done away"): 2, ("won", "expired"): 1}),
+        first_notice={("cover", "done away"): "R3", ("won", "expired"): "R7"},
+        moved_notices=4,
+        lifted=(5, 6),
+        others=Counter({"own": 1, "shown": 2, "drop": 3, "other": 0}),
+    )
+    assert difference_words(found) == [
+        "it is told `done away` where it was told `cover` (2 requests, the first is R3). " + COVER,
+        "it is told `expired` where it was told `won` (1 request, the first is R7). " + END,
+        "Notices at another moment: 4. " + END,
+        "Quotes of its own that are lifted no longer: 5, and others that are: 6. " + LIFTED,
+        "Drops in one list alone: 3. " + DROP,
+        "Own messages in one list alone: 1. " + OWN,
+        "Requests shown in one list alone: 2. " + SHOWN,
+    ]
+    assert difference_words(Differences(lifted=(0, 1)))[0].startswith(
+        "Quotes of its own that are lifted no longer: 0,"
+    )
+    assert difference_words(Differences()) == []
+
+
+# ------------------------------------------------------------ versions
+
+
+def test_which_version_this_is(tmp_path: Path) -> None:
+    """Of a package by its file, and else of the repository: with a mark where files differ from the commit."""
+    version = (ROOT / "VERSION").read_text().split("\n")[0]
+    assert re.fullmatch("x %s \\([0-9a-f]{12}\\+?\\)" % re.escape(version), version_text("x"))
+    assert commit_of(tmp_path) == first_line(tmp_path / "none") == "unknown"
+    git = ["git", "-C", str(tmp_path), "-c", "user.name=x", "-c", "user.email=x@example.com"]
+    (tmp_path / "file").write_text("1")
+    for words in (["init", "-q"], ["add", "file"], ["commit", "-q", "-m", "x"]):
+        subprocess.run([*git, *words], check=True)
+    commit = commit_of(tmp_path)
+    assert re.fullmatch("[0-9a-f]{12}", commit)
+    (tmp_path / "file").write_text("2")
+    assert commit_of(tmp_path) == commit + "+"
+    (tmp_path / "COMMIT").write_text("0123456789ab\nmore\n")
+    assert commit_of(tmp_path) == first_line(tmp_path / "COMMIT") == "0123456789ab"

@@ -159,13 +159,21 @@ def test_who_speaks() -> None:
 
 WHY, OTHER, LATER = b"why DLR1 3 58=late", b"why DLR1 3 58=early", b"trade DLR1 5 1003=x"
 # What the session tells, what the venue notes with its entry; and of the finding its entry, number, and both texts.
-NOTED: dict[str, tuple[list[bytes], list[tuple[int, bytes]], list[object] | None]] = {
+Noted = tuple[list[bytes], list[tuple[int, bytes]], Finding | None]
+
+
+def noted(place: int | None, number: int, given: bytes | None, found: bytes | None) -> Finding:
+    words, about = ("the venue notes", "it tells"), ("reasons and trades",)
+    return Finding("DLR1", ANOTHER_NOTE, place, number, given, found, *words, named_items=about)
+
+
+NOTED: dict[str, Noted] = {
     "the same": ([WHY, LATER], [(7, WHY), (9, LATER)], None),
-    "another reason": ([OTHER, LATER], [(7, WHY), (9, LATER)], [7, 3, WHY, OTHER]),
-    "only the venue has it": ([WHY], [(7, WHY), (9, LATER)], [9, 5, LATER, None]),
-    "only the session has it": ([WHY, LATER], [(7, WHY)], [None, 5, None, LATER]),
-    "the session lacks the first": ([LATER], [(7, WHY), (9, LATER)], [7, 3, WHY, LATER]),
-    "the session has one in front": ([WHY, LATER], [(9, LATER)], [None, 3, LATER, WHY]),
+    "another reason": ([OTHER, LATER], [(7, WHY), (9, LATER)], noted(7, 3, WHY, OTHER)),
+    "only the venue has it": ([WHY], [(7, WHY), (9, LATER)], noted(9, 5, LATER, None)),
+    "only the session has it": ([WHY, LATER], [(7, WHY)], noted(None, 5, None, LATER)),
+    "the session lacks the first": ([LATER], [(7, WHY), (9, LATER)], noted(7, 3, WHY, LATER)),
+    "the session has one in front": ([WHY, LATER], [(9, LATER)], noted(None, 3, LATER, WHY)),
     "neither has any": ([], [], None),
 }
 
@@ -173,15 +181,8 @@ NOTED: dict[str, tuple[list[bytes], list[tuple[int, bytes]], list[object] | None
 @pytest.mark.parametrize("name", NOTED)
 def test_notes_that_a_session_tells_otherwise(name: str) -> None:
     """The first is told: of two messages the one with the lower number, whose entry is known where the venue notes it."""
-    told, noted, expected = NOTED[name]
-    found = list(misnoted("DLR1", told, noted))
-    if expected is None:
-        assert found == []
-        return
-    words = "the venue notes", "it tells"
-    (one,) = found
-    about = ("reasons and trades",)
-    assert one == Finding("DLR1", ANOTHER_NOTE, *expected, *words, named_items=about)  # type: ignore[arg-type]
+    told, by_venue, expected = NOTED[name]
+    assert list(misnoted("DLR1", told, by_venue)) == ([] if expected is None else [expected])
 
 
 @pytest.mark.parametrize(

@@ -71,6 +71,7 @@ PYTHON = [
         Kind.EARLY,
         ["def f() -> None:\n    a()\n    return\n    if b:\n        c()\n"],
     ),
+    ("def f() -> None:\n    a()\n    return None\n", Kind.EARLY, []),
     (
         "class A:\n    b: int\n    c: int\n    d: str\n    def e(self) -> int:\n        return self.b\n",
         Kind.MEMBER,

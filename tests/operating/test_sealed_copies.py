@@ -443,20 +443,6 @@ def test_a_copy_that_rots(kept: Place) -> None:
     assert not kept.receipt.exists()
 
 
-def test_whose_the_copies_are(kept: Place) -> None:
-    """By their names: of a day of the calendar, and of one venue; what is not whole yet has another name."""
-    names = ["20261125", "20261126-north", "20261127-south", "20261128-north.part", "20261128.part"]
-    names += ["20261131", "20261131-north", "2026112", "2026112-north", "202611250"]
-    file = kept.folder / "keeper.toml"
-    alone = SealingKeeper(read_settings(file), lambda: AFTER)
-    assert alone.days_of("", names) == ["20261125"]
-    text = file.read_text().replace('"{date}.db"', '"{venue}-{date}.db"')
-    file.write_text(text.replace("[venue]\n", '[venue]\nnames = ["north", "south"]\n'))
-    several = SealingKeeper(read_settings(file), lambda: AFTER)
-    assert several.days_of("north", names) == ["20261126"]
-    assert several.days_of("south", names) == ["20261127"]
-
-
 def test_a_day_that_does_not_come(kept: Place) -> None:
     """Where copies came so far and that of the last day does not, somebody is told an hour later."""
     kept.run()

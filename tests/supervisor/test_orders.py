@@ -81,13 +81,13 @@ def request(number: int = 1, **more: object) -> RequestFact:
         "09:05:00.000",
         ["DLR1"],
     )
-    return replace(made, **more)  # type: ignore[arg-type]
+    return replace(made, **more)
 
 
 def quote(of: RequestFact, entry: int = 2, **more: object) -> QuoteFact:
     price, until = Decimal("99.5"), "09:02:00.000"
     made = QuoteFact(of, entry, "09:01:00.000", "DLR1", "D2", "q1", "Q1", 3, price, until)
-    return replace(made, **more)  # type: ignore[arg-type]
+    return replace(made, **more)
 
 
 def trade(of: QuoteFact) -> TradeFact:

@@ -128,8 +128,10 @@ class Reader(ast.NodeVisitor):
         """Its type is for who reads the code: mypy refuses another one, and no program looks at it."""
 
     def early(self, body: Sequence[ast.stmt]) -> None:
-        """A function that gives nothing back ends before one of its statements."""
+        """A function that gives nothing back ends before one of its statements, which is no end of its own."""
         for statement in body[1:]:
+            if isinstance(statement, ast.Return):
+                continue
             at = self.span(statement)
             indented = "return\n" + " " * statement.col_offset
             self.drawing.add(Kind.EARLY, Span(at.line, at.start, at.start), indented)
