@@ -22,7 +22,7 @@ from mireseason_audit.refusals import Refusal, refusal_of
 FIRMS = {
     name: Firm(name, name.startswith("DLR")) for name in ("DLR1", "DLR2", "DLR3", "INV1", "INV2")
 }
-HEAD = "|48=BOND|54=%s|38=5000000|126=20261125-09:05:00.000"
+HEAD = "|48=BONDA0000001|54=%s|38=5000000|126=20261125-09:05:00.000"
 PARTIES = "".join("|448=%s|447=D|452=35" % name for name in ("DLR1", "DLR2", "DLR3"))
 
 
@@ -77,11 +77,12 @@ class Made:
         until: str = "",
         of: str = "r1",
         at: str = "R1",
+        investor: str = "INV1",
     ) -> None:
         valid = "|62=20261125-" + until if until else ""
         self.takes(
             "%s AI|131=%s|117=%s|297=0" % (dealer, at, name),
-            "INV1 S|131=%s|117=%s" % (of, shown),
+            "%s S|131=%s|117=%s" % (investor, of, shown),
             came="%s S|50=D-%s|117=%s|131=%s|133=%s%s" % (dealer, dealer, name, at, price, valid),
         )
 
@@ -135,7 +136,17 @@ def test_a_request(made: Made) -> None:
     """As its investor's message has it; and who was shown it, under which name."""
     dealers = ["DLR1", "DLR2", "DLR3"]
     assert made.request == RequestFact(
-        1, 1, "09:00:01.000", "INV1", "T1", "r1", "BOND", True, 5_000_000, "09:05:00.000", dealers
+        1,
+        1,
+        "09:00:01.000",
+        "INV1",
+        "T1",
+        "r1",
+        "BONDA0000001",
+        True,
+        5_000_000,
+        "09:05:00.000",
+        dealers,
     )
     assert [(one.dealer, one.name, one.answer) for one in made.asked.values()] == [
         (dealer, "R1", Answer.SILENT) for dealer in dealers

@@ -1,7 +1,7 @@
 """What keeper.toml says, and what is wrong with it."""
 
 import os
-from datetime import datetime, timedelta, timezone
+from datetime import date, datetime, timedelta, timezone
 from pathlib import Path
 
 import pytest
@@ -55,6 +55,7 @@ FAULTS = {
     "no gateway": ('["gw1.pub", "gw2.pub"]', "[]", "has to be a list of texts"),
     "a misspelt key": ("folder", "foldr", "[copies] has no key foldr"),
     "another part": ("[copies]", "[copy]", "there is no part [copy]"),
+    "a key that is no part": ("[log]", "metrics = 1\n[log]", "there is no part [metrics]"),
     "a number as a text": ('folder = "copies"', "folder = 1", "has to be a text"),
     "nothing kept": ("[seal]", "keep = 0\n[seal]", "has to be a number from 1 on"),
     "a part of a day kept": ("[seal]", "keep = 1.5\n[seal]", "keep is 1.5, and has to be a number"),
@@ -77,6 +78,12 @@ FAULTS = {
         "[venue] names: a name is of small letters",
     ),
     "a list of a text and a number": ('"gw2.pub"', "2", "has to be a list of texts"),
+    "a text for a list": (
+        '["gw1.pub", "gw2.pub"]',
+        '"gw1.pub"',
+        "gateways is 'gw1.pub', and has to be a list",
+    ),
+    "a table for a list": ('["gw1.pub", "gw2.pub"]', "{ a = 1 }", "has to be a list of texts"),
     "no zone": ("[copies]", '[day]\nzone = "New York"\n[copies]', "none of the tz database"),
     "a key of too many parts": ("[copies]", "a" + ".a" * 20000 + " = 1\n[copies]", "32 deep"),
     "too many brackets": ("[copies]", "a = " + "[" * 100000 + "\n[copies]", "32 deep"),
@@ -275,6 +282,20 @@ def test_where_readers_read(file: Path) -> None:
     file.write_text(RIGHT.replace(POSTGRES, 'copies = "given"\n' + readers))
     with pytest.raises(Fault, match="readers is for logs in PostgreSQL"):
         read_settings(file)
+
+
+def test_how_long_a_file_may_be(file: Path) -> None:
+    """1 MiB, and no byte more."""
+    file.write_text(RIGHT + '[day]\nholidays = "holidays"\n')
+    line = "2026-11-26\n"
+    for more in (0, 1):
+        text = "#" * ((1 << 20) - len(line) - 1 + more) + "\n" + line
+        (file.parent / "holidays").write_text(text)
+        if not more:
+            assert read_settings(file).days.holidays == {date(2026, 11, 26)}
+            continue
+        with pytest.raises(Fault, match="holidays: is longer than 1048576 bytes$"):
+            read_settings(file)
 
 
 @pytest.mark.parametrize("key", ["opens", "ends"])
