@@ -68,9 +68,6 @@ class Entries(NamedTuple):
     def entry(self, at: int) -> Entry:
         return Entry._make(column[at] for column in self)
 
-    def behind_first(self) -> "Entries":
-        return Entries._make(column[1:] for column in self)
-
 
 class ConnectionEvent(NamedTuple):
     """What happened to a connection."""

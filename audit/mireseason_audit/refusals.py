@@ -18,11 +18,6 @@ class Refusal(NamedTuple):
     code: str  # as `300=8`: the tag that says why, and its value; `none` without an answer
     name: str = ""  # Text (58): the words of a reason, or the name of a hit's or a pass's
 
-    @property
-    def words(self) -> str:
-        """The reason as tables have it."""
-        return " ".join(filter(None, (self.what, self.code, self.name)))
-
 
 def kind_of(came: Came | None) -> str:
     """What a firm's message is, in a word."""

@@ -191,7 +191,7 @@ class Parts:
         if key not in self.table.get(part, {}):
             return None
         return self.value(
-            part, key, 0, "a number from 1 on", lambda value: type(value) is int and value > 0
+            part, key, None, "a number from 1 on", lambda value: type(value) is int and value > 0
         )
 
     def value(
