@@ -85,6 +85,12 @@ FAULTS = {
     ),
     "a table for a list": ('["gw1.pub", "gw2.pub"]', "{ a = 1 }", "has to be a list of texts"),
     "no zone": ("[copies]", '[day]\nzone = "New York"\n[copies]', "none of the tz database"),
+    "a folder of zones": (
+        "[copies]",
+        '[day]\nzone = "America"\n[copies]',
+        "none of the tz database",
+    ),
+    "a zone elsewhere": ("[copies]", '[day]\nzone = "../UTC"\n[copies]', "none of the tz database"),
     "a key of too many parts": ("[copies]", "a" + ".a" * 20000 + " = 1\n[copies]", "32 deep"),
     "too many brackets": ("[copies]", "a = " + "[" * 100000 + "\n[copies]", "32 deep"),
     "no time": ("[copies]", '[day]\nends = "24:01"\n[copies]', "[day] ends is 24:01"),
