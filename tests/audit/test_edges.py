@@ -26,15 +26,15 @@ from mireseason_audit.door import Door
 from mireseason_audit.faults import Unreadable
 from mireseason_audit.findings import Finding
 from mireseason_audit.folders import make_folder
-from mireseason_audit.identity import Asked, Identity, speakers_of
+from mireseason_audit.identity import Asked, Identity, Speaker, speakers_of
 from mireseason_audit.log import Log
 from mireseason_audit.log_form import FORMS, is_plain, short, strange_tables
-from mireseason_audit.notes import Speaker
 from mireseason_audit.page_names import file_name, page_name
 from mireseason_audit.pages import Pager, day_page, fault_link, pages_of
-from mireseason_audit.records import ConnectionEvent, Day, Entry, Firm, configured
+from mireseason_audit.records import Checkpoint, ConnectionEvent, Day, Entry, Firm, configured
 from mireseason_audit.report import report, report_json
 from mireseason_audit.request_lists import RequestList
+from mireseason_audit.signatures import unsigned_checkpoint
 from mireseason_audit.verdict import Verdict
 
 DAY = configured(
@@ -383,6 +383,21 @@ def test_a_report_for_a_program() -> None:
         "came_on",
         "differing",
     }
+
+
+def test_a_checkpoint_that_no_key_signed() -> None:
+    """It may be that which was changed, or any entry that the last good one does not cover."""
+    text = "checkpoint 3 is signed by none of the keys: the log was changed here"
+    one = Checkpoint(3, 0, 9, b"", 0, b"", b"")
+    for whole, more in (
+        (9, ""),
+        (8, ""),
+        (7, ", or from entry 8 on"),
+        (-1, ", or from entry 0 on"),
+    ):
+        found = unsigned_checkpoint(one, whole)
+        assert (found.where, found.text, found.place) == ("entries", text + more, 9)
+        assert found.items == ("signatures",)
 
 
 # ------------------------------------------------------------ which log it is

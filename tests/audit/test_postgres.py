@@ -146,6 +146,15 @@ class Postgres(unittest.TestCase):
             status, text = self.check(schema)
             self.assertEqual((status, text), (0, audit("check", day).text))
 
+    def test_a_log_that_was_read_holds_no_session(self) -> None:
+        """A day that is followed is opened every few seconds."""
+        count = "SELECT count(*) FROM pg_stat_activity WHERE state LIKE 'idle in transaction%'"
+        with PostgresSource(self.connection, SCHEMA).open() as log:
+            self.assertGreater(log.last_place(), 0)
+            self.assertEqual(rows(self.connection, count), [(1,)])
+        until("its session ends", LONG, lambda: rows(self.connection, count) == [(0,)])
+        self.assertIsNotNone(log)
+
     def test_a_change_and_its_place(self) -> None:
         self.change("UPDATE sent SET place = place + 1 WHERE firm = 'ALPHA' AND number = 1")
         status, text = self.check()

@@ -34,12 +34,17 @@ from mireseason_audit.refusals import Refusal
 from mireseason_audit.statistics import Group, Refused, Statistics, statistics_of
 from mireseason_audit.statistics_tables import (
     AMOUNTS,
+    ANSWERS,
+    DISTANCES,
     FIGURES,
+    LIVES,
+    OUTCOMES,
     REFUSALS,
     amount_rows,
     figure_rows,
     refusal_rows,
 )
+from mireseason_audit.statistics_text import grid, statistics_json, statistics_text
 from mireseason_audit.tables import Form, Table, table_text
 from mireseason_audit.transparency import Publisher, report_table, transparency
 from mireseason_audit.wire_texts import MOST_KEPT, NOTHING, WireText, WireTexts
@@ -295,7 +300,8 @@ def test_confirmations() -> None:
 
 
 def test_confirmations_for_a_person() -> None:
-    bonds, facts = {BOND: Bond(BOND, "USD")}, better_trade()
+    bonds, none = {BOND: Bond(BOND, "USD")}, dict[str, Bond]()
+    facts = better_trade()
     line = "  20261125-INV1-DLR1-1  %s UTC  %s 5,000,000%s of BONDA0000001 at %s %s  131=%s 117=%s 693=%s, message %d"
     for own, named, firm, text in (
         (
@@ -310,7 +316,7 @@ def test_confirmations_for_a_person() -> None:
             Firm("DLR1", True),
             ("sells", " USD", "99.4", "to INV1", "R1", "a2", "N1", 4),
         ),
-        (facts, {}, Firm("INV1", False), ("sells", "", "99", "to DLR1", "r1", "Q1", "h1", 4)),
+        (facts, none, Firm("INV1", False), ("sells", "", "99", "to DLR1", "r1", "Q1", "h1", 4)),
     ):
         rows = list(confirmations(own, named, firm.name))
         void = ", VOID: both asked" if own is facts else ""
@@ -495,6 +501,56 @@ def test_refusals_by_reason() -> None:
         ]
         or rows_of(REFUSALS, refusal_rows(statistics()))[0]["what"] == "hit"
     )
+
+
+def test_figures_for_a_person() -> None:
+    """Each group with its rows below one head; amounts and refusals of firms and the day alone."""
+    lines = [line.split() for line in statistics_text(statistics()).splitlines()]
+    titles = ["The day", "Dealers", "Investors", "Bonds", "Hours of the requests, in UTC"]
+    assert [line for line in titles if line.split() in lines] == titles
+    heads = [
+        ["answers", *[column.name for column in ANSWERS]],
+        ["outcomes", "of", "answers", *[column.name for column in OUTCOMES]],
+        ["distances", "in", "points", *[column.name for column in DISTANCES]],
+        ["lives", "of", "quotes", *[column.name for column in LIVES]],
+    ]
+    assert [lines.count(head) for head in heads] == [5] * 4
+    first = lines.index(heads[0])
+    assert lines[first + 1] == ["20261125", "3", "9", "4", "1", "4", "1000", "2000", "2000"]
+    assert lines[lines.index(heads[2]) + 1] == ["20261125", "1", "0", "-", "-", "1", "0", "-", "-"]
+    amounts = lines.index("unit asked for traded trades".split())
+    assert lines[amounts + 1 : amounts + 7] == [
+        ["day", "20261125", "USD", "15,000,000", "5,000,000", "1"],
+        ["dealer", "DLR1", "USD", "15,000,000", "5,000,000", "1"],
+        ["dealer", "DLR2", "USD", "15,000,000", "0", "0"],
+        ["dealer", "DLR3", "USD", "15,000,000", "0", "0"],
+        ["investor", "INV1", "USD", "10,000,000", "5,000,000", "1"],
+        ["investor", "INV2", "USD", "5,000,000", "0", "0"],
+    ]
+    refusals = lines.index("what code name count".split())
+    assert lines[refusals + 1 :] == [
+        ["day", "20261125", "hit", "300=4", "Gone", "2"],
+        ["day", "20261125", "quote", "300=8", "2"],
+        ["dealer", "DLR1", "quote", "300=8", "2"],
+        ["dealer", "DLR1", "hit", "300=4", "Gone", "1"],
+        ["investor", "INV2", "hit", "300=4", "Gone", "1"],
+    ]
+
+
+def test_lines_with_columns_of_one_width() -> None:
+    """Texts to the left and numbers to the right, but for the first column; nothing behind the last."""
+    text = grid("of", ["n", "name"], [["a", "1,000", "x"], ["bb", "-", "long"], ["7", "-2.5", ""]])
+    assert text == "  of  n      name\n  a   1,000  x\n  bb      -  long\n  7    -2.5\n"
+
+
+def test_figures_for_a_program() -> None:
+    """The three tables as one object."""
+    found = json.loads(statistics_json(statistics()))
+    assert found == {
+        "figures": rows_of(FIGURES, figure_rows(statistics())),
+        "amounts": rows_of(AMOUNTS, amount_rows(statistics())),
+        "refusals": rows_of(REFUSALS, refusal_rows(statistics())),
+    }
 
 
 def test_rows_of_a_group() -> None:

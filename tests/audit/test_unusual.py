@@ -151,6 +151,18 @@ def test_who_logged_on_from_where() -> None:
     }
 
 
+def test_what_is_no_logon_of_a_firm() -> None:
+    """A row without a firm, and one of another kind, say nothing of who shares an address."""
+    seen = Seen()
+    for row in (
+        logon(1, "DLR1", "192.0.2.5:1", "aa"),
+        event(2, "logon", "192.0.2.5:2", ""),
+        logon(3, "INV1", "192.0.2.5:3", None)._replace(event="end"),
+    ):
+        seen.logons.take(row)
+    assert lines(seen, []) == {}
+
+
 def test_the_clock_that_was_set() -> None:
     """By what firms were told, also where no entry notes it."""
     words = "the clock of the venue was set: until the operator says that it is right"
