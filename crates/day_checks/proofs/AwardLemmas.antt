@@ -87,18 +87,12 @@ event_lifted : (log : SettleLog) (facts : List RoomFact) (event : RoomEvent)
     → All (StandsIn log) (answers_in (event ∷ []))
     → WinnerLifted log (end_of (event_facts facts event))
 unfolding event_facts
-event_lifted log facts (in_room.Open request) stand = where_lifted log _ (Opened request) tt
-event_lifted log facts in_room.Ready stand = where_lifted log _ Readied tt
-event_lifted log facts (in_room.Post dealer w price until) stand = where_lifted log _ (Posted _) tt
-event_lifted log facts (in_room.Unpost dealer w) stand = where_lifted log _ (Unposted dealer w) tt
-event_lifted log facts (in_room.Decline dealer) stand = where_lifted log _ (Noted dealer) tt
 event_lifted log facts (in_room.Hit w moment None) stand =
     hit_lifted log facts w moment (hit_refusal facts w moment) None (λ settled is. absurd cc)
 event_lifted log facts (in_room.Hit w moment (Some settled)) stand =
     hit_lifted log facts w moment (hit_refusal facts w moment) (Some settled)
     (λ other is. All-head (StandsIn log) (w, settled) [] stand ∙ is)
-event_lifted log facts (in_room.Pass moment) stand = where_lifted log _ (Ended passed moment) tt
-event_lifted log facts (in_room.Expire moment) stand = where_lifted log _ (Ended expired moment) tt
+event_lifted log facts other stand = where_lifted log _ _ (search)
 
 -- events one by one
 events_lifted : (log : SettleLog) (facts : List RoomFact) (events : List RoomEvent)

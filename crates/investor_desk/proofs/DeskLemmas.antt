@@ -2,21 +2,21 @@
 use Rattle.std.proofs.Common.{◌≡◌, ◌<◌, ◌≤◌, ℕ, ◌+◌, suc, Bool, true, false, ◌==◌, cond, List}
 use Rattle.std.proofs.Common.{[], ◌∷◌, ◌++◌, length, fold, Option, Some, None, IfSome, refl, sym, ap, subst}
 use Rattle.std.proofs.Common.{◌∙◌, arith}
-use Rattle.std.specs.List.{sum_by}
 use Rattle.std.proofs.lemmas.Bool.{eqb-true}
 use Rattle.std.proofs.lemmas.List.{append-nil, append_assoc, length-append, length-map}
-use Rattle.std.proofs.lemmas.List.Sums.{sum_by-append, sum_by-cons, fold-append}
+use Rattle.std.proofs.lemmas.List.Sums.{fold-append}
 use Rattle.market_terms.specs.declared.closes.Reply.{Reply}
 use Rattle.market_terms.specs.declared.rooms.Offer.{Offer}
 use Rattle.market_terms.specs.declared.rooms.ResponseRef.{ResponseRef}
 use Rattle.quote_messages.specs.declared.out_messages.OutMessage.{OutMessage}
-use Rattle.investor_desk.specs.InvestorFacts.{InvestorFact, Came, Offered, Gone, InvestorBook}
-use Rattle.investor_desk.specs.InvestorFacts.{StandingRequest, book_of, is_open, request_numbered}
+use Rattle.investor_desk.specs.InvestorFacts.{InvestorFact, Asked, Offered, Gone, Closed}
+use Rattle.investor_desk.specs.InvestorFacts.{InvestorBook, StandingRequest, book_of, is_open}
+use Rattle.investor_desk.specs.InvestorFacts.{open_request, request_numbered, used_number}
 use Rattle.investor_desk.specs.InvestorFacts.{while_open, offer_of_dealer, offer_with_word}
 use Rattle.investor_desk.specs.InvestorRules.{InvestorMarket, investor_verdict}
 use Rattle.investor_desk.specs.InvestorDesk.{DeskEvents, book_at, verdict_at}
 use Rattle.investor_desk.specs.InvestorOutput.{DeskState, no_facts, after_event, desk_after}
-use Rattle.investor_desk.specs.InvestorOutput.{event_facts, event_messages, verdict_facts}
+use Rattle.investor_desk.specs.InvestorOutput.{event_facts, event_messages, own_facts}
 use Rattle.investor_desk.specs.InvestorOutput.{uses_number, gone_facts, next_offer, offer_facts}
 use Rattle.investor_desk.specs.InvestorOutput.{withdrawal_facts, close_by_answer, closed_facts}
 use Rattle.investor_desk.specs.InvestorOutput.{refusal_of, answer_facts, expiry_facts, sent_with}
@@ -25,8 +25,7 @@ use Rattle.investor_desk.specs.InvestorOutput.{answer_note, award_note, beside_e
 use Rattle.investor_desk.specs.InvestorOutput.{investor_notes, notes_from, verdict_note, written_from}
 use Rattle.investor_desk.specs.DeskLaws.{fact_note, last_fact}
 use Rattle.investor_desk.specs.declared.notes.InvestorNote.{InvestorNote}
-use Rattle.investor_desk.specs.BookChanges.{IsAccepted, FitsOffer, book_after, counted, at_number}
-use Rattle.investor_desk.specs.BookChanges.{without_some}
+use Rattle.investor_desk.specs.BookChanges.{IsAccepted, FitsOffer, book_after, book_with, counted}
 use Rattle.investor_desk.specs.DeskLaws.{IsOfDay}
 use Rattle.investor_desk.specs.declared.standing.RequestClose.{RequestClose}
 use Rattle.investor_desk.specs.declared.standing.RequestClose.TheVariants as close
@@ -102,76 +101,8 @@ pub notes_are_beside : (market : InvestorMarket) (events : List InvestorEvent) �
 unfolding desk_after
 notes_are_beside market events = none_more (length (notes_from market no_facts events)) (length (fold (after_event market) no_facts events).sent) (notes_beside market no_facts events)
 
--- what is noted of an event follows from its last fact
-
-own_note : (market : InvestorMarket) (book : InvestorBook) (moment : ℕ) (bytes : List ℕ) (given : InvestorVerdict) → investor_verdict market book moment bytes ≡ given
-    → verdict_note given ≡ fact_note market book (last_fact (Came moment bytes (uses_number given) ∷ verdict_facts given))
-own_note market book moment bytes (verdict.RequestAccepted id request) is = refl
-own_note market book moment bytes verdict.Dropped is = ap verdict_note (sym is)
-own_note market book moment bytes (verdict.OutOfSequence reject) is = ap verdict_note (sym is)
-own_note market book moment bytes (verdict.Rejected reject) is = ap verdict_note (sym is)
-own_note market book moment bytes (verdict.RequestRefused request bond refusal) is = ap verdict_note (sym is)
-own_note market book moment bytes (verdict.HitUnknown id quote) is = ap verdict_note (sym is)
-own_note market book moment bytes (verdict.PassUnknown id request) is = ap verdict_note (sym is)
-own_note market book moment bytes (verdict.Hits request response word) is = ap verdict_note (sym is)
-own_note market book moment bytes (verdict.Passes request response) is = ap verdict_note (sym is)
-
-gone_note : (market : InvestorMarket) (book : InvestorBook) (number : ℕ) (gone : Option ShownOffer) → None ≡ fact_note market book (last_fact (gone_facts number gone))
-gone_note market book number None = refl
-gone_note market book number (Some shown) = refl
-
-shown_note : (market : InvestorMarket) (book : InvestorBook) (number : ℕ) (gone : Option ShownOffer) (shown : ShownOffer) → None ≡ fact_note market book (last_fact (gone_facts number gone ++ Offered shown ∷ []))
-shown_note market book number None shown = refl
-shown_note market book number (Some other) shown = refl
-
-offer_note : (market : InvestorMarket) (book : InvestorBook) (number : ℕ) (offer : Offer) (found : Option StandingRequest) → None ≡ fact_note market book (last_fact (offer_facts book number offer found))
-offer_note market book number offer None = refl
-offer_note market book number offer (Some own) = shown_note market book number (offer_of_dealer own offer.dealer) (next_offer book number offer)
-
-withdrawal_note : (market : InvestorMarket) (book : InvestorBook) (number word : ℕ) (found : Option StandingRequest) → None ≡ fact_note market book (last_fact (withdrawal_facts number word found))
-withdrawal_note market book number word None = refl
-withdrawal_note market book number word (Some own) = gone_note market book number (offer_with_word own word)
-
-closed_note : (market : InvestorMarket) (book : InvestorBook) (number : ℕ) (how : Option RequestClose) → award_note how ≡ fact_note market book (last_fact (closed_facts number how))
-closed_note market book number None = refl
-closed_note market book number (Some how) = refl
-
-reply_note : (market : InvestorMarket) (book : InvestorBook) (number : ℕ) (response : ResponseRef) (reply : Reply) (found : Option StandingRequest)
-    → answer_note book response reply found ≡ fact_note market book (last_fact (answer_facts book number response reply found))
-reply_note market book number response reply None = refl
-reply_note market book number response reply (Some own) = closed_note market book number (close_by_answer book response (refusal_of reply))
-
-expiry_note : (market : InvestorMarket) (book : InvestorBook) (number : ℕ) (found : Option StandingRequest) → None ≡ fact_note market book (last_fact (expiry_facts number found))
-expiry_note market book number None = refl
-expiry_note market book number (Some own) = refl
-
-pub note_of_last : (market : InvestorMarket) (book : InvestorBook) (more : InvestorEvent) → event_note market book more ≡ fact_note market book (last_fact (event_facts market book more))
-unfolding event_note event_facts
-note_of_last market book (event.Received moment bytes) = own_note market book moment bytes (investor_verdict market book moment bytes) refl
-note_of_last market book (event.QuoteCame request offer moment) = offer_note market book request offer (while_open (request_numbered book request))
-note_of_last market book (event.QuoteGone request word moment) = withdrawal_note market book request word (while_open (request_numbered book request))
-note_of_last market book (event.DealerDeclined request dealer moment) = refl
-note_of_last market book (event.Answered request response reply moment) = reply_note market book request response reply (request_numbered book request)
-note_of_last market book (event.Closed request moment) = expiry_note market book request (request_numbered book request)
-
--- What the facts of an event keep.
-
-own_stands : (market : InvestorMarket) (book : InvestorBook) (given : InvestorVerdict) → StandsIn market book → Holds market book given → StandsIn market (fold book_after book (verdict_facts given))
-own_stands market book (verdict.RequestAccepted id request) stands holds = asked_stands market book request holds.0 stands
-own_stands market book other stands holds = stands
-
--- a verdict holds of a book whatever the number of messages that came
-holds_used : (market : InvestorMarket) (book : InvestorBook) (used : ℕ) (given : InvestorVerdict) → Holds market book given → Holds market (record book { used = used }) given
-holds_used market book used (verdict.RequestAccepted id request) holds = holds
-holds_used market book used (verdict.Hits request response word) holds = holds
-holds_used market book used (verdict.Passes request response) holds = holds
-holds_used market book used other holds = tt
-
-came_own : (market : InvestorMarket) (book : InvestorBook) (moment : ℕ) (bytes : List ℕ) (used : Bool) (given : InvestorVerdict) → StandsIn market book → Holds market book given
-    → StandsIn market (fold book_after (book_after book (Came moment bytes used)) (verdict_facts given))
-came_own market book moment bytes used given stands holds =
-    subst (λ (b : InvestorBook). StandsIn market (fold book_after b (verdict_facts given))) (sym (came_book book moment bytes used))
-    (own_stands market (record book { used = cond used (book.used + 1) book.used }) given stands (holds_used market book (cond used (book.used + 1) book.used) given holds))
+-- What an event adds: nothing, a quote more, a quote fewer, a closed request, or a message that came
+-- and the request that it asks.
 
 -- the request with a number was accepted
 pub numbered_accepted : (market : InvestorMarket) (book : InvestorBook) (number : ℕ) (own : StandingRequest) → StandsIn market book → request_numbered book number ≡ Some own → IsAccepted (length book.requests) number
@@ -192,58 +123,135 @@ pub open_found : (found : Option StandingRequest) (own : StandingRequest) → wh
 open_found None own h = cc
 open_found (Some other) own h = kept_open (is_open other) other own h
 
--- a quote that comes, in the place of one or of none
-shown_next : (market : InvestorMarket) (book : InvestorBook) (number : ℕ) (offer : Offer) → IsAccepted (length book.requests) number → StandsIn market book → StandsIn market (book_after book (Offered (next_offer book number offer)))
-shown_next market book number offer accepted stands = offered_stands market book (next_offer book number offer) (record { number_is = refl; accepted = accepted }) stands
+-- of what an event adds to a book, and of what is noted of it: the note follows from the last fact,
+-- what stands goes on standing, and at most one number was used up
+record Adds (market : InvestorMarket) (book : InvestorBook) (facts : List InvestorFact)
+    (note : Option InvestorNote) : Type 0 where
+  note_is : note ≡ fact_note market book (last_fact facts)
+  stands : StandsIn market book → StandsIn market (book_with book facts)
+  counts : (book_with book facts).used ≤ book.used + 1
 
-shown_beside : (market : InvestorMarket) (book : InvestorBook) (number : ℕ) (offer : Offer) (replaced : Option ShownOffer) → IsAccepted (length book.requests) number → StandsIn market book
-    → StandsIn market (fold book_after book (gone_facts number replaced ++ Offered (next_offer book number offer) ∷ []))
-shown_beside market book number offer None accepted stands = shown_next market book number offer accepted stands
-shown_beside market book number offer (Some shown) accepted stands =
-    let after = gone_stands market book number shown.number stands in
-    let fits : FitsOffer (book_after book (Gone number shown.number)) (next_offer book number offer) =
-    subst (λ (b : InvestorBook). FitsOffer b (next_offer book number offer)) (sym (gone_book book number shown.number))
-    (record { number_is = refl; accepted = subst (λ (n : ℕ). IsAccepted n number) (sym (length-map book.requests (at_number number (without_some (Some shown.number))))) accepted }) in
-    offered_stands market (book_after book (Gone number shown.number)) (next_offer book number offer) fits after
+-- no fact uses up a number but that a message came
+used_after : (book : InvestorBook) (fact : InvestorFact) → used_number fact ≡ false
+    → (book_after book fact).used ≡ book.used
+unfolding book_after
+used_after book fact none = ap (λ (b : Bool). counted b book.used) none
 
-offer_stands : (market : InvestorMarket) (book : InvestorBook) (number : ℕ) (offer : Offer) (found : Option StandingRequest) → ((own : StandingRequest) → found ≡ Some own → IsAccepted (length book.requests) number) → StandsIn market book
-    → StandsIn market (fold book_after book (offer_facts book number offer found))
-offer_stands market book number offer None accepted stands = stands
-offer_stands market book number offer (Some own) accepted stands = shown_beside market book number offer (offer_of_dealer own offer.dealer) (accepted own refl) stands
+module _ (market : InvestorMarket) (book : InvestorBook) where
+  adds_nothing : Adds market book [] None
+  adds_nothing = record { note_is = refl; stands = λ stands. stands; counts = omega arith }
 
-gone_some : (market : InvestorMarket) (book : InvestorBook) (number : ℕ) (gone : Option ShownOffer) → StandsIn market book → StandsIn market (fold book_after book (gone_facts number gone))
-gone_some market book number None stands = stands
-gone_some market book number (Some shown) stands = gone_stands market book number shown.number stands
+  -- a quote in the place of one or of none
+  adds_shown : (number : ℕ) (offer : Offer) (replaced : Option ShownOffer)
+      → (StandsIn market book → IsAccepted (length book.requests) number)
+      → Adds market book
+      (gone_facts number replaced ++ Offered (next_offer book number offer) ∷ []) None
+  adds_shown number offer None accepted = record {
+    note_is = refl;
+    stands = λ stands.
+        offered_stands market book (next_offer book number offer)
+        (record { number_is = refl; accepted = accepted stands }) stands;
+    counts = let same = used_after book (Offered (next_offer book number offer)) refl in omega arith;
+  }
+  adds_shown number offer (Some other) accepted =
+      let next : ShownOffer = next_offer book number offer in
+      let left : InvestorBook = book_after book (Gone number other.number) in
+      let fits : StandsIn market book → FitsOffer left next =
+      λ stands. rw (gone_book book number other.number) (record {
+        number_is = refl;
+        accepted = rw length-map (accepted stands);
+      }) in
+      record {
+        note_is = refl;
+        stands = λ stands. offered_stands market left next (fits stands)
+            (gone_stands market book number other.number stands);
+        counts = let same = used_after book (Gone number other.number) refl in
+            let too = used_after left (Offered next) refl in omega arith;
+      }
 
-withdrawal_stands : (market : InvestorMarket) (book : InvestorBook) (number word : ℕ) (found : Option StandingRequest) → StandsIn market book → StandsIn market (fold book_after book (withdrawal_facts number word found))
-withdrawal_stands market book number word None stands = stands
-withdrawal_stands market book number word (Some own) stands = gone_some market book number (offer_with_word own word) stands
+  adds_gone : (number : ℕ) (found : Option ShownOffer)
+      → Adds market book (gone_facts number found) None
+  adds_gone number None = adds_nothing
+  adds_gone number (Some other) = record {
+    note_is = refl;
+    stands = gone_stands market book number other.number;
+    counts = let same = used_after book (Gone number other.number) refl in omega arith;
+  }
 
-closed_some : (market : InvestorMarket) (book : InvestorBook) (number : ℕ) (how : Option RequestClose) → StandsIn market book → StandsIn market (fold book_after book (closed_facts number how))
-closed_some market book number None stands = stands
-closed_some market book number (Some how) stands = closed_stands market book number how stands
+  adds_closed : (number : ℕ) (how : Option RequestClose)
+      → Adds market book (closed_facts number how) (award_note how)
+  adds_closed number None = adds_nothing
+  adds_closed number (Some how) = record {
+    note_is = refl;
+    stands = closed_stands market book number how;
+    counts = let same = used_after book (Closed number how) refl in omega arith;
+  }
 
-answer_stands : (market : InvestorMarket) (book : InvestorBook) (number : ℕ) (response : ResponseRef) (reply : Reply) (found : Option StandingRequest) → StandsIn market book
-    → StandsIn market (fold book_after book (answer_facts book number response reply found))
-answer_stands market book number response reply None stands = stands
-answer_stands market book number response reply (Some own) stands = closed_some market book number (close_by_answer book response (refusal_of reply)) stands
+  adds_own : (moment : ℕ) (bytes : List ℕ) (given : InvestorVerdict)
+      → investor_verdict market book moment bytes ≡ given
+      → Adds market book (own_facts moment bytes given) (verdict_note given)
+  adds_own moment bytes (verdict.RequestAccepted id request) is =
+      let came : InvestorBook = record book { used = book.used + 1 } in
+      record {
+        note_is = refl;
+        stands = λ stands.
+            rw (came_book book moment bytes true)
+            (asked_stands market came request
+            (subst (Holds market book) is (verdict_holds market book moment bytes stands)).0 stands);
+        counts = rw (came_book book moment bytes true)
+            (let same = used_after came (Asked request) refl in omega arith);
+      }
+  adds_own moment bytes other is = record {
+    note_is = ap verdict_note (sym is);
+    stands = λ stands. rw (came_book book moment bytes (uses_number other)) stands;
+    counts = rw (came_book book moment bytes (uses_number other)) (omega arith);
+  }
 
-expiry_stands : (market : InvestorMarket) (book : InvestorBook) (number : ℕ) (found : Option StandingRequest) → StandsIn market book → StandsIn market (fold book_after book (expiry_facts number found))
-expiry_stands market book number None stands = stands
-expiry_stands market book number (Some own) stands = closed_stands market book number close.Expired stands
+  -- What comes for a request adds one of these where the request is found.
 
-pub event_stands : (market : InvestorMarket) (book : InvestorBook) (came : InvestorEvent) → StandsIn market book → StandsIn market (fold book_after book (event_facts market book came))
-unfolding event_facts
-event_stands market book (event.Received moment bytes) stands =
-    let given = investor_verdict market book moment bytes in
-    came_own market book moment bytes (uses_number given) given stands (verdict_holds market book moment bytes stands)
-event_stands market book (event.QuoteCame request offer moment) stands =
-    offer_stands market book request offer (while_open (request_numbered book request))
-    (λ own is. numbered_accepted market book request own stands (open_found (request_numbered book request) own is)) stands
-event_stands market book (event.QuoteGone request word moment) stands = withdrawal_stands market book request word (while_open (request_numbered book request)) stands
-event_stands market book (event.DealerDeclined request dealer moment) stands = stands
-event_stands market book (event.Answered request response reply moment) stands = answer_stands market book request response reply (request_numbered book request) stands
-event_stands market book (event.Closed request moment) stands = expiry_stands market book request (request_numbered book request) stands
+  offer_adds : (number : ℕ) (offer : Offer) (found : Option StandingRequest)
+      → open_request book number ≡ found
+      → Adds market book (offer_facts book number offer found) None
+  offer_adds number offer None is = adds_nothing
+  offer_adds number offer (Some own) is =
+      adds_shown number offer (offer_of_dealer own offer.dealer)
+      (λ stands. numbered_accepted market book number own stands
+      (open_found (request_numbered book number) own is))
+
+  withdrawal_adds : (number word : ℕ) (found : Option StandingRequest)
+      → Adds market book (withdrawal_facts number word found) None
+  withdrawal_adds number word None = adds_nothing
+  withdrawal_adds number word (Some own) = adds_gone number (offer_with_word own word)
+
+  answer_adds : (number : ℕ) (response : ResponseRef) (reply : Reply)
+      (found : Option StandingRequest)
+      → Adds market book (answer_facts book number response reply found)
+      (answer_note book response reply found)
+  answer_adds number response reply None = adds_nothing
+  answer_adds number response reply (Some own) =
+      adds_closed number (close_by_answer book response (refusal_of reply))
+
+  expiry_adds : (number : ℕ) (found : Option StandingRequest)
+      → Adds market book (expiry_facts number found) None
+  expiry_adds number None = adds_nothing
+  expiry_adds number (Some own) = adds_closed number (Some close.Expired)
+
+  ruleset what_comes = (offer_adds, withdrawal_adds, answer_adds, expiry_adds, adds_nothing)
+
+  event_adds : (more : InvestorEvent)
+      → Adds market book (event_facts market book more) (event_note market book more)
+  unfolding event_facts event_note
+  event_adds (event.Received moment bytes) =
+      adds_own moment bytes (investor_verdict market book moment bytes) refl
+  event_adds other = search what_comes
+
+  pub note_of_last : (more : InvestorEvent)
+      → event_note market book more ≡ fact_note market book (last_fact (event_facts market book more))
+  note_of_last more = (event_adds more).note_is
+
+  pub event_counts : (more : InvestorEvent)
+      → (book_with book (event_facts market book more)).used ≤ book.used + 1
+  event_counts more = (event_adds more).counts
 
 -- What holds of a desk.
 
@@ -251,81 +259,11 @@ stands_events : (market : InvestorMarket) (desk : DeskState) (events : List Inve
 stands_events market desk [] stands = stands
 stands_events market desk (came ∷ events) stands =
     stands_events market (after_event market desk came) events
-    (subst (StandsIn market) (sym (books_push desk.facts (event_facts market (book_of desk.facts) came))) (event_stands market (book_of desk.facts) came stands))
+    (subst (StandsIn market) (sym (books_push desk.facts (event_facts market (book_of desk.facts) came))) ((event_adds market (book_of desk.facts) came).stands stands))
 
 pub desk_stands : (market : InvestorMarket) (events : List InvestorEvent) → StandsIn market (book_of (desk_after market events).facts)
 unfolding desk_after
 desk_stands market events = stands_events market no_facts events (stands_empty market)
-
--- How many messages used up a number: at most one an event.
-
-abbrev weight : InvestorFact → ℕ
-weight (Came moment bytes used) = 1
-weight fact = 0
-
-counted_more : (b : Bool) (n : ℕ) → counted b n ≤ n + 1
-counted_more true n = omega arith
-counted_more false n = omega arith
-
-fact_counts : (book : InvestorBook) (fact : InvestorFact) → (book_after book fact).used ≤ book.used + weight fact
-unfolding book_after
-fact_counts book (Came moment bytes used) = counted_more used book.used
-fact_counts book fact = omega arith
-
-facts_count : (book : InvestorBook) (facts : List InvestorFact) → (fold book_after book facts).used ≤ book.used + sum_by weight facts
-facts_count book [] = omega arith
-facts_count book (fact ∷ facts) =
-    let here = fact_counts book fact in
-    let rest = facts_count (book_after book fact) facts in
-    rw (sum_by-cons weight fact facts) (omega arith)
-
-verdict_weight : (given : InvestorVerdict) → sum_by weight (verdict_facts given) ≡ 0
-verdict_weight (verdict.RequestAccepted id request) = refl
-verdict_weight other = refl
-
-gone_weight : (number : ℕ) (gone : Option ShownOffer) → sum_by weight (gone_facts number gone) ≡ 0
-gone_weight number None = refl
-gone_weight number (Some shown) = refl
-
-offer_weight : (book : InvestorBook) (number : ℕ) (offer : Offer) (found : Option StandingRequest) → sum_by weight (offer_facts book number offer found) ≡ 0
-offer_weight book number offer None = refl
-offer_weight book number offer (Some own) =
-    sum_by-append weight (gone_facts number (offer_of_dealer own offer.dealer)) (Offered (next_offer book number offer) ∷ [])
-    ∙ ap (λ (n : ℕ). n + 0) (gone_weight number (offer_of_dealer own offer.dealer))
-
-withdrawal_weight : (number word : ℕ) (found : Option StandingRequest) → sum_by weight (withdrawal_facts number word found) ≡ 0
-withdrawal_weight number word None = refl
-withdrawal_weight number word (Some own) = gone_weight number (offer_with_word own word)
-
-closed_weight : (number : ℕ) (how : Option RequestClose) → sum_by weight (closed_facts number how) ≡ 0
-closed_weight number None = refl
-closed_weight number (Some how) = refl
-
-answer_weight : (book : InvestorBook) (number : ℕ) (response : ResponseRef) (reply : Reply) (found : Option StandingRequest) → sum_by weight (answer_facts book number response reply found) ≡ 0
-answer_weight book number response reply None = refl
-answer_weight book number response reply (Some own) = closed_weight number (close_by_answer book response (refusal_of reply))
-
-expiry_weight : (number : ℕ) (found : Option StandingRequest) → sum_by weight (expiry_facts number found) ≡ 0
-expiry_weight number None = refl
-expiry_weight number (Some own) = refl
-
-event_weight : (market : InvestorMarket) (book : InvestorBook) (came : InvestorEvent) → sum_by weight (event_facts market book came) ≤ 1
-unfolding event_facts
-event_weight market book (event.Received moment bytes) =
-    let given = investor_verdict market book moment bytes in
-    let none = verdict_weight given in
-    rw (sum_by-cons weight (Came moment bytes (uses_number given)) (verdict_facts given)) (omega arith)
-event_weight market book (event.QuoteCame request offer moment) = let none = offer_weight book request offer (while_open (request_numbered book request)) in omega arith
-event_weight market book (event.QuoteGone request word moment) = let none = withdrawal_weight request word (while_open (request_numbered book request)) in omega arith
-event_weight market book (event.DealerDeclined request dealer moment) = omega arith
-event_weight market book (event.Answered request response reply moment) = let none = answer_weight book request response reply (request_numbered book request) in omega arith
-event_weight market book (event.Closed request moment) = let none = expiry_weight request (request_numbered book request) in omega arith
-
-pub event_counts : (market : InvestorMarket) (book : InvestorBook) (came : InvestorEvent) → (fold book_after book (event_facts market book came)).used ≤ book.used + 1
-event_counts market book came =
-    let count = facts_count book (event_facts market book came) in
-    let one = event_weight market book came in
-    omega arith
 
 -- what a message leaves to be done is of the day
 pub left_of_day : (desk : DeskEvents) (moment : ℕ) (bytes : List ℕ) → IfSome (verdict_duty desk.market moment (verdict_at desk moment bytes)) (IsOfDay desk.market)

@@ -1,15 +1,15 @@
 -- What a desk keeps beside its events, after one event more.
 use Rattle.std.proofs.Common.{◌≡◌, ℕ, ◌+◌, List, [], ◌∷◌, ◌++◌, length, map, fold, Option, refl}
-use Rattle.std.proofs.Common.{Some, None, sym, ap, subst, ◌∙◌, arith}
+use Rattle.std.proofs.Common.{Some, None, true, sym, ap, subst, ◌∙◌, arith}
 use Rattle.std.specs.Option.{option_to_list}
 use Rattle.std.proofs.lemmas.List.{length-append, append_assoc}
-use Rattle.investor_desk.specs.InvestorFacts.{InvestorBook, book_of}
+use Rattle.investor_desk.specs.InvestorFacts.{Asked, InvestorBook, book_of}
 use Rattle.investor_desk.specs.InvestorRules.{InvestorMarket, investor_verdict}
 use Rattle.investor_desk.specs.InvestorDesk.{DeskEvents, book_at, verdict_at}
 use Rattle.investor_desk.specs.InvestorOutput.{DeskState, desk_after, event_facts, event_messages}
 use Rattle.investor_desk.specs.InvestorOutput.{sent_with, written_from, moment_of, investor_output}
 use Rattle.investor_desk.specs.InvestorOutput.{verdict_message, verdict_note, own_facts, event_note}
-use Rattle.investor_desk.specs.InvestorOutput.{beside_each}
+use Rattle.investor_desk.specs.InvestorOutput.{beside_each, uses_number}
 use Rattle.investor_desk.specs.BookChanges.{book_after, book_with}
 use Rattle.investor_desk.specs.RuleCuts.{IsDesk, IsLawful, noted, received_outcome, messages_of}
 use Rattle.investor_desk.specs.RuleCuts.{next_written}
@@ -21,10 +21,10 @@ use Rattle.investor_desk.specs.declared.verdicts.InvestorVerdict.{InvestorVerdic
 use Rattle.investor_desk.specs.declared.verdicts.InvestorVerdict.TheVariants as verdict
 use Rattle.investor_desk.specs.declared.events.InvestorEvent.{InvestorEvent}
 use Rattle.investor_desk.specs.declared.events.InvestorEvent.TheVariants as event
+use Rattle.investor_desk.proofs.BookLemmas.{came_book}
 use Rattle.investor_desk.proofs.BookPush.{books_push}
 use Rattle.investor_desk.proofs.DeskLemmas.{desk_after_push, desk_stands, event_counts}
 use Rattle.investor_desk.proofs.DeskLemmas.{notes_push}
-use Rattle.investor_desk.proofs.OutcomeLemmas.{own_noted, own_sent}
 use Rattle.investor_desk.proofs.StandLemmas.{fits_book}
 use Rattle.investor_desk.proofs.VerdictLemmas.{Holds, verdict_holds}
 
@@ -141,21 +141,18 @@ verdict_seen market events sents notes book now moment bytes kept is =
     ap (λ (b : InvestorBook). investor_verdict market b moment bytes) kept.book_is ∙ ap (λ (n : DeskEvents). verdict_at n moment bytes) is
 
 lawful_verdict : (market : InvestorMarket) (book : InvestorBook) (given : InvestorVerdict) → Holds market book given → IsLawful book (received_outcome given).note
-lawful_verdict market book verdict.Dropped holds = tt
-lawful_verdict market book (verdict.OutOfSequence reject) holds = tt
-lawful_verdict market book (verdict.Rejected reject) holds = tt
-lawful_verdict market book (verdict.RequestRefused request bond refusal) holds = tt
-lawful_verdict market book (verdict.HitUnknown id quote) holds = tt
-lawful_verdict market book (verdict.PassUnknown id request) holds = tt
 lawful_verdict market book (verdict.RequestAccepted id request) holds = fits_book market book request holds.0
-lawful_verdict market book (verdict.Hits request response word) holds = tt
-lawful_verdict market book (verdict.Passes request response) holds = tt
+lawful_verdict market book other holds = tt
 
 pub own_lawful : (now : DeskEvents) (moment : ℕ) (bytes : List ℕ) (outcome : Outcome) → outcome ≡ received_outcome (verdict_at now moment bytes) → IsLawful (book_at now) outcome.note
 own_lawful now moment bytes outcome is =
     let stands = desk_stands now.market now.events in
     subst (λ (o : Outcome). IsLawful (book_at now) o.note) (sym is)
     (lawful_verdict now.market (book_at now) (verdict_at now moment bytes) (verdict_holds now.market (book_at now) moment bytes stands))
+
+own_noted : (book : InvestorBook) (moment : ℕ) (bytes : List ℕ) (given : InvestorVerdict) → noted book (received_outcome given).note ≡ book_with book (own_facts moment bytes given)
+own_noted book moment bytes (verdict.RequestAccepted id request) = ap (λ (b : InvestorBook). book_after b (Asked request)) (sym (came_book book moment bytes true))
+own_noted book moment bytes other = sym (came_book book moment bytes (uses_number other))
 
 pub own_facts_owed : (now : DeskEvents) (moment : ℕ) (bytes message : List ℕ) (outcome : Outcome) → message ≡ bytes → outcome ≡ received_outcome (verdict_at now moment bytes)
     → noted (book_at now) outcome.note ≡ book_with (book_at now) (event_facts now.market (book_at now) (event.Received moment message))
@@ -172,7 +169,7 @@ pub own_sent_owed : (market : InvestorMarket) (events : List InvestorEvent) (sen
 unfolding event_messages
 own_sent_owed market events sents notes book now moment bytes message given outcome out kept is same judged leads written =
     owed_sent market events sents notes book now (messages_of outcome) out (event.Received moment message) kept is
-    (ap messages_of leads ∙ own_sent given ∙ ap (λ (g : InvestorVerdict). option_to_list (verdict_message g)) judged
+    (ap messages_of leads ∙ ap (λ (g : InvestorVerdict). option_to_list (verdict_message g)) judged
     ∙ ap (λ (m : List ℕ). option_to_list (verdict_message (investor_verdict market book moment m))) (sym same))
     written
 

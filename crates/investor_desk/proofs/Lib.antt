@@ -5,7 +5,6 @@ mod DeskLemmas
 mod IndexLemmas
 mod KeptLemmas
 mod ListLemmas
-mod OutcomeLemmas
 mod ReaderLemmas
 mod StandLemmas
 pub mod UnpricedDesks

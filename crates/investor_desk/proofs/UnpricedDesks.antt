@@ -5,6 +5,8 @@ use Rattle.market_terms.proofs.ErasedLists.{any_map, append_along, count_map, er
 use Rattle.market_terms.proofs.ErasedLists.{if_map, map_cond, or_map}
 use Rattle.market_terms.specs.Unpriced.{unpriced_offer}
 use Rattle.market_terms.specs.declared.closes.HitRefusal.{HitRefusal}
+use Rattle.market_terms.specs.declared.closes.Reply.{Reply}
+use Rattle.market_terms.specs.declared.rooms.Offer.{Offer}
 use Rattle.market_terms.specs.declared.rooms.ResponseRef.{ResponseRef}
 use Rattle.quote_messages.specs.Arrivals.{investor_arrival}
 use Rattle.quote_messages.specs.declared.arrivals.Arrival.{Arrival}
@@ -19,7 +21,7 @@ use Rattle.investor_desk.specs.InvestorFacts.{InvestorFact, InvestorBook, Standi
 use Rattle.investor_desk.specs.InvestorFacts.{Closed, Offered, book_of, closes, expected_number}
 use Rattle.investor_desk.specs.InvestorFacts.{first_said, is_open, knows, offer_named}
 use Rattle.investor_desk.specs.InvestorFacts.{offer_numbered, offer_of_dealer, offer_with_word}
-use Rattle.investor_desk.specs.InvestorFacts.{offers_of, open_request, request_numbered}
+use Rattle.investor_desk.specs.InvestorFacts.{offers_of, request_numbered}
 use Rattle.investor_desk.specs.InvestorFacts.{request_with_id, requests_of, says_gone, standing_on}
 use Rattle.investor_desk.specs.InvestorFacts.{stands_on, used_number, was_shown_on, while_open}
 use Rattle.investor_desk.specs.InvestorRules.{InvestorMarket, arrival_verdict, bond_with_id, hit_of}
@@ -151,14 +153,12 @@ module _ (market : InvestorMarket) (book : InvestorBook) where
   taken_same : (moment : ℕ) (came : Arrival InvestorMessage)
       → arrival_verdict market bare moment came ≡ arrival_verdict market book moment came
   unfolding hit_verdict pass_verdict offer_named request_with_id
-  taken_same moment arrival.Dropped = refl
-  taken_same moment (arrival.OutOfSequence reject) = refl
-  taken_same moment (arrival.Rejected reject) = refl
   taken_same moment (arrival.Taken (message.Request request)) = request_same moment request
   taken_same moment (arrival.Taken (message.Hit hit)) =
       rw find_map (hit_same hit (offer_named book hit.quote))
   taken_same moment (arrival.Taken (message.Pass pass)) =
       rw find_map (pass_same pass (request_with_id book pass.request))
+  taken_same moment other = refl
 
   pub verdict_same : (moment : ℕ) (bytes : List ℕ)
       → investor_verdict market bare moment bytes ≡ investor_verdict market book moment bytes
@@ -177,10 +177,6 @@ module _ (market : InvestorMarket) (book : InvestorBook) where
       → offer_numbered bare number ≡ option_map unpriced_shown (offer_numbered book number)
   unfolding offer_numbered
   offered number = simp erased
-
-  open_numbered : (number : ℕ)
-      → open_request bare number ≡ option_map unpriced_request (open_request book number)
-  open_numbered number = rw (numbered number) (while_same (request_numbered book number))
 
   gone_kept : (number : ℕ) (found : Option ShownOffer)
       → map unpriced (gone_facts number (option_map unpriced_shown found))
@@ -206,45 +202,44 @@ module _ (market : InvestorMarket) (book : InvestorBook) where
       by_quote None = refl
       by_quote (Some quote) = rw (offered quote) (by_offer (offer_numbered book quote))
 
+  offer_kept : (number : ℕ) (offer : Offer) (found : Option StandingRequest)
+      → map unpriced
+      (offer_facts bare number (unpriced_offer offer) (option_map unpriced_request found))
+      ≡ map unpriced (offer_facts book number offer found)
+  offer_kept number offer None = refl
+  offer_kept number offer (Some own) =
+      simp erased (append_along unpriced _ _ _ _
+      (gone_kept number (offer_of_dealer own offer.dealer)) refl)
+
+  withdrawal_kept : (number word : ℕ) (found : Option StandingRequest)
+      → map unpriced (withdrawal_facts number word (option_map unpriced_request found))
+      ≡ map unpriced (withdrawal_facts number word found)
+  withdrawal_kept number word None = refl
+  withdrawal_kept number word (Some own) =
+      rw find_map (gone_kept number (offer_with_word own word))
+
+  answer_kept : (number : ℕ) (response : ResponseRef) (reply : Reply)
+      (found : Option StandingRequest)
+      → map unpriced
+      (answer_facts bare number response reply (option_map unpriced_request found))
+      ≡ map unpriced (answer_facts book number response reply found)
+  answer_kept number response reply None = refl
+  answer_kept number response reply (Some own) = close_kept number response (refusal_of reply)
+
+  expiry_kept : (number : ℕ) (found : Option StandingRequest)
+      → map unpriced (expiry_facts number (option_map unpriced_request found))
+      ≡ map unpriced (expiry_facts number found)
+  expiry_kept number None = refl
+  expiry_kept number (Some own) = refl
+
+  -- what is looked up, and what is kept of it
+  ruleset looked_up = (verdict_same, numbered, while_same)
+
+  ruleset kept = (looked_up, offer_kept, withdrawal_kept, answer_kept, expiry_kept)
+
   pub kept_same : (more : InvestorEvent)
       → map unpriced (event_facts market bare (unpriced_event more))
       ≡ map unpriced (event_facts market book more)
   unfolding event_facts
-  kept_same (event.Received moment bytes) = rw (verdict_same moment bytes)
-  kept_same (event.QuoteCame request offer moment) =
-      rw (open_numbered request) (by_request (open_request book request))
-    where
-      by_request : (found : Option StandingRequest)
-          → map unpriced (offer_facts bare request (unpriced_offer offer)
-          (option_map unpriced_request found))
-          ≡ map unpriced (offer_facts book request offer found)
-      by_request None = refl
-      by_request (Some own) =
-          simp erased (append_along unpriced _ _ _ _
-          (gone_kept request (offer_of_dealer own offer.dealer)) refl)
-  kept_same (event.QuoteGone request word moment) =
-      rw (open_numbered request) (by_request (open_request book request))
-    where
-      by_request : (found : Option StandingRequest)
-          → map unpriced (withdrawal_facts request word (option_map unpriced_request found))
-          ≡ map unpriced (withdrawal_facts request word found)
-      by_request None = refl
-      by_request (Some own) = rw find_map (gone_kept request (offer_with_word own word))
   kept_same (event.DealerDeclined request dealer moment) = refl
-  kept_same (event.Answered request response reply moment) =
-      rw (numbered request) (by_request (request_numbered book request))
-    where
-      by_request : (found : Option StandingRequest)
-          → map unpriced (answer_facts bare request response reply
-          (option_map unpriced_request found))
-          ≡ map unpriced (answer_facts book request response reply found)
-      by_request None = refl
-      by_request (Some own) = close_kept request response (refusal_of reply)
-  kept_same (event.Closed request moment) =
-      rw (numbered request) (by_request (request_numbered book request))
-    where
-      by_request : (found : Option StandingRequest)
-          → map unpriced (expiry_facts request (option_map unpriced_request found))
-          ≡ map unpriced (expiry_facts request found)
-      by_request None = refl
-      by_request (Some own) = refl
+  kept_same other = simp kept

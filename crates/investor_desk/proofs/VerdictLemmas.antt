@@ -148,10 +148,8 @@ message_holds market book moment (message.Hit hit) stands = hit_holds market boo
 message_holds market book moment (message.Pass pass) stands = pass_holds market book pass (request_with_id book pass.request) (λ own is. request_stands market book pass.request own stands is)
 
 arrival_holds : (market : InvestorMarket) (book : InvestorBook) (moment : ℕ) (came : Arrival InvestorMessage) → StandsIn market book → Holds market book (arrival_verdict market book moment came)
-arrival_holds market book moment arrival.Dropped stands = tt
-arrival_holds market book moment (arrival.OutOfSequence reject) stands = tt
-arrival_holds market book moment (arrival.Rejected reject) stands = tt
 arrival_holds market book moment (arrival.Taken said) stands = message_holds market book moment said stands
+arrival_holds market book moment other stands = tt
 
 -- what holds of the verdict on any bytes
 pub verdict_holds : (market : InvestorMarket) (book : InvestorBook) (moment : ℕ) (bytes : List ℕ) → StandsIn market book → Holds market book (investor_verdict market book moment bytes)

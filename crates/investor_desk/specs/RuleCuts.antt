@@ -1,7 +1,8 @@
 -- How the code cuts the checks of a request, what it notes, and what it writes at once. Only
 -- private functions say this.
 use Rattle.std.specs.Prelude.{◌≡◌, ◌≤◌, ℕ, ◌+◌, Bool, true, ◌&&◌, ◌==◌, not, nat_lt, nat_le, List}
-use Rattle.std.specs.Prelude.{[], ◌∷◌, ◌++◌, length, Option, Some, None, is_none, is_some}
+use Rattle.std.specs.Prelude.{[], ◌∷◌, ◌++◌, length, Option, None, is_none, is_some}
+use Rattle.std.specs.Prelude.{if◌then◌else◌}
 use Rattle.std.specs.List.{list_any}
 use Rattle.std.specs.Option.{option_to_list}
 use Rattle.venue_rows.specs.Texts.{same_text}
@@ -14,14 +15,11 @@ use Rattle.investor_desk.specs.InvestorRules.{InvestorMarket, bond_with_id, is_u
 use Rattle.investor_desk.specs.InvestorRules.{dealer_numbers}
 use Rattle.investor_desk.specs.InvestorDesk.{DeskEvents}
 use Rattle.investor_desk.specs.InvestorOutput.{desk_after, investor_notes, investor_output}
-use Rattle.investor_desk.specs.InvestorOutput.{written_from}
+use Rattle.investor_desk.specs.InvestorOutput.{uses_number, verdict_message, written_from}
 use Rattle.investor_desk.specs.BookChanges.{book_after, book_with, gone_of, IsAccepted, FitsBook}
 use Rattle.investor_desk.specs.BookChanges.{FitsOffer}
 use Rattle.investor_desk.specs.declared.events.InvestorEvent.{InvestorEvent}
 use Rattle.quote_messages.specs.declared.out_messages.OutMessage.{OutMessage}
-use Rattle.quote_messages.specs.declared.out_messages.OutMessage.TheVariants as out
-use Rattle.quote_messages.specs.declared.out_messages.PassStatus.TheVariants as status
-use Rattle.investor_desk.specs.Refusals.{request_reason}
 use Rattle.investor_desk.specs.declared.notes.InvestorNote.{InvestorNote}
 use Rattle.investor_desk.specs.declared.refusals.RequestRefusal.{RequestRefusal}
 use Rattle.investor_desk.specs.declared.refusals.RequestRefusal.TheVariants as refusal
@@ -105,17 +103,11 @@ abbrev pub next_written : DeskEvents → ℕ → List OutMessage → List (List 
 next_written desk moment messages =
     written_from desk.market (length (investor_output desk.market desk.events) + 1) moment messages
 
+-- what is noted of a verdict: the request that it accepts, or else whether a number was used up
+abbrev pub own_note : InvestorVerdict → Note
+own_note (verdict.RequestAccepted id request) = note.Asked request
+own_note other = if uses_number other then note.Number else note.Nothing
+
 -- what a verdict leads to
 abbrev pub received_outcome : InvestorVerdict → Outcome
-received_outcome verdict.Dropped = sends note.Nothing None
-received_outcome (verdict.OutOfSequence reject) = sends note.Nothing (Some (out.Reject reject))
-received_outcome (verdict.Rejected reject) = sends note.Number (Some (out.Reject reject))
-received_outcome (verdict.RequestRefused request bond refused) =
-    sends note.Number (Some (out.RequestRefused request bond (request_reason refused)))
-received_outcome (verdict.HitUnknown id quote) = sends note.Number (Some (out.HitUnknown id quote))
-received_outcome (verdict.PassUnknown id request) =
-    sends note.Number (Some (out.PassReport id request status.Unknown))
-received_outcome (verdict.RequestAccepted id request) =
-    sends (note.Asked request) (Some (out.RequestAccepted id))
-received_outcome (verdict.Hits request response word) = sends note.Number None
-received_outcome (verdict.Passes request response) = sends note.Number None
+received_outcome given = sends (own_note given) (verdict_message given)

@@ -4,13 +4,12 @@ ghost use Rattle.std.specs.Option.{option_map};
 ghost use Rattle.investor_desk.specs.InvestorFacts as facts;
 ghost use Rattle.investor_desk.specs.InvestorOutput as spec;
 ghost use Rattle.investor_desk.specs.BookChanges.{book_with};
-ghost use Rattle.investor_desk.specs.RuleCuts.{IsLawful, noted, messages_of, received_outcome};
-ghost use Rattle.investor_desk.specs.RuleCuts.{sends};
+ghost use Rattle.investor_desk.specs.RuleCuts.{IsLawful, noted, messages_of};
 ghost use Rattle.investor_desk.specs.InvestorTable.{request_in};
 
 use crate::index::{InvestorIndex, RequestRow, copy_of};
 use crate::market::Market;
-use crate::outcomes::{Note, Outcome};
+use crate::outcomes::{Note, Outcome, sends};
 use crate::{InvestorNote, InvestorVerdict, RequestClose, ShownOffer};
 use fix_fields::{Memory, Moment};
 use market_terms::{Duty, HitRefusal, Id, Offer, Reply, ResponseRef, RoomRef};
@@ -67,50 +66,6 @@ pub(crate) fn response_again(response: &ResponseRef) -> ResponseRef
     }
 }
 
-/// What a message of the investor's own leads to, by its verdict.
-pub(crate) fn received_outcome(verdict: InvestorVerdict<'_>) -> Outcome<'_>
-    ensures { result ≡ received_outcome verdict.entry }
-{
-    match verdict {
-        InvestorVerdict::Dropped => sends(Note::Nothing, None),
-        InvestorVerdict::OutOfSequence(reject) => {
-            sends(Note::Nothing, Some(OutMessage::Reject(reject)))
-        }
-        InvestorVerdict::Rejected(reject) => {
-            sends(Note::Number, Some(OutMessage::Reject(reject)))
-        }
-        InvestorVerdict::RequestRefused {
-            request,
-            bond,
-            refusal,
-        } => sends(
-            Note::Number,
-            Some(OutMessage::RequestRefused {
-                request,
-                bond,
-                reason: refusal.reason(),
-            }),
-        ),
-        InvestorVerdict::HitUnknown { id, quote } => {
-            sends(Note::Number, Some(OutMessage::HitUnknown { id, quote }))
-        }
-        InvestorVerdict::PassUnknown { id, request } => sends(
-            Note::Number,
-            Some(OutMessage::PassReport {
-                id,
-                request,
-                status: PassStatus::Unknown,
-            }),
-        ),
-        InvestorVerdict::RequestAccepted { id, request } => sends(
-            Note::Asked(request),
-            Some(OutMessage::RequestAccepted { request: id }),
-        ),
-        InvestorVerdict::Hits { .. } => sends(Note::Number, None),
-        InvestorVerdict::Passes { .. } => sends(Note::Number, None),
-    }
-}
-
 /// What is noted beside the message that answers a verdict.
 pub(crate) fn verdict_note(verdict: &InvestorVerdict) -> Option<InvestorNote>
     ensures { result ≡ spec.verdict_note verdict.now }
@@ -118,17 +73,6 @@ pub(crate) fn verdict_note(verdict: &InvestorVerdict) -> Option<InvestorNote>
     match verdict {
         InvestorVerdict::RequestRefused { refusal, .. } => Some(InvestorNote::Refused(*refusal)),
         _ => None,
-    }
-}
-
-/// What is noted, with the one message that is sent, if one is.
-fn sends(note: Note, message: Option<OutMessage<'_>>) -> Outcome<'_>
-    ensures { result ≡ sends note message.entry }
-{
-    Outcome {
-        note,
-        gone: None,
-        message,
     }
 }
 

@@ -16,13 +16,14 @@ ghost use Rattle.investor_desk.specs.RequestLines.{lines_of};
 
 use crate::answers::{
     answer_note, answer_outcome, decline_outcome, duty_of, expiry_outcome, offer_outcome,
-    received_outcome, take_note, verdict_note, withdrawal_outcome,
+    take_note, verdict_note, withdrawal_outcome,
 };
 use crate::index::{InvestorIndex, copy_of};
 use crate::market::Market;
 use crate::outcomes::{Note, Outcome, Sent};
 use crate::rules::investor_verdict;
 use crate::sending::{push_note, push_some, write_both};
+use crate::verdicts::received_outcome;
 use crate::{InvestorEvent, InvestorNote, KeptResponse};
 use fix_fields::{Date, Memory, Moment};
 use market_terms::{Duty, Offer, Reply, RequestLine, ResponseRef};

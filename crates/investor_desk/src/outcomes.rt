@@ -1,4 +1,6 @@
 //! What an event at a desk leads to.
+ghost use Rattle.std.specs.Prelude.{◌≡◌};
+ghost use Rattle.investor_desk.specs.RuleCuts.{sends};
 
 use crate::{AcceptedRequest, RequestClose, ShownOffer};
 use quote_messages::{OutMessage, SentMessage};
@@ -12,6 +14,17 @@ pub(crate) struct Outcome<'a> {
     pub(crate) gone: Option<OutMessage<'a>>,
     /// The message that answers or reports the event itself.
     pub(crate) message: Option<OutMessage<'a>>,
+}
+
+/// What is noted, with the one message that is sent, if one is.
+pub(crate) fn sends(note: Note, message: Option<OutMessage<'_>>) -> Outcome<'_>
+    ensures { result ≡ sends note message.entry }
+{
+    Outcome {
+        note,
+        gone: None,
+        message,
+    }
 }
 
 /// The messages of an event as they are sent, in their order.

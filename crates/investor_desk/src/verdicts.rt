@@ -1,8 +1,11 @@
-//! What a desk decides of a message.
+//! What a desk decides of a message, and what that leads to.
+ghost use Rattle.std.specs.Prelude.{◌≡◌};
+ghost use Rattle.investor_desk.specs.RuleCuts.{received_outcome};
 
+use crate::outcomes::{Note, Outcome, sends};
 use crate::{AcceptedRequest, RequestRefusal};
 use market_terms::{Id, ResponseRef};
-use quote_messages::Reject;
+use quote_messages::{OutMessage, PassStatus, Reject};
 
 /// The verdict on a message that came to an investor's desk. Hits and passes are left to the room
 /// of their request.
@@ -60,4 +63,48 @@ pub enum InvestorVerdict<'a> {
         /// The response, as its reply will name it.
         response: ResponseRef,
     },
+}
+
+/// What a message of the investor's own leads to, by its verdict.
+pub(crate) fn received_outcome(verdict: InvestorVerdict<'_>) -> Outcome<'_>
+    ensures { result ≡ received_outcome verdict.entry }
+{
+    match verdict {
+        InvestorVerdict::Dropped => sends(Note::Nothing, None),
+        InvestorVerdict::OutOfSequence(reject) => {
+            sends(Note::Nothing, Some(OutMessage::Reject(reject)))
+        }
+        InvestorVerdict::Rejected(reject) => {
+            sends(Note::Number, Some(OutMessage::Reject(reject)))
+        }
+        InvestorVerdict::RequestRefused {
+            request,
+            bond,
+            refusal,
+        } => sends(
+            Note::Number,
+            Some(OutMessage::RequestRefused {
+                request,
+                bond,
+                reason: refusal.reason(),
+            }),
+        ),
+        InvestorVerdict::HitUnknown { id, quote } => {
+            sends(Note::Number, Some(OutMessage::HitUnknown { id, quote }))
+        }
+        InvestorVerdict::PassUnknown { id, request } => sends(
+            Note::Number,
+            Some(OutMessage::PassReport {
+                id,
+                request,
+                status: PassStatus::Unknown,
+            }),
+        ),
+        InvestorVerdict::RequestAccepted { id, request } => sends(
+            Note::Asked(request),
+            Some(OutMessage::RequestAccepted { request: id }),
+        ),
+        InvestorVerdict::Hits { .. } => sends(Note::Number, None),
+        InvestorVerdict::Passes { .. } => sends(Note::Number, None),
+    }
 }

@@ -89,12 +89,7 @@ module _ (number : ℕ) where
     pub room_adds : (room : RoomRef) (what : ForRoom) → Adds (room_gets config facts room what)
     unfolding room_gets
     room_adds room (to_room.Open ask dealers moment) = event_adds room true _ _
-    room_adds room (to_room.Ready moment) = event_adds room true _ _
-    room_adds room (to_room.Post dealer offer moment) = event_adds room _ _ _
-    room_adds room (to_room.Unpost dealer word moment) = event_adds room _ _ _
-    room_adds room (to_room.Decline dealer moment) = event_adds room _ _ _
-    room_adds room (to_room.Pass response moment) = event_adds room true _ _
-    room_adds room (to_room.Expire moment) = event_adds room true _ _
+    room_adds room other = event_adds room _ _ _
 
     lifting_adds : (hit : Option QuoteRef) (outcome : Result End HitRefusal)
         → of_investor number (lifting hit outcome) ≡ []

@@ -1,32 +1,46 @@
--- An award has a winner, whose dealer is not the cover; without an award there is neither.
-use Rattle.std.proofs.Common.{◌≡◌, ◌≢◌, ℕ, Bool, true, false, ◌&&◌, not, if◌then◌else◌, List, []}
-use Rattle.std.proofs.Common.{◌∷◌, Option, Some, None, IfSome, is_none, Ok, Err, fold, refl, ap}
+-- What the end of a room says: an award has a winner, whose word a hit lifted, and whose dealer is
+-- not the cover; without an award there is neither.
+use Rattle.std.proofs.Common.{◌≡◌, ◌≢◌, ℕ, ◌<◌, Bool, true, false, ◌==◌, not, cond, List, []}
+use Rattle.std.proofs.Common.{◌∷◌, length, Option, Some, None, IfSome, Contains, is_none, fold, refl}
+use Rattle.std.proofs.Common.{subst, arith}
+use Rattle.std.proofs.lemmas.List.Elements.{Contains-append_right}
 use Rattle.std.specs.Option.{option_or, option_map}
 use Rattle.market_terms.specs.declared.closes.HitRefusal.{HitRefusal}
 use Rattle.market_terms.specs.declared.closes.HitRefusal.TheVariants as refusal
 use Rattle.quote_word.specs.declared.settled.Settled.{Settled}
+use Rattle.quote_word.specs.declared.settled.Settled.TheVariants.{Withdrawn, Lifted}
 use Rattle.request_room.specs.declared.ends.End.{End}
 use Rattle.request_room.specs.declared.ends.EndKind.TheVariants.{Awarded}
 use Rattle.request_room.specs.declared.events.RoomEvent.{RoomEvent}
 use Rattle.request_room.specs.declared.events.RoomEvent.TheVariants as event
 use Rattle.request_room.specs.declared.quotes.PostedQuote.{PostedQuote}
 use Rattle.request_room.specs.declared.requests.RoomRequest.{RoomRequest}
-use Rattle.request_room.specs.RoomFacts.{RoomFact, Opened, Readied, Posted, Unposted, Noted, Ended}
-use Rattle.request_room.specs.RoomFacts.{ended_as, end_of, is_open, is_vacant, is_opening}
-use Rattle.request_room.specs.RoomFacts.{takes_quotes, request_of}
+use Rattle.request_room.specs.RoomFacts.{RoomFact, ended_as, end_of, is_open, request_of}
 use Rattle.market_terms.specs.Checks.{first_refusal}
-use Rattle.request_room.specs.Book.{IsEndOf, book_of, stands, quote_meant, cover_for, cover_of}
+use Rattle.request_room.specs.Book.{IsEndOf, book_of, quote_meant, cover_for, cover_of}
 use Rattle.request_room.specs.Book.{is_past_deadline, is_expired, open_checks, hit_refusal}
-use Rattle.request_room.specs.Book.{hit_settled, award_of, is_lift, passed, expired, may_expire}
-use Rattle.request_room.specs.Book.{quote_posted, fact_if, end_by, event_facts, after_event}
+use Rattle.request_room.specs.Book.{hit_settled, award_of, fact_if, end_by, event_facts, after_event}
 use Rattle.request_room.specs.Book.{room_after}
-use Rattle.request_room.proofs.FactLemmas.{said_append}
+use Rattle.request_room.proofs.FactLemmas.{or_none, said_append}
 use Rattle.request_room.proofs.CoverLemmas.{cover_is_another}
 
+-- what an end may say
 abbrev IsLawful : End → Type 0
 IsLawful end = IsEndOf end.kind end.winner end.cover
 
--- An award.
+-- one of these events is a hit of this word that was answered lifted
+abbrev WasLifted : List RoomEvent → ℕ → Type 0
+WasLifted events w = (moment : ℕ) × Contains events (event.Hit w moment (Some Lifted))
+
+-- the word of a winner, where there is one, was lifted
+abbrev WonByLift : List RoomEvent → End → Type 0
+WonByLift events end = IfSome end.winner (λ winner. WasLifted events winner.1)
+
+-- a quote as a winner: its dealer and its word
+abbrev as_winner : PostedQuote → ℕ × ℕ
+as_winner quote = (quote.dealer, quote.word)
+
+-- An award has a winner, and the cover is another dealer.
 
 passed_first : (so : Bool) (refused : HitRefusal) (checks : List (Bool × HitRefusal))
     → first_refusal ((so, refused) ∷ checks) ≡ None → (so ≡ false) × (first_refusal checks ≡ None)
@@ -63,7 +77,7 @@ cover_apart (Some request) winner book =
 
 award_with : (request : Option RoomRequest) (meant : Option PostedQuote)
     (book : List PostedQuote) → is_none meant ≡ false
-    → IsEndOf Awarded (option_map (λ quote. (quote.dealer, quote.word)) meant)
+    → IsEndOf Awarded (option_map as_winner meant)
     (option_map (λ quote. quote.dealer) (cover_for request meant book))
 award_with request None book h = absurd (cc)
 award_with request (Some winner) book h = cover_apart request winner book
@@ -74,71 +88,92 @@ award_is_lawful facts w moment h =
     award_with (request_of facts) (quote_meant (book_of facts) w) (book_of facts)
     (meant_if_not_refused facts w moment h)
 
-by_word : (so : Bool) (award : End) (moment : ℕ) → IsLawful award
-    → IfSome (end_of (end_by (if so then Ok award else Err refusal.Withdrawn) moment)) IsLawful
-by_word true award moment lawful = lawful
-by_word false award moment lawful = tt
+module _ (events : List RoomEvent) where
+  -- what an end says in a room of these events
+  abbrev Says : End → Type 0
+  Says end = IsLawful end × WonByLift events end
 
-settled_lawfully : (refused : Option HitRefusal) (settlement : Option Settled) (award : End)
-    (moment : ℕ) → (refused ≡ None → IsLawful award)
-    → IfSome (end_of (end_by (hit_settled refused settlement award) moment)) IsLawful
-settled_lawfully (Some refused) settlement award moment h = tt
-settled_lawfully None settlement award moment h = by_word (is_lift settlement) award moment (h refl)
+  -- The quote that a hit means bears the word of the hit.
 
--- Event by event.
+  -- the word of a quote that won was lifted
+  abbrev WonBy : Option PostedQuote → Type 0
+  WonBy meant = IfSome (option_map as_winner meant) (λ winner. WasLifted events winner.1)
 
-quiet : (so : Bool) (fact : RoomFact) → ended_as fact ≡ None → end_of (fact_if so fact) ≡ None
-quiet true fact h = ap (λ o. option_or o None) h
-quiet false fact h = refl
+  meant_or_later : (w : ℕ) (quote : PostedQuote) (later : List PostedQuote) (same : Bool)
+      → (quote.word == w) ≡ same → WasLifted events w → WonBy (quote_meant later w)
+      → WonBy (cond same (Some quote) (quote_meant later w))
+  meant_or_later w quote later true same lifted more =
+      let is : w ≡ quote.word = grind (arith, same) in
+      subst (WasLifted events) is lifted
+  meant_or_later w quote later false same lifted more = more
 
-nothing_lawful : (facts : List RoomFact) → end_of facts ≡ None → IfSome (end_of facts) IsLawful
-nothing_lawful facts h = rw h tt
+  meant_was_lifted : (w : ℕ) (book : List PostedQuote) → WasLifted events w
+      → WonBy (quote_meant book w)
+  meant_was_lifted w [] lifted = tt
+  meant_was_lifted w (quote ∷ later) lifted =
+      meant_or_later w quote later (quote.word == w) refl lifted (meant_was_lifted w later lifted)
 
-ended_where : (so : Bool) (end : End) (moment : ℕ) → IsLawful end
-    → IfSome (end_of (fact_if so (Ended end moment))) IsLawful
-ended_where true end moment lawful = lawful
-ended_where false end moment lawful = tt
+  -- Event by event: a hit awards, and of all others none has a winner.
 
-adds_lawfully : (facts : List RoomFact) (event : RoomEvent)
-    → IfSome (end_of (event_facts facts event)) IsLawful
-unfolding event_facts
-adds_lawfully facts (event.Open request) =
-    nothing_lawful (fact_if (is_vacant facts) (Opened request))
-    (quiet (is_vacant facts) (Opened request) refl)
-adds_lawfully facts event.Ready =
-    nothing_lawful (fact_if (is_opening facts) Readied) (quiet (is_opening facts) Readied refl)
-adds_lawfully facts (event.Post dealer w price until) =
-    nothing_lawful (fact_if (takes_quotes facts) (Posted (quote_posted dealer w price until)))
-    (quiet (takes_quotes facts) (Posted (quote_posted dealer w price until)) refl)
-adds_lawfully facts (event.Unpost dealer w) =
-    let so = takes_quotes facts && stands (book_of facts) dealer w in
-    nothing_lawful (fact_if so (Unposted dealer w)) (quiet so (Unposted dealer w) refl)
-adds_lawfully facts (event.Decline dealer) =
-    nothing_lawful (fact_if (takes_quotes facts) (Noted dealer))
-    (quiet (takes_quotes facts) (Noted dealer) refl)
-adds_lawfully facts (event.Hit w moment settlement) =
-    settled_lawfully (hit_refusal facts w moment) settlement (award_of facts w) moment
-    (award_is_lawful facts w moment)
-adds_lawfully facts (event.Pass moment) = ended_where (is_open facts) passed moment (refl, refl)
-adds_lawfully facts (event.Expire moment) =
-    ended_where (may_expire facts moment) expired moment (refl, refl)
+  hit_says : (facts : List RoomFact) (w moment : ℕ) (refused : Option HitRefusal)
+      (settlement : Option Settled) → hit_refusal facts w moment ≡ refused
+      → Contains events (event.Hit w moment settlement)
+      → IfSome (end_of (end_by (hit_settled refused settlement (award_of facts w)) moment)) Says
+  hit_says facts w moment (Some refused) settlement is tried = tt
+  hit_says facts w moment None (Some Lifted) is tried =
+      (award_is_lawful facts w moment is, meant_was_lifted w (book_of facts) (moment, tried))
+  hit_says facts w moment None (Some Withdrawn) is tried = tt
+  hit_says facts w moment None None is tried = tt
 
-either_lawful : (one other : Option End) → IfSome one IsLawful → IfSome other IsLawful
-    → IfSome (option_or one other) IsLawful
-either_lawful None other h more = more
-either_lawful (Some end) other h more = h
+  where_says : (so : Bool) (fact : RoomFact) → IfSome (ended_as fact) Says
+      → IfSome (end_of (fact_if so fact)) Says
+  where_says true fact says = rw (or_none (ended_as fact)) says
+  where_says false fact says = tt
 
-lawful_after : (facts : List RoomFact) (events : List RoomEvent) → IfSome (end_of facts) IsLawful
-    → IfSome (end_of (fold after_event facts events)) IsLawful
-lawful_after facts [] h = h
-lawful_after facts (event ∷ more) h =
-    lawful_after (after_event facts event) more
-    (rw (said_append ended_as facts (event_facts facts event))
-    (either_lawful (end_of facts) (end_of (event_facts facts event)) h
-    (adds_lawfully facts event)))
+  event_says : (facts : List RoomFact) (tried : RoomEvent) → Contains events tried
+      → IfSome (end_of (event_facts facts tried)) Says
+  unfolding event_facts
+  event_says facts (event.Hit w moment settlement) has =
+      hit_says facts w moment (hit_refusal facts w moment) settlement refl has
+  event_says facts other has = where_says _ _ (search)
 
--- what the end of any room says
-pub ends_lawfully : (events : List RoomEvent)
-    → IfSome (end_of (room_after events)) (λ end. IsEndOf end.kind end.winner end.cover)
-unfolding room_after
-ends_lawfully events = lawful_after [] events tt
+  either_says : (one other : Option End) → IfSome one Says → IfSome other Says
+      → IfSome (option_or one other) Says
+  either_says None other says more = more
+  either_says (Some end) other says more = says
+
+  first_of_all : (tried : RoomEvent) (later : List RoomEvent) → Contains (tried ∷ later) tried
+  first_of_all tried later =
+      let lt : 0 < length (tried ∷ later) = omega arith in (0, lt, refl)
+
+  -- more of the room's events, on facts that stand
+  says_after : (facts : List RoomFact) (more : List RoomEvent)
+      → ((tried : RoomEvent) → Contains more tried → Contains events tried)
+      → IfSome (end_of facts) Says → IfSome (end_of (fold after_event facts more)) Says
+  says_after facts [] among says = says
+  says_after facts (tried ∷ later) among says =
+      says_after (after_event facts tried) later
+      (λ next has. among next (Contains-append_right (tried ∷ []) later next has))
+      (rw (said_append ended_as facts (event_facts facts tried))
+      (either_says (end_of facts) (end_of (event_facts facts tried)) says
+      (event_says facts tried (among tried (first_of_all tried later)))))
+
+  both : (end : Option End) → IfSome end Says → IfSome end IsLawful × IfSome end (WonByLift events)
+  both None says = (tt, tt)
+  both (Some end) says = says
+
+  end_says : IfSome (end_of (room_after events)) IsLawful
+      × IfSome (end_of (room_after events)) (WonByLift events)
+  unfolding room_after
+  end_says =
+      both (end_of (room_after events)) (says_after [] events (λ tried has. has) tt)
+
+  -- what the end of any room says
+  pub ends_lawfully : IfSome (end_of (room_after events))
+      (λ end. IsEndOf end.kind end.winner end.cover)
+  ends_lawfully = end_says.0
+
+  -- the winner's word of any room was lifted by a hit
+  pub awards_were_lifted : IfSome (end_of (room_after events)) (λ end. IfSome end.winner
+      (λ winner. (moment : ℕ) × Contains events (event.Hit winner.1 moment (Some Lifted))))
+  awards_were_lifted = end_says.1

@@ -6,7 +6,7 @@ use Rattle.std.proofs.lemmas.Bool.Decides.{nat_tests}
 use Rattle.std.proofs.lemmas.List.Elements.{All-nil, All-cons}
 use Rattle.std.proofs.lemmas.List.Kept.{AllPairs-cons}
 use Rattle.request_room.specs.declared.quotes.PostedQuote.{PostedQuote}
-use Rattle.request_room.specs.RoomFacts.{RoomFact, Opened, Readied, Posted, Unposted, Noted, Ended}
+use Rattle.request_room.specs.RoomFacts.{RoomFact, Posted, Unposted}
 use Rattle.request_room.specs.Book.{book_of, takes_out}
 
 neither_left : (one other : Bool) → (one || other) ≡ false → one ≡ false
@@ -37,13 +37,10 @@ all_apart quote (Posted next ∷ later) h =
     (neither_left (quote.dealer == next.dealer) (list_any (takes_out quote) later) h))
     (all_apart quote later (neither_right (quote.dealer == next.dealer)
     (list_any (takes_out quote) later) h))
-all_apart quote (Opened request ∷ later) h = all_apart quote later h
-all_apart quote (Readied ∷ later) h = all_apart quote later h
 all_apart quote (Unposted dealer w ∷ later) h =
     all_apart quote later (neither_right (takes_out quote (Unposted dealer w))
     (list_any (takes_out quote) later) h)
-all_apart quote (Noted dealer ∷ later) h = all_apart quote later h
-all_apart quote (Ended end moment ∷ later) h = all_apart quote later h
+all_apart quote (fact ∷ later) h = all_apart quote later h
 
 one_more : (taken : Bool) (quote : PostedQuote) (later : List RoomFact)
     → list_any (takes_out quote) later ≡ taken
@@ -61,8 +58,4 @@ pub one_quote_each : (facts : List RoomFact)
 one_quote_each [] = λ i j d below within. absurd (omega arith)
 one_quote_each (Posted quote ∷ later) =
     one_more (list_any (takes_out quote) later) quote later refl (one_quote_each later)
-one_quote_each (Opened request ∷ later) = one_quote_each later
-one_quote_each (Readied ∷ later) = one_quote_each later
-one_quote_each (Unposted dealer w ∷ later) = one_quote_each later
-one_quote_each (Noted dealer ∷ later) = one_quote_each later
-one_quote_each (Ended end moment ∷ later) = one_quote_each later
+one_quote_each (fact ∷ later) = one_quote_each later

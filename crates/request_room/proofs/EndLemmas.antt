@@ -1,73 +1,37 @@
 -- A room that has ended changes no more, so it ends once at most.
-use Rattle.std.proofs.Common.{◌≡◌, ℕ, ◌≤◌, Bool, true, false, ◌&&◌, not, cond, List, [], ◌∷◌, ◌++◌}
-use Rattle.std.proofs.Common.{length, Some, is_some, is_none, Result, Ok, Err, filter, fold, refl}
-use Rattle.std.proofs.Common.{ap, ◌∙◌, arith}
+use Rattle.std.proofs.Common.{◌≡◌, ℕ, ◌≤◌, Bool, true, false, cond, List, [], ◌∷◌, ◌++◌, length}
+use Rattle.std.proofs.Common.{Option, Some, None, is_some, Result, Ok, Err, filter, fold, refl, ap}
+use Rattle.std.proofs.Common.{◌∙◌, arith}
 use Rattle.std.proofs.lemmas.List.{append-nil}
 use Rattle.std.proofs.lemmas.List.Elements.{filter-append}
 use Rattle.std.proofs.lemmas.List.Folds.{fold_stays}
 use Rattle.std.proofs.lemmas.List.Sums.{fold-append}
 use Rattle.std.proofs.Math.Bool.{and-false}
-use Rattle.std.proofs.lemmas.Bool.{and_left}
 use Rattle.market_terms.specs.declared.closes.HitRefusal.{HitRefusal}
-use Rattle.market_terms.specs.declared.closes.HitRefusal.TheVariants as refusal
 use Rattle.request_room.specs.declared.ends.End.{End}
 use Rattle.request_room.specs.declared.events.RoomEvent.{RoomEvent}
 use Rattle.request_room.specs.declared.events.RoomEvent.TheVariants as event
-use Rattle.request_room.specs.RoomFacts.{RoomFact, Opened, Readied, Posted, Unposted, Noted, Ended}
-use Rattle.request_room.specs.RoomFacts.{is_ended, is_ready, is_vacant, is_opening, is_open}
-use Rattle.request_room.specs.RoomFacts.{takes_quotes, is_ending, is_award, is_awarded_kind}
-use Rattle.request_room.specs.RoomFacts.{request_of}
-use Rattle.market_terms.specs.Checks.{first_refusal}
-use Rattle.request_room.specs.Book.{book_of, stands, open_checks, hit_refusal, hit_settled}
-use Rattle.request_room.specs.Book.{award_of, may_expire, is_past_deadline, passed, expired}
-use Rattle.request_room.specs.Book.{quote_posted, fact_if, end_by, event_facts, after_event}
+use Rattle.request_room.specs.RoomFacts.{RoomFact, Ended, end_of, is_ended, is_ending, is_award}
+use Rattle.request_room.specs.RoomFacts.{is_awarded_kind}
+use Rattle.request_room.specs.Book.{fact_if, end_by, event_facts, after_event, hit_refusal}
 use Rattle.request_room.specs.Book.{room_after}
-
--- what does not hold together with the end
-closed_by : (b ended : Bool) → ended ≡ true → (b && not ended) ≡ false
-closed_by b ended h = ap (λ e. b && not e) h ∙ and-false b
-
-no_fact : (so : Bool) (fact : RoomFact) → so ≡ false → fact_if so fact ≡ []
-no_fact so fact h = ap (λ b. fact_if b fact) h
-
-refused_first : (is_so : Bool) (checks : List (Bool × HitRefusal)) → is_so ≡ false
-    → first_refusal ((not is_so, refusal.NotOpen) ∷ checks) ≡ Some refusal.NotOpen
-refused_first is_so checks h = ap (λ b. first_refusal ((not b, refusal.NotOpen) ∷ checks)) h
-
-hit_not_open : (facts : List RoomFact) (w moment : ℕ) → is_open facts ≡ false
-    → hit_refusal facts w moment ≡ Some refusal.NotOpen
-unfolding hit_refusal
-hit_not_open facts w moment h = refused_first (is_open facts) (open_checks facts w moment) h
 
 -- nothing that is tried adds a fact to a room that has ended
 no_fact_more : (facts : List RoomFact) (event : RoomEvent) → is_ended facts ≡ true
     → event_facts facts event ≡ []
-unfolding event_facts
-no_fact_more facts (event.Open request) h =
-    no_fact (is_vacant facts) (Opened request)
-    (closed_by (is_none (request_of facts)) (is_ended facts) h)
-no_fact_more facts event.Ready h =
-    no_fact (is_opening facts) Readied
-    (closed_by (is_some (request_of facts) && not (is_ready facts)) (is_ended facts) h)
-no_fact_more facts (event.Post dealer w price until) h =
-    no_fact (takes_quotes facts) (Posted (quote_posted dealer w price until))
-    (closed_by (is_some (request_of facts)) (is_ended facts) h)
-no_fact_more facts (event.Unpost dealer w) h =
-    no_fact (takes_quotes facts && stands (book_of facts) dealer w) (Unposted dealer w)
-    (and_left (takes_quotes facts) (stands (book_of facts) dealer w)
-    (closed_by (is_some (request_of facts)) (is_ended facts) h))
-no_fact_more facts (event.Decline dealer) h =
-    no_fact (takes_quotes facts) (Noted dealer)
-    (closed_by (is_some (request_of facts)) (is_ended facts) h)
-no_fact_more facts (event.Hit w moment settlement) h =
-    ap (λ refused. end_by (hit_settled refused settlement (award_of facts w)) moment)
-    (hit_not_open facts w moment (closed_by (is_ready facts) (is_ended facts) h))
-no_fact_more facts (event.Pass moment) h =
-    no_fact (is_open facts) (Ended passed moment) (closed_by (is_ready facts) (is_ended facts) h)
-no_fact_more facts (event.Expire moment) h =
-    no_fact (may_expire facts moment) (Ended expired moment)
-    (and_left (is_open facts) (is_past_deadline (request_of facts) moment)
-    (closed_by (is_ready facts) (is_ended facts) h))
+unfolding event_facts hit_refusal
+no_fact_more facts (event.Hit w moment settlement) h = simp (h, and-false)
+no_fact_more facts other h = simp (h, and-false)
+
+-- so an event that adds one finds a room that has not ended
+pub no_end_before : (facts : List RoomFact) (event : RoomEvent) (fact : RoomFact)
+    → event_facts facts event ≡ fact ∷ [] → end_of facts ≡ None
+no_end_before facts event fact adds = by_end (end_of facts) refl
+  where
+    by_end : (end : Option End) → end_of facts ≡ end → end ≡ None
+    by_end None is = refl
+    by_end (Some end) is =
+        let none : event_facts facts event ≡ [] = no_fact_more facts event (ap is_some is) in cc
 
 stays_as_it_is : (facts : List RoomFact) (event : RoomEvent) → is_ended facts ≡ true
     → after_event facts event ≡ facts
@@ -88,12 +52,8 @@ ended_stays events more h =
 -- a room that has not ended has no fact that ends it
 no_end_yet : (facts : List RoomFact) → is_ended facts ≡ false → filter is_ending facts ≡ []
 no_end_yet [] h = refl
-no_end_yet (Opened request ∷ later) h = no_end_yet later h
-no_end_yet (Readied ∷ later) h = no_end_yet later h
-no_end_yet (Posted quote ∷ later) h = no_end_yet later h
-no_end_yet (Unposted dealer w ∷ later) h = no_end_yet later h
-no_end_yet (Noted dealer ∷ later) h = no_end_yet later h
 no_end_yet (Ended end moment ∷ later) h = absurd (cc)
+no_end_yet (fact ∷ later) h = no_end_yet later h
 
 one_where : (so : Bool) (fact : RoomFact) → length (fact_if so fact) ≤ 1
 one_where true fact = omega arith
@@ -106,14 +66,8 @@ one_by (Err refused) moment = omega arith
 -- an event adds one fact at most
 one_fact : (facts : List RoomFact) (event : RoomEvent) → length (event_facts facts event) ≤ 1
 unfolding event_facts
-one_fact facts (event.Open request) = one_where _ _
-one_fact facts event.Ready = one_where _ _
-one_fact facts (event.Post dealer w price until) = one_where _ _
-one_fact facts (event.Unpost dealer w) = one_where _ _
-one_fact facts (event.Decline dealer) = one_where _ _
 one_fact facts (event.Hit w moment settlement) = one_by _ _
-one_fact facts (event.Pass moment) = one_where _ _
-one_fact facts (event.Expire moment) = one_where _ _
+one_fact facts other = one_where _ _
 
 one_kept : (b : Bool) (fact : RoomFact) (kept facts : List RoomFact) → length kept ≤ length facts
     → length (cond b (fact ∷ kept) kept) ≤ length (fact ∷ facts)
@@ -145,14 +99,10 @@ ends_once events = once_after [] events (omega arith)
 awards_are_ends : (facts : List RoomFact)
     → length (filter is_award facts) ≤ length (filter is_ending facts)
 awards_are_ends [] = omega arith
-awards_are_ends (Opened request ∷ later) = awards_are_ends later
-awards_are_ends (Readied ∷ later) = awards_are_ends later
-awards_are_ends (Posted quote ∷ later) = awards_are_ends later
-awards_are_ends (Unposted dealer w ∷ later) = awards_are_ends later
-awards_are_ends (Noted dealer ∷ later) = awards_are_ends later
 awards_are_ends (Ended end moment ∷ later) =
     one_kept (is_awarded_kind end.kind) (Ended end moment) (filter is_award later)
     (filter is_ending later) (awards_are_ends later)
+awards_are_ends (fact ∷ later) = awards_are_ends later
 
 -- and is awarded once at most
 pub awarded_once : (events : List RoomEvent) → length (filter is_award (room_after events)) ≤ 1

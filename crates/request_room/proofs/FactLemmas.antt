@@ -94,11 +94,7 @@ book_after [] fact = refl
 book_after (Posted quote ∷ later) fact =
     rw (any_after (takes_out quote) later fact, book_after later fact)
     (one_quote (list_any (takes_out quote) later) quote (book_of later) (book_of (fact ∷ [])) fact)
-book_after (Opened request ∷ later) fact = book_after later fact
-book_after (Readied ∷ later) fact = book_after later fact
-book_after (Unposted dealer w ∷ later) fact = book_after later fact
-book_after (Noted dealer ∷ later) fact = book_after later fact
-book_after (Ended end moment ∷ later) fact = book_after later fact
+book_after (other ∷ later) fact = book_after later fact
 
 all_left : (book : List PostedQuote) → filter (λ quote. true) book ≡ book
 all_left [] = refl

@@ -4,11 +4,10 @@ use Rattle.std.proofs.Common.{refl, ap, sym, ◌∙◌}
 use Rattle.std.proofs.lemmas.List.Sums.{fold-append}
 use Rattle.request_room.specs.declared.ends.End.{End}
 use Rattle.request_room.specs.declared.events.RoomEvent.{RoomEvent}
-use Rattle.request_room.specs.declared.events.RoomEvent.TheVariants as event
 use Rattle.request_room.specs.declared.quotes.PostedQuote.{PostedQuote}
 use Rattle.request_room.specs.declared.requests.RoomRequest.{RoomRequest}
 use Rattle.request_room.specs.RoomFacts.{RoomFact, Opened, Readied, Posted, Unposted, Noted, Ended}
-use Rattle.request_room.specs.RoomFacts.{opened_for, ended_as, end_of}
+use Rattle.request_room.specs.RoomFacts.{opened_for, ended_as, request_of, end_of}
 use Rattle.request_room.specs.Kept.{Keeps}
 use Rattle.request_room.specs.Book.{others, after_event, room_after}
 use Rattle.request_room.proofs.FactLemmas.{said_by_others, said_first, ready_as_before, ready_now}
@@ -40,10 +39,11 @@ kept_vacant =
 
 module _ (facts : List RoomFact) (request : Option RoomRequest) (ready : Bool)
     (book : List PostedQuote) (end : Option End) where
-  pub keeps_opened : (opened : RoomRequest) → Keeps facts None ready book end
+  pub keeps_opened : (opened : RoomRequest) → request_of facts ≡ None
+      → Keeps facts request ready book end
       → Keeps (facts ++ Opened opened ∷ []) (Some opened) ready book end
-  keeps_opened opened kept = record {
-    request_is = said_first opened_for facts (Opened opened) opened (sym kept.request_is) refl;
+  keeps_opened opened before kept = record {
+    request_is = said_first opened_for facts (Opened opened) opened before refl;
     ready_is = kept.ready_is ∙ ready_as_before facts (Opened opened) refl;
     book_is = kept.book_is ∙ book_opened facts opened;
     end_is = kept.end_is ∙ said_by_others ended_as facts (Opened opened) refl;

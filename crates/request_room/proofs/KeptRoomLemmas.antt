@@ -1,35 +1,36 @@
--- What a room keeps after one event more, with its book best first.
-use Rattle.std.proofs.Common.{◌≡◌, ℕ, ◌+◌, Bool, true, false, ◌&&◌, ◌==◌, not, List, [], ◌∷◌, ◌++◌}
-use Rattle.std.proofs.Common.{length, Option, Some, None, is_some, is_none, Ok, Err, filter, refl}
-use Rattle.std.proofs.Common.{ap, sym, ◌∙◌, arith, length-append}
-use Rattle.std.proofs.lemmas.List.{map-append}
+-- What a room keeps after one event more, with its book best first: it goes by the fact that the
+-- event adds, whatever the event is.
+use Rattle.std.proofs.Common.{◌≡◌, ℕ, ◌+◌, Bool, true, false, ◌==◌, not, List, [], ◌∷◌, ◌++◌, length}
+use Rattle.std.proofs.Common.{Option, Some, None, is_some, is_none, filter, refl, ap, sym, ◌∙◌, arith}
+use Rattle.std.proofs.Common.{length-append}
+use Rattle.std.proofs.lemmas.Bool.{and_parts}
+use Rattle.std.proofs.lemmas.List.{append-nil, map-append}
 use Rattle.market_terms.specs.declared.asks.Side.{Side}
-use Rattle.market_terms.specs.declared.closes.HitRefusal.{HitRefusal}
-use Rattle.quote_word.specs.declared.settled.Settled.{Settled}
 use Rattle.request_room.specs.declared.book.RankedQuote.{RankedQuote}
 use Rattle.request_room.specs.declared.ends.End.{End}
 use Rattle.request_room.specs.declared.events.RoomEvent.{RoomEvent}
-use Rattle.request_room.specs.declared.events.RoomEvent.TheVariants as event
 use Rattle.request_room.specs.declared.quotes.PostedQuote.{PostedQuote}
 use Rattle.request_room.specs.declared.requests.RoomRequest.{RoomRequest}
-use Rattle.request_room.specs.RoomFacts.{request_of, end_of, is_vacant, is_opening, is_open}
-use Rattle.request_room.specs.RoomFacts.{takes_quotes}
-use Rattle.request_room.specs.Book.{book_of, others, stands, is_quote_of, quote_posted, hit_outcome}
-use Rattle.request_room.specs.Book.{may_expire, passed, expired, room_after}
+use Rattle.request_room.specs.RoomFacts.{RoomFact, Opened, Readied, Posted, Unposted, Noted, Ended}
+use Rattle.request_room.specs.RoomFacts.{request_of, is_vacant, takes_quotes}
+use Rattle.request_room.specs.Book.{others, is_quote_of, fact_if, event_facts, room_after}
 use Rattle.request_room.specs.Kept.{Keeps, KeepsRoom, Ranks, quotes_in, rank_in, ranked, is_kept_of}
+use Rattle.request_room.proofs.EndLemmas.{no_end_before}
 use Rattle.request_room.proofs.RankedLists.{filter-ranked, ranked-push}
-use Rattle.request_room.proofs.KeptFacts.{kept_vacant}
-use Rattle.request_room.proofs.KeptLemmas.{kept_open, kept_ready, kept_post, kept_post_refused}
-use Rattle.request_room.proofs.KeptLemmas.{kept_unpost, kept_unpost_refused, kept_decline, none_by}
-use Rattle.request_room.proofs.KeptLemmas.{kept_pass, kept_pass_refused, kept_expire}
-use Rattle.request_room.proofs.KeptLemmas.{kept_expire_refused, kept_hit, kept_hit_refused}
+use Rattle.request_room.proofs.KeptFacts.{kept_vacant, room_after_push, keeps_opened, keeps_readied}
+use Rattle.request_room.proofs.KeptFacts.{keeps_posted, keeps_unposted, keeps_noted, keeps_ended}
 use Rattle.request_room.proofs.KeptBookLemmas.{quotes-filter, posted_left, until_later, posted_then}
 
--- Event by event.
+-- whether an event adds its fact
+pub adds_one : (so : Bool) (fact : RoomFact) → so ≡ true → fact_if so fact ≡ fact ∷ []
+adds_one so fact h = ap (λ b. fact_if b fact) h
 
-and_left : (one other : Bool) → (one && other) ≡ true → one ≡ true
-and_left true other h = refl
-and_left false other h = h
+pub adds_none : (so : Bool) (fact : RoomFact) → so ≡ false → fact_if so fact ≡ []
+adds_none so fact h = ap (λ b. fact_if b fact) h
+
+none_by : {A : Type 0} (o : Option A) → is_none o ≡ true → o ≡ None
+none_by None h = refl
+none_by (Some x) h = absurd (cc)
 
 -- the posted quotes after one post more: those of the other dealers, and the new one behind them
 abbrev posted_with : List RankedQuote → ℕ → PostedQuote → List RankedQuote
@@ -81,153 +82,113 @@ room_vacant side = record { posted = []; keeps = kept_vacant; ranks = (refl, ref
 
 module _ (events : List RoomEvent) {request : Option RoomRequest} {ready : Bool} {side : Side}
     {kept : List RankedQuote} {end : Option End}
-    (room : KeepsRoom (room_after events) (length events) request ready side kept end) where
-  one_more : (event : RoomEvent) → length (events ++ event ∷ []) ≡ length events + 1
-  one_more event = length-append events (event ∷ [])
+    (room : KeepsRoom (room_after events) (length events) request ready side kept end)
+    (event : RoomEvent) where
+  -- the event adds these facts
+  abbrev Adds : List RoomFact → Type 0
+  Adds added = event_facts (room_after events) event ≡ added
 
-  same_book : (event : RoomEvent) (request' : Option RoomRequest) (ready' : Bool) (side' : Side)
-      (end' : Option End) → Keeps (room_after (events ++ event ∷ [])) request' ready'
-      (quotes_in room.posted) end' → Ranks request' side' room.posted kept
-      → KeepsRoom (room_after (events ++ event ∷ [])) (length (events ++ event ∷ [])) request'
-      ready' side' kept end'
-  same_book event request' ready' side' end' keeps ranks =
-      record {
-        posted = room.posted;
-        keeps = keeps;
-        ranks = ranks;
-        in_order =
-            rw (one_more event) (until_later 0 (length events) room.posted room.in_order);
-      }
+  -- what is kept once it came
+  abbrev Then : Option RoomRequest → Bool → Side → List RankedQuote → Option End → Type 0
+  Then request' ready' side' kept' end' =
+      KeepsRoom (room_after (events ++ event ∷ [])) (length (events ++ event ∷ []))
+      request' ready' side' kept' end'
 
-  pub room_open : (opened : RoomRequest) → is_vacant (room_after events) ≡ true
-      → KeepsRoom (room_after (events ++ event.Open opened ∷ []))
-      (length (events ++ event.Open opened ∷ [])) (Some opened) ready opened.ask.side kept end
-  room_open opened h =
-      let none : request ≡ None =
-      room.keeps.request_is ∙ none_by (request_of (room_after events))
-      (and_left (is_none (request_of (room_after events)))
-      (not (is_some (end_of (room_after events)))) h) in
-      same_book (event.Open opened) (Some opened) ready opened.ask.side end
-      (kept_open events request ready (quotes_in room.posted) end opened h room.keeps)
-      (ranks_opened request side room.posted kept opened none room.ranks)
+  one_more : length (events ++ event ∷ []) ≡ length events + 1
+  one_more = length-append events (event ∷ [])
 
-  pub room_ready : is_opening (room_after events) ≡ true
-      → KeepsRoom (room_after (events ++ event.Ready ∷ [])) (length (events ++ event.Ready ∷ []))
-      request true side kept end
-  room_ready h =
-      same_book event.Ready request true side end
-      (kept_ready events request ready (quotes_in room.posted) end h room.keeps) room.ranks
+  facts_then : (added : List RoomFact) → Adds added
+      → room_after (events ++ event ∷ []) ≡ room_after events ++ added
+  facts_then added adds =
+      room_after_push events event ∙ ap (λ more. room_after events ++ more) adds
 
-  pub room_post : (dealer w price : ℕ) (until : Option ℕ) → takes_quotes (room_after events) ≡ true
-      → KeepsRoom (room_after (events ++ event.Post dealer w price until ∷ []))
-      (length (events ++ event.Post dealer w price until ∷ [])) request ready side
-      (rank_in side (filter (λ one. not (one.quote.dealer == dealer)) kept)
-      (record { posting = length events; quote = quote_posted dealer w price until })) end
-  room_post dealer w price until h =
-      let quote : PostedQuote = quote_posted dealer w price until in
+  same_book : (added : List RoomFact) → Adds added → (request' : Option RoomRequest)
+      (ready' : Bool) (side' : Side) (end' : Option End)
+      → Keeps (room_after events ++ added) request' ready' (quotes_in room.posted) end'
+      → Ranks request' side' room.posted kept → Then request' ready' side' kept end'
+  same_book added adds request' ready' side' end' keeps ranks = record {
+    posted = room.posted;
+    keeps = rw (facts_then added adds) keeps;
+    ranks = ranks;
+    in_order = rw one_more (until_later 0 (length events) room.posted room.in_order);
+  }
+
+  pub room_unchanged : Adds [] → Then request ready side kept end
+  room_unchanged adds =
+      same_book [] adds request ready side end (rw (append-nil (room_after events)) room.keeps)
+      room.ranks
+
+  pub room_opened : (opened : RoomRequest) → is_vacant (room_after events) ≡ true
+      → Adds (Opened opened ∷ []) → Then (Some opened) ready opened.ask.side kept end
+  room_opened opened vacant adds =
+      let none : request_of (room_after events) ≡ None =
+      none_by (request_of (room_after events)) (and_parts _ _ vacant).0 in
+      same_book (Opened opened ∷ []) adds (Some opened) ready opened.ask.side end
+      (keeps_opened (room_after events) request ready (quotes_in room.posted) end opened none
+      room.keeps)
+      (ranks_opened request side room.posted kept opened (room.keeps.request_is ∙ none) room.ranks)
+
+  pub room_readied : Adds (Readied ∷ []) → Then request true side kept end
+  room_readied adds =
+      same_book (Readied ∷ []) adds request true side end
+      (keeps_readied (room_after events) request ready (quotes_in room.posted) end room.keeps)
+      room.ranks
+
+  pub room_posted : (quote : PostedQuote) → takes_quotes (room_after events) ≡ true
+      → Adds (Posted quote ∷ []) → Then request ready side
+      (rank_in side (filter (λ one. not (one.quote.dealer == quote.dealer)) kept)
+      (record { posting = length events; quote = quote })) end
+  room_posted quote takes adds =
       let asked : is_some request ≡ true =
-      ap is_some room.keeps.request_is
-      ∙ and_left (is_some (request_of (room_after events)))
-      (not (is_some (end_of (room_after events)))) h in
+      ap is_some room.keeps.request_is ∙ (and_parts _ _ takes).0 in
       record {
         posted = posted_with room.posted (length events) quote;
-        keeps = rw (quotes_posted room.posted (length events) quote)
-            (kept_post events request ready (quotes_in room.posted) end dealer w price until h
+        keeps = rw (
+          facts_then (Posted quote ∷ []) adds,
+          quotes_posted room.posted (length events) quote,
+        )
+            (keeps_posted (room_after events) request ready (quotes_in room.posted) end quote
             room.keeps);
         ranks = ranks_posted request side room.posted kept (length events) quote room.ranks asked;
         in_order =
-            rw (one_more (event.Post dealer w price until))
+            rw one_more
             (posted_then 0 (length events)
-            (filter (λ one. not (one.quote.dealer == dealer)) room.posted) quote (omega arith)
-            (posted_left 0 (length events) (λ one. not (one.quote.dealer == dealer)) room.posted
-            room.in_order));
+            (filter (λ one. not (one.quote.dealer == quote.dealer)) room.posted) quote (omega arith)
+            (posted_left 0 (length events) (λ one. not (one.quote.dealer == quote.dealer))
+            room.posted room.in_order));
       }
 
-  pub room_post_refused : (dealer w price : ℕ) (until : Option ℕ) → takes_quotes (room_after events)
-      ≡ false → KeepsRoom (room_after (events ++ event.Post dealer w price until ∷ []))
-      (length (events ++ event.Post dealer w price until ∷ [])) request ready side kept end
-  room_post_refused dealer w price until h =
-      same_book (event.Post dealer w price until) request ready side end
-      (kept_post_refused events request ready (quotes_in room.posted) end dealer w price until h
-      room.keeps) room.ranks
-
-  pub room_unpost : (dealer w : ℕ) →
-      (takes_quotes (room_after events) && stands (book_of (room_after events)) dealer w) ≡ true
-      → KeepsRoom (room_after (events ++ event.Unpost dealer w ∷ []))
-      (length (events ++ event.Unpost dealer w ∷ [])) request ready side
-      (filter (λ one. not (is_kept_of dealer w one)) kept) end
-  room_unpost dealer w h =
+  pub room_unposted : (dealer w : ℕ) → Adds (Unposted dealer w ∷ [])
+      → Then request ready side (filter (λ one. not (is_kept_of dealer w one)) kept) end
+  room_unposted dealer w adds =
       let stays : RankedQuote → Bool = λ one. not (is_kept_of dealer w one) in
       record {
         posted = filter stays room.posted;
-        keeps = rw (quotes-filter (λ quote. not (is_quote_of dealer w quote)) room.posted)
-            (kept_unpost events request ready (quotes_in room.posted) end dealer w h room.keeps);
+        keeps = rw (
+          facts_then (Unposted dealer w ∷ []) adds,
+          quotes-filter (λ quote. not (is_quote_of dealer w quote)) room.posted,
+        )
+            (keeps_unposted (room_after events) request ready (quotes_in room.posted) end dealer w
+            room.keeps);
         ranks = ranks_left request side room.posted kept stays room.ranks;
         in_order =
-            rw (one_more (event.Unpost dealer w))
+            rw one_more
             (until_later 0 (length events) (filter stays room.posted)
             (posted_left 0 (length events) stays room.posted room.in_order));
       }
 
-  pub room_unpost_refused : (dealer w : ℕ)
-      → (takes_quotes (room_after events) && stands (book_of (room_after events)) dealer w) ≡ false
-      → KeepsRoom (room_after (events ++ event.Unpost dealer w ∷ []))
-      (length (events ++ event.Unpost dealer w ∷ [])) request ready side kept end
-  room_unpost_refused dealer w h =
-      same_book (event.Unpost dealer w) request ready side end
-      (kept_unpost_refused events request ready (quotes_in room.posted) end dealer w h room.keeps)
+  -- a dealer that declines changes nothing of it, noted or not
+  pub room_noted : (so : Bool) (dealer : ℕ) → Adds (fact_if so (Noted dealer))
+      → Then request ready side kept end
+  room_noted true dealer adds =
+      same_book (Noted dealer ∷ []) adds request ready side end
+      (keeps_noted (room_after events) request ready (quotes_in room.posted) end dealer room.keeps)
       room.ranks
+  room_noted false dealer adds = room_unchanged adds
 
-  pub room_decline : (dealer : ℕ) → KeepsRoom (room_after (events ++ event.Decline dealer ∷ []))
-      (length (events ++ event.Decline dealer ∷ [])) request ready side kept end
-  room_decline dealer =
-      same_book (event.Decline dealer) request ready side end
-      (kept_decline events request ready (quotes_in room.posted) end dealer room.keeps) room.ranks
-
-  pub room_pass : (moment : ℕ) → is_open (room_after events) ≡ true
-      → KeepsRoom (room_after (events ++ event.Pass moment ∷ []))
-      (length (events ++ event.Pass moment ∷ [])) request ready side kept (Some passed)
-  room_pass moment h =
-      same_book (event.Pass moment) request ready side (Some passed)
-      (kept_pass events request ready (quotes_in room.posted) end moment h room.keeps) room.ranks
-
-  pub room_pass_refused : (moment : ℕ) → is_open (room_after events) ≡ false
-      → KeepsRoom (room_after (events ++ event.Pass moment ∷ []))
-      (length (events ++ event.Pass moment ∷ [])) request ready side kept end
-  room_pass_refused moment h =
-      same_book (event.Pass moment) request ready side end
-      (kept_pass_refused events request ready (quotes_in room.posted) end moment h room.keeps)
-      room.ranks
-
-  pub room_expire : (moment : ℕ) → may_expire (room_after events) moment ≡ true
-      → KeepsRoom (room_after (events ++ event.Expire moment ∷ []))
-      (length (events ++ event.Expire moment ∷ [])) request ready side kept (Some expired)
-  room_expire moment h =
-      same_book (event.Expire moment) request ready side (Some expired)
-      (kept_expire events request ready (quotes_in room.posted) end moment h room.keeps) room.ranks
-
-  pub room_expire_refused : (moment : ℕ) → may_expire (room_after events) moment ≡ false
-      → KeepsRoom (room_after (events ++ event.Expire moment ∷ []))
-      (length (events ++ event.Expire moment ∷ [])) request ready side kept end
-  room_expire_refused moment h =
-      same_book (event.Expire moment) request ready side end
-      (kept_expire_refused events request ready (quotes_in room.posted) end moment h room.keeps)
-      room.ranks
-
-  pub room_hit : (w moment : ℕ) (settlement : Option Settled) (award : End)
-      → hit_outcome (room_after events) w moment settlement ≡ Ok award
-      → KeepsRoom (room_after (events ++ event.Hit w moment settlement ∷ []))
-      (length (events ++ event.Hit w moment settlement ∷ [])) request ready side kept (Some award)
-  room_hit w moment settlement award h =
-      same_book (event.Hit w moment settlement) request ready side (Some award)
-      (kept_hit events request ready (quotes_in room.posted) end w moment settlement award h room.keeps)
-      room.ranks
-
-  pub room_hit_refused : (w moment : ℕ) (settlement : Option Settled) (refused : HitRefusal)
-      → hit_outcome (room_after events) w moment settlement ≡ Err refused
-      → KeepsRoom (room_after (events ++ event.Hit w moment settlement ∷ []))
-      (length (events ++ event.Hit w moment settlement ∷ [])) request ready side kept end
-  room_hit_refused w moment settlement refused h =
-      same_book (event.Hit w moment settlement) request ready side end
-      (kept_hit_refused events request ready (quotes_in room.posted) end w moment settlement refused h
-      room.keeps) room.ranks
+  pub room_ended : (how : End) (moment : ℕ) → Adds (Ended how moment ∷ [])
+      → Then request ready side kept (Some how)
+  room_ended how moment adds =
+      same_book (Ended how moment ∷ []) adds request ready side (Some how)
+      (keeps_ended (room_after events) request ready (quotes_in room.posted) end how moment
+      (no_end_before (room_after events) event (Ended how moment) adds) room.keeps) room.ranks

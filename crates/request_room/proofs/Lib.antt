@@ -10,5 +10,4 @@ pub mod RankLemmas
 pub mod EarliestLemmas
 pub mod KeptBookLemmas
 pub mod KeptRoomLemmas
-pub mod LiftLemmas
 pub mod UnpricedRooms

@@ -6,7 +6,7 @@ use Rattle.market_terms.proofs.ErasedLists.{any_map, erased, or_map, some_map}
 use Rattle.market_terms.specs.declared.closes.HitRefusal.{HitRefusal}
 use Rattle.market_terms.specs.declared.closes.HitRefusal.TheVariants as refusal
 use Rattle.quote_word.specs.declared.settled.Settled.{Settled}
-use Rattle.request_room.specs.RoomFacts.{RoomFact, Opened, Readied, Posted, Unposted, Noted, Ended}
+use Rattle.request_room.specs.RoomFacts.{RoomFact, Posted}
 use Rattle.request_room.specs.RoomFacts.{end_of, ended_as, hears, is_ended, is_readied, is_ready}
 use Rattle.request_room.specs.RoomFacts.{opened_for, request_of, takes_quotes}
 use Rattle.request_room.specs.Book.{award_of, book_of, end_by, event_facts, hit_outcome}
@@ -74,11 +74,7 @@ book_same [] = refl
 book_same (Posted quote ∷ later) =
     rw (replaced_same quote later, book_same later)
     (if_same (list_any (takes_out quote) later) quote (book_of later))
-book_same (Opened request ∷ later) = book_same later
-book_same (Readied ∷ later) = book_same later
-book_same (Unposted dealer word ∷ later) = book_same later
-book_same (Noted dealer ∷ later) = book_same later
-book_same (Ended end moment ∷ later) = book_same later
+book_same (fact ∷ later) = book_same later
 
 pub expired_same : (meant : Option PostedQuote) (moment : ℕ)
     → is_expired (option_map unpriced_quote meant) moment ≡ is_expired meant moment
@@ -134,8 +130,6 @@ module _ (facts : List RoomFact) where
       → map unpriced (event_facts bare (unpriced_event more))
       ≡ map unpriced (event_facts facts more)
   unfolding event_facts
-  kept_same (event.Open request) = simp asked
-  kept_same event.Ready = simp asked
   kept_same (event.Post dealer word price until) = simp asked (posted (takes_quotes facts))
     where
       posted : (b : Bool)
@@ -143,8 +137,6 @@ module _ (facts : List RoomFact) where
           ≡ map unpriced (fact_if b (Posted (quote_posted dealer word price until)))
       posted true = refl
       posted false = refl
-  kept_same (event.Unpost dealer word) = simp asked_of_book
-  kept_same (event.Decline dealer) = simp asked
   kept_same (event.Hit word moment settlement) =
       sym (ended (hit_outcome bare word moment settlement))
       ∙ ap (λ (o : Result End HitRefusal). map unpriced (end_by o moment))
@@ -154,5 +146,4 @@ module _ (facts : List RoomFact) where
           → map unpriced (end_by (uncovered o) moment) ≡ map unpriced (end_by o moment)
       ended (Ok award) = refl
       ended (Err refused) = refl
-  kept_same (event.Pass moment) = simp asked
-  kept_same (event.Expire moment) = simp asked
+  kept_same other = simp asked_of_book

@@ -231,12 +231,6 @@ module _ {config : Configuration} {facts : List Fact} {floor : Floor} {number : 
     pub investor_does : (what : ForInvestor) → desk ≡ investor_with place.desk what
         → Does config facts (done_for (market_for config number) (investor_gets facts what)) after []
     unfolding investor_with investor_gets
-    investor_does (to_investor.Relay request offer moment) same =
-        known_does request (event.QuoteCame request offer moment) _ refl same
-    investor_does (to_investor.Gone request word moment) same =
-        known_does request (event.QuoteGone request word moment) _ refl same
-    investor_does (to_investor.Declined request dealer moment) same =
-        known_does request (event.DealerDeclined request dealer moment) _ refl same
     investor_does (to_investor.Answer request response reply moment) same =
         by_market (investor_gets facts (to_investor.Answer request response reply moment)) []
         (answer_if (knows (book_by trail) request response.k)
@@ -244,5 +238,4 @@ module _ {config : Configuration} {facts : List Fact} {floor : Floor} {number : 
         (same ∙ ap (λ (b : InvestorBook).
         with_event_if (knows b request response.k && replies_to response.k reply) place.desk
         (event.Answered request response reply moment)) book_is))
-    investor_does (to_investor.Close request moment) same =
-        known_does request (event.Closed request moment) _ refl same
+    investor_does other same = known_does _ _ _ refl same

@@ -46,33 +46,29 @@ module _ {config : Configuration} {facts : List Fact} {floor : Floor} {at : Room
   after new = floor_with floor investor index old new
 
   -- A step that takes place there where it may, with an event that is tried where it fits.
-  step : (may : Bool) (fits : List RoomFact → Bool) (event : RoomEvent)
-      (duties : List RoomFact → List Duty) (new : List RoomEvent) (left : List Duty)
-      → new ≡ where_done (fits (room_after events)) events event → left ≡ duties (room_after events)
+  step : (may : Bool) (fits : List RoomFact → Bool) (event : RoomEvent) (duties : List Duty)
+      (new : List RoomEvent) (left : List Duty)
+      → new ≡ where_done (fits (room_after events)) events event → left ≡ duties
       → (if fits known then event_facts known event else [])
-      ≡ (if may then event_facts known event else [])
-      → (may ≡ false → duties known ≡ [])
-      → Does config facts (in_room config facts at may event (duties known)) (after new) left
+      ≡ (if may then event_facts known event else []) → (may ≡ false → duties ≡ [])
+      → Does config facts (in_room config facts at may event duties) (after new) left
   step may fits event duties new left grown leaves same none = by_test may same none
     where
       came : room_after new ≡ known ++ (if fits known then event_facts known event else [])
       came = pushed events new event (fits (room_after events)) grown
           ∙ ap (λ k. k ++ (if fits k then event_facts k event else [])) found.known
 
-      left_is : left ≡ duties known
-      left_is = leaves ∙ ap duties found.known
-
       by_test : (b : Bool) → (if fits known then event_facts known event else [])
-          ≡ (if b then event_facts known event else []) → (b ≡ false → duties known ≡ [])
-          → Does config facts (in_room config facts at b event (duties known)) (after new) left
+          ≡ (if b then event_facts known event else []) → (b ≡ false → duties ≡ [])
+          → Does config facts (in_room config facts at b event duties) (after new) left
       by_test true same none = rw found.has (record {
         stands = in_room_stands before found (event_facts known event) new
             (came ∙ ap (λ l. known ++ l) same);
-        leaves = left_is;
+        leaves = leaves;
       })
       by_test false same none = rw found.has (record {
         stands = in_room_stands before found [] new (came ∙ ap (λ l. known ++ l) same);
-        leaves = left_is ∙ none refl;
+        leaves = leaves ∙ none refl;
       })
 
   -- what comes there does what it should
@@ -81,31 +77,24 @@ module _ {config : Configuration} {facts : List Fact} {floor : Floor} {at : Room
       → Does config facts (room_gets config facts at what) (after new) left
   unfolding event_facts room_with duties_in_room room_gets
   room_does (to_room.Open ask dealers moment) new left grown leaves =
-      step true is_vacant (at_room.Open (record { ask = ask; dealers = dealers }))
-      (λ k. duties_of_open k at ask dealers moment) new left grown leaves
-      (once (is_vacant known) (Opened (record { ask = ask; dealers = dealers }))) never
+      step true is_vacant _ _ new left grown (rw (sym found.known) leaves)
+      (once (is_vacant known) _) never
   room_does (to_room.Ready moment) new left grown leaves =
-      step true is_opening at_room.Ready (λ k. []) new left grown leaves
-      (once (is_opening known) Readied) never
+      step true is_opening _ [] new left grown leaves (once (is_opening known) Readied) never
   room_does (to_room.Post dealer offer moment) new left grown leaves =
-      step (hears known dealer) (λ k. hears k dealer)
-      (at_room.Post dealer offer.word offer.price offer.valid_until)
-      (λ k. duties_of_post k at dealer offer moment) new left grown leaves refl
+      step (hears known dealer) (λ k. hears k dealer) _ _ new left grown
+      (rw (sym found.known) leaves) refl
       (λ no. ap (λ b. where_follows (b && takes_quotes known) (duty.Relay at offer moment)) no)
   room_does (to_room.Unpost dealer word moment) new left grown leaves =
-      step (hears known dealer) (λ k. hears k dealer) (at_room.Unpost dealer word)
-      (λ k. duties_of_unpost k at dealer word moment) new left grown leaves refl
+      step (hears known dealer) (λ k. hears k dealer) _ _ new left grown
+      (rw (sym found.known) leaves) refl
       (λ no. ap (λ b. where_follows (b && may_unpost known dealer word) (duty.Gone at word moment)) no)
   room_does (to_room.Decline dealer moment) new left grown leaves =
-      step (hears known dealer) (λ k. hears k dealer) (at_room.Decline dealer)
-      (λ k. duties_of_decline k at dealer moment) new left grown leaves refl
+      step (hears known dealer) (λ k. hears k dealer) _ _ new left grown
+      (rw (sym found.known) leaves) refl
       (λ no. ap (λ b. where_follows (b && takes_quotes known) (duty.Declined at moment)) no)
-  room_does (to_room.Pass response moment) new left grown leaves =
-      step true (λ k. true) (at_room.Pass moment) (λ k. duties_of_pass k at response moment) new left
-      grown leaves refl never
-  room_does (to_room.Expire moment) new left grown leaves =
-      step true (λ k. true) (at_room.Expire moment) (λ k. duties_of_expire k at moment) new left
-      grown leaves refl never
+  room_does other new left grown leaves =
+      step true (λ k. true) _ _ new left grown (rw (sym found.known) leaves) refl never
 
 -- Where the venue has no such room.
 

@@ -1,11 +1,11 @@
-use Rattle.std.proofs.Common.{◌==◌, not, filter}
+use Rattle.std.proofs.Common.{◌==◌, ◌∙◌, not, filter}
 use Rattle.request_room.proofs.RankLemmas.{insert_at_rank}
 use Rattle.request_room.proofs.book.RoomBook.post.Goals as goal
 
 pub returns-clause-quotes : goal.returns-clause-quotes
 returns-clause-quotes c =
-    rw (
-      c.in_ok-insert.ensures.items,
+    c.in_ok-insert.ensures.items
+    ∙ rw (
       c.rank_of-place.ensures.place,
       c.deref.ensures.value,
       c.leave_others.ensures.items,

@@ -1,10 +1,12 @@
 use Rattle.std.proofs.Common.{◌≡◌, ◌∙◌, true, false, length, sym, ap, rules}
+use Rattle.request_room.specs.declared.events.RoomEvent.TheVariants as event
 use Rattle.request_room.specs.RoomFacts.{takes_quotes}
-use Rattle.request_room.specs.Book.{room_after}
-use Rattle.request_room.proofs.KeptRoomLemmas.{room_post, room_post_refused}
+use Rattle.request_room.specs.Book.{event_facts, quote_posted, room_after}
+use Rattle.request_room.proofs.KeptRoomLemmas.{adds_none, adds_one, room_posted, room_unchanged}
 use Rattle.request_room.proofs.rooms.Room.post.Goals as goal
 
 pub invariant_of-self-then-not-takes : goal.invariant_of-self-then-not-takes
+unfolding event_facts
 invariant_of-self-then-not-takes c =
     let room = c.self.inside in
     let ended : takes_quotes (room_after room.events.items) ≡ false =
@@ -16,10 +18,11 @@ invariant_of-self-then-not-takes c =
       c.in_ok-reserve-2.ensures.quotes,
       c.posting.ensures,
     )
-    (room_post_refused room.events.items c.self.invariant c.args.dealer c.args.w c.args.price
-    c.args.until ended)
+    (room_unchanged room.events.items c.self.invariant
+    (event.Post c.args.dealer c.args.w c.args.price c.args.until) (adds_none _ _ ended))
 
 pub invariant_of-self-2 : goal.invariant_of-self-2
+unfolding event_facts
 invariant_of-self-2 c =
     let room = c.self.inside in
     let takes : takes_quotes (room_after room.events.items) ≡ true =
@@ -35,5 +38,6 @@ invariant_of-self-2 c =
       c.posting.ensures,
       place,
     )
-    (room_post room.events.items c.self.invariant c.args.dealer c.args.w c.args.price c.args.until
-    takes)
+    (room_posted room.events.items c.self.invariant
+    (event.Post c.args.dealer c.args.w c.args.price c.args.until)
+    (quote_posted c.args.dealer c.args.w c.args.price c.args.until) takes (adds_one _ _ takes))
