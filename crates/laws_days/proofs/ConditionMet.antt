@@ -8,7 +8,7 @@ use Rattle.laws_days.proofs.Common.{Ask, Close, HitRefusal, Duty, RoomRef, none_
 use Rattle.laws_days.proofs.Common.{Configuration, dealer_numbered, investor_numbered, DealerRow}
 use Rattle.laws_days.proofs.Common.{number_to_drop, closable, knows, hit_checks, hit_refusal}
 use Rattle.laws_days.proofs.Common.{quote_meant, RoomFact, is_ended, is_named, is_opening}
-use Rattle.laws_days.proofs.Common.{is_ready, is_vacant, request_of, End, replies_to, hit_word}
+use Rattle.laws_days.proofs.Common.{is_ready, is_vacant, request_of, End, hit_word}
 use Rattle.laws_days.proofs.Common.{Actor, Dealer, acting_dealer, dealer_at, dealer_of, word_for}
 use Rattle.laws_days.proofs.Common.{AuditTrail, DealerEntry, book_by, facts_of, rooms_by}
 use Rattle.laws_days.proofs.Common.{of_dealer, of_room}
@@ -16,7 +16,6 @@ use Rattle.std.proofs.Common.{nat_lt}
 use Rattle.std.proofs.lemmas.Bool.{false_from_ne_true, not_from_false, true_from_ne_false}
 use Rattle.std.proofs.lemmas.List.Sums.{sum_by_more_le}
 use Rattle.std.proofs.lemmas.Option.{get_or_from_slice_get}
-use Rattle.market_terms.specs.declared.duties.Duty.TheVariants as duty
 use Rattle.market_terms.specs.declared.duties.Duty.TheVariants as duty
 use Rattle.request_room.specs.Book.{book_of, word_or}
 use Rattle.venue_steps.specs.RoomSteps.{word_asked_by}
@@ -199,42 +198,21 @@ module _ {config : Configuration} {venue : AuditTrail} (stood : VenueOk config v
             posted.1.row_is posted.1.within)
       ]
 
+  ruleset each_met = (open_met, show_met, ready_met, tell_met, acts, heard, heard_on, is_acting, is_known_in, known_opened, known_named, known_room, hit_asks, and_from)
+
   -- every duty, as its turn comes
   pub met : WordsOfDay → (left : Duty) → DutyOk config by left venue
       → OrderOk venue (marks (did_in venue by)) (mark_of left)
       → is_met config venue.facts by left ≡ true
   unfolding is_met
-  met words (duty.Open room ask dealers moment) fits order = open_met room ask dealers fits order.0
-  met words (duty.Show dealer room ask moment) fits order = show_met dealer room ask fits order.0
-  met words (duty.Ready room moment) fits order = ready_met room fits order.0
-  met words (duty.Post room quote price valid_until moment) fits order =
-      heard_on room fits.0.named quote fits.0.within
-  met words (duty.Relay room offer moment) fits order =
-      is_known_in room None (known_opened stood room fits)
-  met words (duty.Unpost room quote moment) fits order = heard_on room fits.named quote fits.within
-  met words (duty.Gone room word moment) fits order =
-      is_known_in room None (known_opened stood room fits)
   met words (duty.Decline room moment) fits order =
       acts fits.who (is_heard config venue.facts room) (heard room fits)
-  met words (duty.Declined room moment) fits order =
-      and_from (is_some (acting_dealer config by)) _ (is_acting fits.who)
-      (is_known_in room None (known_named stood room fits.who.dealer fits.named))
-  met words (duty.Hit room response word moment) fits order =
-      and_from (is_room config room) _ (known_room stood room response.k fits.known)
-      (hit_asks room word moment)
-  met words (duty.Pass room response moment) fits order =
-      known_room stood room response.k fits.known
-  met words (duty.Answer room response reply moment) fits order =
-      and_from (replies_to response.k reply) _ fits.0 (is_known_in room response.k fits.1)
-  met words (duty.Close room moment) fits order =
-      is_known_in room None (known_opened stood room fits)
-  met words (duty.Tell dealer room close moment) fits order =
-      tell_met dealer room close fits order.0
   met words (duty.Drop last moment) fits order =
       acts fits (may_drop config venue.facts last)
       (has_asked config fits.dealer fits.row fits.row_is
       (number_to_drop (book_by (of_dealer fits.dealer venue.facts)) last)
       (drops_of_day words (stood.desks fits.dealer fits.row fits.row_is) last))
+  met words other fits order = search each_met
 
 -- the word that a message asks
 pub message_met : {config : Configuration} {venue : AuditTrail} (stood : VenueOk config venue)

@@ -17,12 +17,14 @@ use Rattle.market_terms.specs.declared.closes.Close.TheVariants as closes
 use Rattle.market_terms.specs.declared.duties.Duty.TheVariants as duty
 use Rattle.quote_word.specs.declared.settled.Settled.TheVariants as settled
 use Rattle.dealer_desk.specs.DealerFacts.{book_of}
-use Rattle.dealer_desk.specs.Unpriced.{unpriced}
+use Rattle.dealer_desk.specs.Unpriced.{unpriced, unpriced_event}
 use Rattle.dealer_desk.specs.declared.events.DealerEvent.TheVariants as at_desk
 use Rattle.dealer_desk.specs.declared.standing.Withdrawal.TheVariants as by
 use Rattle.dealer_desk.proofs.UnpricedVerdicts.{some_to_drop, unposted_same, asked_alike}
 use Rattle.dealer_desk.proofs.UnpricedVerdicts.{came_alike, duty_alike}
-use Rattle.request_room.specs.Unpriced.{unpriced as unpriced_in_room}
+use Rattle.request_room.specs.Book.{event_facts as room_facts}
+use Rattle.request_room.specs.Unpriced.{unpriced as unpriced_in_room, unpriced_event as unpriced_there}
+use Rattle.request_room.specs.declared.events.RoomEvent.{RoomEvent}
 use Rattle.request_room.specs.declared.events.RoomEvent.TheVariants as at_room
 use Rattle.request_room.proofs.UnpricedRooms.{asked_of_book, kept_same}
 use Rattle.step_replay.specs.Actions.{hit_in, verdict_on}
@@ -31,7 +33,12 @@ use Rattle.laws_days.proofs.Erasing.{facts_known, known_at_desks, known_at_marke
 use Rattle.laws_days.proofs.Erasing.{market_kept, room_left, rooms_known, verdict_known}
 use Rattle.laws_days.proofs.Erasing.{withdrawn_known}
 use Rattle.laws_days.proofs.ListLemmas.{cases_some}
+use Rattle.investor_desk.specs.InvestorOutput.{event_facts as market_facts}
+use Rattle.investor_desk.specs.Unpriced as investors
+use Rattle.investor_desk.specs.declared.events.InvestorEvent.{InvestorEvent}
 use Rattle.investor_desk.specs.declared.events.InvestorEvent.TheVariants as at_investor
+use Rattle.step_replay.specs.InvestorTrail.{book_by as market_book}
+use Rattle.step_replay.specs.VenueFacts.{of_investor}
 
 -- Effects.
 
@@ -100,6 +107,22 @@ settled_bare : (stay : Bool) (asked : Option ℕ) (settlement : Option Settled)
 settled_bare stay None settlement = refl
 settled_bare stay (Some quote) (Some settled.Lifted) = refl
 settled_bare stay (Some quote) settlement = refl
+
+-- An event without a price is the same in a day without prices.
+
+room_plain : (before : List RoomFact) (more : RoomEvent) → unpriced_there more ≡ more
+    → map unpriced_in_room (room_facts (map unpriced_in_room before) more)
+    ≡ map unpriced_in_room (room_facts before more)
+room_plain before more plain = rw plain at (kept_same before more)
+
+market_plain : (more : InvestorEvent) (own : ℕ) (facts : List Fact) (number : ℕ) (market : InvestorMarket)
+    → investors.unpriced_event more ≡ more
+    → map investors.unpriced (market_facts market
+    (market_book (of_investor number (bare own facts))) more)
+    ≡ map investors.unpriced (market_facts market (market_book (of_investor number facts)) more)
+market_plain more own facts number market plain = rw plain at (market_kept more own facts number market)
+
+ruleset plain = (in_rooms, at_desks, room_plain, market_plain)
 
 module _ (config : Configuration) (own : ℕ) (facts : List Fact) where
   -- the facts without prices
@@ -183,43 +206,27 @@ module _ (config : Configuration) (own : ℕ) (facts : List Fact) where
       → left own (duty_effect config known by (unpriced_duty more))
       ≡ left own (duty_effect config facts by more)
   unfolding duty_effect
-  duty_left by (duty.Open room ask named moment) =
-      simp (in_rooms, kept_same (here room) (at_room.Open (record { ask = ask; dealers = named })))
   duty_left by (duty.Show dealer room ask moment) =
       simp (at_desks, desk_kept (at_desk.Shown room ask moment))
-  duty_left by (duty.Ready room moment) = simp (in_rooms, kept_same (here room) at_room.Ready)
   duty_left by (duty.Post room quote price until moment) =
       simp (in_rooms, λ (n word : ℕ). kept_same (here room) (at_room.Post n word price until))
   duty_left by (duty.Relay room offer moment) =
       simp (at_desks, market_kept (at_investor.QuoteCame room.n offer moment))
-  duty_left by (duty.Unpost room quote moment) =
-      simp (in_rooms, λ (n word : ℕ). kept_same (here room) (at_room.Unpost n word))
-  duty_left by (duty.Gone room word moment) =
-      simp (at_desks, market_kept (at_investor.QuoteGone room.n word moment))
-  duty_left by (duty.Decline room moment) =
-      simp (in_rooms, λ (n : ℕ). kept_same (here room) (at_room.Decline n))
-  duty_left by (duty.Declined room moment) =
-      simp (at_desks, λ (who : List ℕ). market_kept (at_investor.DealerDeclined room.n who moment))
   duty_left by (duty.Hit room response word moment) =
       hit_left room response word moment
-  duty_left by (duty.Pass room response moment) =
-      simp (in_rooms, kept_same (here room) (at_room.Pass moment))
-  duty_left by (duty.Answer room response reply moment) =
-      simp (at_desks, market_kept (at_investor.Answered room.n response reply moment))
-  duty_left by (duty.Close room moment) =
-      simp (at_desks, market_kept (at_investor.Closed room.n moment))
   duty_left by (duty.Tell dealer room close moment) =
       simp left_done (λ i. done_by (dealer_at config dealer)
       (λ desk. told_left room desk close moment i))
   duty_left by (duty.Drop last moment) =
       simp left_done (λ i. done_by (acting_dealer config by)
       (λ desk. dropped_left desk last moment i))
+  duty_left by other = simp plain
 
   pub sweep_left : (room : RoomRef) (moment : ℕ)
       → left own (sweep_effect config known room moment)
       ≡ left own (sweep_effect config facts room moment)
   unfolding sweep_effect
-  sweep_left room moment = simp (in_rooms, kept_same (here room) (at_room.Expire moment))
+  sweep_left room moment = simp plain
 
   -- A message of a dealer: another message may stand in its place, where the verdicts on both are
   -- one but for the price.

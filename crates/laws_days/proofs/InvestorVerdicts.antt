@@ -204,7 +204,6 @@ module _ (config : Configuration) (firm : ℕ) (row : InvestorRow) (may : ℕ �
                 | Some shown ↦ (tt, tt)
               ]
         ]
-    event_comes (event.DealerDeclined request dealer moment) = tt
     event_comes (event.Answered request response reply moment) =
         elim (request_numbered book request)
         as (λ own. Comes (answer_facts book request response reply own)) [
@@ -217,6 +216,7 @@ module _ (config : Configuration) (firm : ℕ) (row : InvestorRow) (may : ℕ �
           | None ↦ tt
           | Some own ↦ (tt, tt)
         ]
+    event_comes other = tt
 
     pub event_fits : (more : InvestorEvent) → DeskFit may (facts ++ event_facts market book more)
     event_fits more = facts_fit may facts _ fit (event_comes more)

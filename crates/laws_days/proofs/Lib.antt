@@ -12,6 +12,7 @@ mod LaterLemmas
 pub mod ListLemmas
 mod LiveLemmas
 pub mod LiveQuotes
+pub mod NewsWalk
 pub mod NoticeLemmas
 pub mod PlainFacts
 mod PricedFields

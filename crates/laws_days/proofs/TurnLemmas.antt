@@ -86,10 +86,6 @@ dealer_does : (written : OutMessage → List ℕ) (rooms : List RoomRef) (moment
     (option_to_list (dealer_output.verdict_duty rooms moment v settlement))
 dealer_does written rooms moment verdict.Dropped settlement = unused refl
 dealer_does written rooms moment (verdict.OutOfSequence reject) settlement = unused refl
-dealer_does written rooms moment (verdict.Rejected reject) settlement = answered _ refl refl
-dealer_does written rooms moment (verdict.QuoteRefused request id refusal) settlement = answered _ refl refl
-dealer_does written rooms moment (verdict.CancelRefused id refusal) settlement = answered _ refl refl
-dealer_does written rooms moment (verdict.DeclineRefused request refusal) settlement = answered _ refl refl
 dealer_does written rooms moment (verdict.QuoteAccepted request id quote replaced) settlement =
     answered _ refl (none_in (dealer_output.goes_through replaced settlement)
     (dealer_output.room_of rooms quote.request) (dealer_output.post_of quote) (λ room. refl))
@@ -101,6 +97,7 @@ dealer_does written rooms moment (verdict.DropsFollow last) settlement =
 dealer_does written rooms moment (verdict.DeclineAccepted request number) settlement =
     answered _ refl (none_in true (dealer_output.room_of rooms number)
     (λ room. duty.Decline room moment) (λ room. refl))
+dealer_does written rooms moment other settlement = answered _ refl refl
 
 dealer_unused : (moment : ℕ) (bytes : List ℕ) (v : DealerVerdict) (settlement : Option Settled)
     → dealer_output.uses_number v ≡ false
@@ -117,13 +114,9 @@ investor_does : (market : InvestorMarket) (number moment : ℕ) (v : InvestorVer
     (option_to_list (investor_output.verdict_duty market moment v))
 investor_does market number moment investor_said.Dropped = unused refl
 investor_does market number moment (investor_said.OutOfSequence reject) = unused refl
-investor_does market number moment (investor_said.Rejected reject) = answered _ refl refl
-investor_does market number moment (investor_said.RequestRefused request bond refusal) = answered _ refl refl
-investor_does market number moment (investor_said.HitUnknown id quote) = answered _ refl refl
-investor_does market number moment (investor_said.PassUnknown id request) = answered _ refl refl
-investor_does market number moment (investor_said.RequestAccepted id request) = answered _ refl refl
 investor_does market number moment (investor_said.Hits request response word) = awaited _ refl refl refl
 investor_does market number moment (investor_said.Passes request response) = awaited _ refl refl refl
+investor_does market number moment other = answered _ refl refl
 
 investor_unused : (moment : ℕ) (bytes : List ℕ) (v : InvestorVerdict) → investor_output.uses_number v ≡ false
     → count_by at_investor.used_number (investor_output.own_facts moment bytes v) ≡ 0

@@ -1,6 +1,6 @@
 -- An action whose test fails does nothing.
 use Rattle.std.proofs.Common.{◌≡◌, ℕ, Bool, true, false, ◌&&◌, not, List, [], Option, Some, None}
-use Rattle.std.proofs.Common.{is_some, refl, ◌∙◌}
+use Rattle.std.proofs.Common.{if◌then◌else◌, is_some, refl, ◌∙◌}
 use Rattle.market_terms.specs.declared.asks.Ask.{Ask}
 use Rattle.market_terms.specs.declared.closes.Close.{Close}
 use Rattle.market_terms.specs.declared.closes.Reply.{Reply}
@@ -19,25 +19,24 @@ use Rattle.request_room.specs.declared.events.RoomEvent.{RoomEvent}
 use Rattle.request_room.specs.declared.events.RoomEvent.TheVariants as at_room
 use Rattle.venue_steps.specs.InvestorSteps.{replies_to}
 use Rattle.venue_steps.specs.declared.actors.Actor.{Actor}
-use Rattle.step_replay.specs.Actions.{Dealer, Effect, acting_dealer}
-use Rattle.step_replay.specs.Actions.{dealer_at, done_by, done_for, dropped_by}
+use Rattle.step_replay.specs.Actions.{Dealer, Effect}
+use Rattle.step_replay.specs.Actions.{done_by, done_for}
 use Rattle.step_replay.specs.Actions.{has_word_for, in_room, nothing}
-use Rattle.step_replay.specs.Actions.{received_by_dealer, shown_to, told_of, told_to}
+use Rattle.step_replay.specs.Actions.{received_by_dealer, told_of}
 use Rattle.step_replay.specs.Actions.{where_known}
-use Rattle.step_replay.specs.LineActions.{answered_by, at_investor_of, declined_by, opened, posted_by, unposted_by}
+use Rattle.step_replay.specs.LineActions.{answered_by, at_investor_of, opened}
 use Rattle.step_replay.specs.DutyEffects.{duty_effect}
 use Rattle.step_replay.specs.VenueFacts.{Fact, of_dealer, of_room}
-use Rattle.laws_days.specs.Conditions.{has_word_asked, holds_for, is_closable, is_heard}
+use Rattle.laws_days.specs.Conditions.{has_word_asked, holds_for, is_closable}
 use Rattle.laws_days.specs.Conditions.{is_heard_on, is_known, is_known_to, is_met, is_room}
-use Rattle.laws_days.specs.Conditions.{is_unshown, is_untold, may_drop}
 
 -- What is done where there is something of which a test holds.
 
 by_unmet : (found : Option Dealer) (test : Dealer → Bool) (act : Dealer → Effect)
-    → ((dealer : Dealer) → test dealer ≡ false → act dealer ≡ nothing)
-    → holds_for found test ≡ false → done_by found act ≡ nothing
-by_unmet None test act each isnt = refl
-by_unmet (Some dealer) test act each isnt = each dealer isnt
+    → holds_for found test ≡ false
+    → ((dealer : Dealer) → test dealer ≡ false → act dealer ≡ nothing) → done_by found act ≡ nothing
+by_unmet None test act isnt each = refl
+by_unmet (Some dealer) test act isnt each = each dealer isnt
 
 for_unmet : (found : Option InvestorMarket) (test : InvestorMarket → Bool)
     (act : InvestorMarket → Effect)
@@ -54,6 +53,13 @@ for_none (Some market) act each = each market
 from_not : (b : Bool) → not b ≡ false → b ≡ true
 from_not true isnt = refl
 from_not false isnt = cc
+
+if_unmet : (b : Bool) (effect : Effect) → b ≡ false → (if b then effect else nothing) ≡ nothing
+if_unmet b effect isnt = rw isnt refl
+
+unless_unmet : (b : Bool) (effect : Effect) → not b ≡ false
+    → (if b then nothing else effect) ≡ nothing
+unless_unmet b effect isnt = rw (from_not b isnt) refl
 
 swapped : (a b c : Bool) → (a && (b && c)) ≡ (b && (a && c))
 swapped true true c = refl
@@ -149,40 +155,13 @@ module _ (config : Configuration) (facts : List Fact) where
 
   -- All duties.
 
+  ruleset each_unmet = (by_unmet, for_unmet, if_unmet, unless_unmet, open_unmet, ready_unmet, heard_unmet, pass_unmet, declined_unmet, answer_unmet, told_unmet)
+
   pub unmet : (actor : Actor) (left : Duty) → is_met config facts actor left ≡ false
       → duty_effect config facts actor left ≡ nothing
   unfolding is_met duty_effect
-  unmet actor (duty.Open room ask dealers moment) isnt = open_unmet room ask dealers moment isnt
-  unmet actor (duty.Show dealer room ask moment) isnt =
-      by_unmet (dealer_at config dealer) (is_unshown facts room)
-      (shown_to config facts room ask moment) (λ one fails. rw (from_not _ fails) refl) isnt
-  unmet actor (duty.Ready room moment) isnt = ready_unmet room isnt
-  unmet actor (duty.Post room quote price valid_until moment) isnt =
-      by_unmet (acting_dealer config actor) (is_heard_on config facts room quote)
-      (posted_by config facts room quote price valid_until moment)
-      (λ one fails. heard_unmet room quote one _ _ fails) isnt
-  unmet actor (duty.Relay room offer moment) isnt = known_unmet room None _ isnt
-  unmet actor (duty.Unpost room quote moment) isnt =
-      by_unmet (acting_dealer config actor) (is_heard_on config facts room quote)
-      (unposted_by config facts room quote moment)
-      (λ one fails. heard_unmet room quote one _ _ fails) isnt
-  unmet actor (duty.Gone room word moment) isnt = known_unmet room None _ isnt
-  unmet actor (duty.Decline room moment) isnt =
-      by_unmet (acting_dealer config actor) (is_heard config facts room)
-      (declined_by config facts room moment) (λ one fails. room_unmet room _ _ _ fails) isnt
-  unmet actor (duty.Declined room moment) isnt =
-      declined_unmet (acting_dealer config actor) room moment isnt
   unmet actor (duty.Hit room response word moment) isnt = rw isnt refl
-  unmet actor (duty.Pass room response moment) isnt = pass_unmet room _ _ isnt
-  unmet actor (duty.Answer room response reply moment) isnt =
-      answer_unmet room response reply moment isnt
-  unmet actor (duty.Close room moment) isnt = known_unmet room None _ isnt
-  unmet actor (duty.Tell dealer room close moment) isnt =
-      by_unmet (dealer_at config dealer) (is_untold facts room)
-      (told_to config facts room close moment) (λ one fails. told_unmet one close moment _ fails) isnt
-  unmet actor (duty.Drop last moment) isnt =
-      by_unmet (acting_dealer config actor) (may_drop config facts last)
-      (dropped_by config facts last moment) (λ one fails. rw fails refl) isnt
+  unmet actor other isnt = search each_unmet
 
   -- a message of a dealer that asks a word which the venue does not have
   pub unasked : (dealer : Dealer) (moment : ℕ) (bytes : List ℕ)

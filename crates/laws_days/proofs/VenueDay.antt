@@ -1,10 +1,10 @@
 -- What every duty, message and sweep brings, line by line of the market's table. So what stands in
 -- a venue stands after every list of steps.
-use Rattle.laws_days.proofs.Common.{List, None, Option, ℕ, [], arith, fold, inl, inr, option_map}
-use Rattle.laws_days.proofs.Common.{refl, ◌∷◌, ◌≡◌, ◌≤◌, not-true, Duty, RoomRef, Configuration}
-use Rattle.laws_days.proofs.Common.{dealer_numbered, has_room, market_for, InvestorEvent, Posted}
-use Rattle.laws_days.proofs.Common.{replies_to, hit_word, Actor, Effect, dealer_of, done_for}
-use Rattle.laws_days.proofs.Common.{where_known, word_for, AuditTrail, after_step, after_turn}
+use Rattle.laws_days.proofs.Common.{List, ℕ, [], arith, fold, inl, inr, option_map}
+use Rattle.laws_days.proofs.Common.{refl, ◌∷◌, ◌≡◌, ◌≤◌, not-true, Duty, Configuration}
+use Rattle.laws_days.proofs.Common.{dealer_numbered, has_room, Posted}
+use Rattle.laws_days.proofs.Common.{hit_word, Actor, Effect, dealer_of}
+use Rattle.laws_days.proofs.Common.{word_for, AuditTrail, after_step, after_turn}
 use Rattle.laws_days.proofs.Common.{audit_trail, no_steps, pending, duty_effect, message_effect}
 use Rattle.laws_days.proofs.Common.{sweep_effect, in_right, start_seen, of_dealer, of_investor}
 use Rattle.laws_days.proofs.Common.{Step}
@@ -15,6 +15,7 @@ use Rattle.venue_steps.specs.declared.actors.Actor.TheVariants as actor
 use Rattle.step_replay.specs.Actions.{answer_to_hit, quote_asked}
 use Rattle.step_replay.specs.StepLemmas.{duty_keeps, message_keeps, sweep_keeps}
 use Rattle.step_replay.specs.declared.steps.Step.TheVariants as step
+use Rattle.laws_days.specs.DutyWalk.{AnyInvestor, Walks, any_investor, duty_walks}
 use Rattle.laws_days.proofs.ConditionMet.{show_met, tell_met}
 use Rattle.laws_days.proofs.KnownDesks.{start_fit}
 use Rattle.laws_days.proofs.ListLemmas.{cases_some}
@@ -24,9 +25,10 @@ use Rattle.laws_days.proofs.VenueDesk.{WordsOfDay, dropped_brings, said_brings}
 use Rattle.laws_days.proofs.VenueEnds.{expired_brings, passed_brings}
 use Rattle.laws_days.proofs.VenueHits.{hit_brings}
 use Rattle.laws_days.proofs.VenueInvariant.{DutyOk, VenueOk}
-use Rattle.laws_days.proofs.VenueKinds.{DoneNow, acting_brings, known, when_brings}
+use Rattle.laws_days.proofs.VenueKinds.{DoneNow, acting_brings, known, nothing_brings}
+use Rattle.laws_days.proofs.VenueKinds.{when_brings}
 use Rattle.laws_days.proofs.VenueKnown.{named_dealer, opened_by, pending_ok, shown_ended}
-use Rattle.laws_days.proofs.VenueMarkets.{asked_brings, investor_brings, known_brings}
+use Rattle.laws_days.proofs.VenueMarkets.{asked_brings, investor_brings, market_brings}
 use Rattle.laws_days.proofs.VenueParts.{OrderOk, did_in, later_same, mark_of, marks, named_later}
 use Rattle.laws_days.proofs.VenueParts.{quoted_later}
 use Rattle.laws_days.proofs.VenueRooms.{may_bring, opened_brings, readied_brings, shown_brings}
@@ -35,13 +37,16 @@ use Rattle.laws_days.proofs.VenueSteps.{Brings, DoneThen, Here, ok_then, to_now}
 use Rattle.laws_days.proofs.VenueTurns.{Doing, beside, own_did, turn}
 
 module _ (lone : LoneQuotes) (words : WordsOfDay) (h : Here) where
-  -- what comes to the investor of a room
-  to_investor : (room : RoomRef) (quote : Option ℕ) (event : InvestorEvent)
-      → Brings h (done_for (market_for h.config room.investor)
-      (where_known h.venue.facts room.n quote event))
-  to_investor room quote event =
-      investor_brings h room.investor _ (λ row is.
-      known_brings h room.investor row is room.n quote event)
+  -- what comes to an investor's desk
+  at_investors : Walks (λ number row event left. ⊥) AnyInvestor (λ room event left. ⊥) h.config
+      h.venue.facts (Brings h)
+  at_investors = record {
+    idle = nothing_brings h;
+    at_a_dealer = λ number row found event left none. absurd none;
+    at_an_investor = λ number row found event any. market_brings h number row found event [] tt;
+    in_a_room = λ room there event no_hit left none. absurd none;
+    by_a_hit = λ room there response word moment none. absurd none;
+  }
 
   -- a turn: what it brings, and what stands as its duty is done
   abbrev Does : Duty → Effect → Type 0
@@ -78,7 +83,6 @@ module _ (lone : LoneQuotes) (words : WordsOfDay) (h : Here) where
             (named_later (to_now h effect later) room who.dealer ok.0.named.named))),
         tt,
       )
-  turn_does (duty.Relay room offer moment) ok order did = (to_investor room None _, tt)
   turn_does (duty.Unpost room quote moment) ok order did =
       let who = ok.named.who in
       let word = word_for h.config (dealer_of who.dealer who.row) quote in (
@@ -88,7 +92,6 @@ module _ (lone : LoneQuotes) (words : WordsOfDay) (h : Here) where
             (named_later (to_now h effect later) room who.dealer ok.named.named))),
         tt,
       )
-  turn_does (duty.Gone room word moment) ok order did = (to_investor room None _, tt)
   turn_does (duty.Decline room moment) ok order did = (
     acting_brings h ok.who _ (may_bring h room _ (takes_quotes (known h room)) _
         (Noted ok.who.dealer) _ refl (λ effect now later. tt)
@@ -98,8 +101,6 @@ module _ (lone : LoneQuotes) (words : WordsOfDay) (h : Here) where
         })),
     tt,
   )
-  turn_does (duty.Declined room moment) ok order did =
-      (acting_brings h ok.who _ (to_investor room None _), tt)
   turn_does (duty.Hit room response word moment) ok order did = (
     when_brings h _ _ (λ test. hit_brings h room response word moment
         (option_map (answer_to_hit h.venue.facts)
@@ -108,13 +109,6 @@ module _ (lone : LoneQuotes) (words : WordsOfDay) (h : Here) where
   )
   turn_does (duty.Pass room response moment) ok order did =
       (passed_brings h room response moment ok, tt)
-  turn_does (duty.Answer room response reply moment) ok order did = (
-    investor_brings h room.investor _ (λ row is.
-        when_brings h (replies_to response.k reply) _ (λ test.
-        known_brings h room.investor row is room.n response.k _)),
-    tt,
-  )
-  turn_does (duty.Close room moment) ok order did = (to_investor room None _, tt)
   turn_does (duty.Tell dealer room close moment) ok order did =
       let found = named_dealer h.stood room dealer ok.named in
       let number = shown_ended h.stood room ok.end dealer ok.end_is ok.named in
@@ -126,6 +120,11 @@ module _ (lone : LoneQuotes) (words : WordsOfDay) (h : Here) where
   turn_does (duty.Drop last moment) ok order did = (
     acting_brings h ok _
         (dropped_brings words h ok.dealer ok.row ok.row_is ok.by_is last moment),
+    tt,
+  )
+  turn_does other ok order did = (
+    duty_walks _ AnyInvestor _ h.config h.venue.facts (Brings h) at_investors h.by other tt
+        (any_investor AnyInvestor h.config h.by other (λ number row event at. tt)) tt,
     tt,
   )
 

@@ -1,12 +1,12 @@
 -- What comes to an investor's desk, and what its message leaves, brings what stands in a venue.
-use Rattle.laws_days.proofs.Common.{Bool, List, None, Option, Some, ℕ, [], ap, arith, eq-eqb}
+use Rattle.laws_days.proofs.Common.{Bool, List, None, Option, Some, ℕ, ap, arith, eq-eqb}
 use Rattle.laws_days.proofs.Common.{false, inl, inr, length, map, option_to_list, refl, subst, sym}
 use Rattle.laws_days.proofs.Common.{true, ◌++◌, ◌+◌, ◌==◌, ◌∙◌, ◌≡◌, ◌≤◌, cases_Bool, eqb-true}
 use Rattle.laws_days.proofs.Common.{or_left, Duty, ResponseRef, RoomRef, has_room}
 use Rattle.laws_days.proofs.Common.{investor_numbered, InvestorRow, market_for, market_of}
 use Rattle.laws_days.proofs.Common.{InvestorFact, book_of, requests_of, own_facts, InvestorMarket}
 use Rattle.laws_days.proofs.Common.{investor_verdict, InvestorEvent, AcceptedRequest}
-use Rattle.laws_days.proofs.Common.{InvestorVerdict, Effect, done_for, where_known, any_right}
+use Rattle.laws_days.proofs.Common.{InvestorVerdict, Effect, done_for, any_right}
 use Rattle.laws_days.proofs.Common.{InvestorEntry, investor_grown, AtInvestor, of_investor}
 use Rattle.venue_rows.specs.Rows.{may_request}
 use Rattle.investor_desk.specs.InvestorOutput.{DeskState, event_facts, verdict_duty}
@@ -24,7 +24,6 @@ use Rattle.laws_days.proofs.ListLemmas.{cases_some, every_map}
 use Rattle.laws_days.proofs.PlainFacts.{is_quiet}
 use Rattle.laws_days.proofs.VenueInvariant.{MarketOk, RespondsIn}
 use Rattle.laws_days.proofs.VenueKinds.{nothing_brings, queued, quiet_brings, same_markets}
-use Rattle.laws_days.proofs.VenueKinds.{when_brings}
 use Rattle.laws_days.proofs.VenueParts.{KnownIn, Opening, Still, investor_facts, known_later}
 use Rattle.laws_days.proofs.VenueSteps.{Brings, FactThen, Here, LeftThen, day, queue, to_now}
 
@@ -78,12 +77,6 @@ module _ (h : Here) where
       where
         entries : List InvestorEntry
         entries = entries_of market (of_investor firm h.venue.facts) event
-
-    pub known_brings : (request : ℕ) (quote : Option ℕ) (event : InvestorEvent)
-        → Brings h (where_known h.venue.facts request quote event market)
-    known_brings request quote event =
-        when_brings h _ (at_market h.venue.facts market event [])
-        (λ test. market_brings event [] tt)
 
     -- A message.
 

@@ -1,6 +1,7 @@
 -- The duties that a dealer's steps lead to: its posts, unposts, declines and drops, and what its
 -- investors are told of them. What such a duty leaves is such a duty too.
 use Rattle.std.proofs.Common.{◌≡◌, ℕ, Bool, true, false, List, refl}
+use Rattle.std.proofs.lemmas.Bool.{false≢true}
 use Rattle.market_terms.specs.declared.duties.Duty.{Duty}
 use Rattle.market_terms.specs.declared.duties.Duty.TheVariants as duty
 use Rattle.market_terms.specs.declared.rooms.RoomRef.{RoomRef}
@@ -9,10 +10,10 @@ use Rattle.dealer_desk.specs.DealerOutput.{post_of}
 use Rattle.dealer_desk.specs.declared.verdicts.DealerVerdict.{DealerVerdict}
 use Rattle.dealer_desk.specs.declared.verdicts.DealerVerdict.TheVariants as verdict
 use Rattle.venue_steps.specs.declared.actors.Actor.{Actor}
+use Rattle.venue_steps.specs.declared.actors.Actor.TheVariants as actor
 use Rattle.step_replay.specs.DealerTrail.{rooms_by}
 use Rattle.step_replay.specs.VenueFacts.{Fact, of_dealer}
 use Rattle.laws_days.specs.KeptItems.{every_all}
-use Rattle.laws_days.specs.LeftBehind.{LeftBy, may_leave}
 use Rattle.laws_days.specs.MayLeave.{InRooms, MayLeave, MaySay}
 
 -- whether a duty is one of these
@@ -30,24 +31,6 @@ is_quoting other = false
 abbrev pub IsQuoting : Duty → Type 0
 IsQuoting more = is_quoting more ≡ true
 
--- what one of these leaves
-quoting_left : (more d : Duty) → LeftBy more d → IsQuoting d → IsQuoting more
-quoting_left (duty.Open room ask dealers moment) d left is = absurd left
-quoting_left (duty.Show dealer at what when) (duty.Open room ask dealers moment) left is = cc
-quoting_left (duty.Show dealer at what when) other left is = absurd left
-quoting_left (duty.Ready at when) (duty.Open room ask dealers moment) left is = cc
-quoting_left (duty.Ready at when) other left is = absurd left
-quoting_left (duty.Hit room response word moment) d left is = absurd left
-quoting_left (duty.Pass room response moment) d left is = absurd left
-quoting_left (duty.Answer at to reply when) (duty.Hit room response word moment) left is = cc
-quoting_left (duty.Answer at to reply when) (duty.Pass room response moment) left is = cc
-quoting_left (duty.Answer at to reply when) other left is = absurd left
-quoting_left (duty.Close room moment) d left is = absurd left
-quoting_left (duty.Tell dealer at close when) (duty.Hit room response word moment) left is = cc
-quoting_left (duty.Tell dealer at close when) (duty.Pass room response moment) left is = cc
-quoting_left (duty.Tell dealer at close when) other left is = absurd left
-quoting_left more d left is = refl
-
 -- Whatever is so of each of these duties.
 module _ (P : Duty → Type 0) (each : (more : Duty) → IsQuoting more → P more)
     (config : Configuration) (facts : List Fact) where
@@ -59,8 +42,19 @@ module _ (P : Duty → Type 0) (each : (more : Duty) → IsQuoting more → P mo
 
   -- it is so of what one of them leaves
   pub quoting_may : (by : Actor) (d : Duty) → IsQuoting d → MayLeave P config facts by d
-  quoting_may by d is =
-      may_leave P config facts by d (λ more left. each more (quoting_left more d left is))
+  quoting_may by (duty.Post room quote price valid_until moment) is =
+      λ offer. each (duty.Relay room offer moment) refl
+  quoting_may by (duty.Relay room offer moment) is = tt
+  quoting_may by (duty.Unpost room quote moment) is = λ word. each (duty.Gone room word moment) refl
+  quoting_may by (duty.Gone room word moment) is = tt
+  quoting_may by (duty.Decline room moment) is = each (duty.Declined room moment) refl
+  quoting_may by (duty.Declined room moment) is = tt
+  quoting_may (actor.Firm dealer) (duty.Drop last moment) is = (
+    λ quote. in_rooms dealer (λ room. duty.Unpost room quote moment) (λ room. refl),
+    each (duty.Drop last moment) refl,
+  )
+  quoting_may actor.Clock (duty.Drop last moment) is = tt
+  quoting_may by other is = absurd (false≢true is)
 
   -- and of what a message of a dealer leaves
   pub said_may : (dealer moment : ℕ) (v : DealerVerdict) → MaySay P config facts dealer moment v

@@ -74,13 +74,11 @@ module _ (P : Duty → Type 0) (config : Configuration) (facts : List Fact) wher
       (shown_each P config facts room moment (λ dealer. duty.Show dealer room ask moment) dealers
       is)
   in_rooms (actor.Firm number) (duty.Post room quote price valid_until moment) is = λ row found.
-      let offer = offer_of config (dealer_of number row) quote price valid_until in
-      follows P _ (duty.Relay room offer moment) (is offer)
+      follows P _ _ (is (offer_of config (dealer_of number row) quote price valid_until))
   in_rooms (actor.Firm number) (duty.Unpost room quote moment) is = λ row found.
-      let word = word_for config (dealer_of number row) quote in
-      follows P _ (duty.Gone room word moment) (is word)
+      follows P _ _ (is (word_for config (dealer_of number row) quote))
   in_rooms (actor.Firm number) (duty.Decline room moment) is =
-      λ row found. follows P _ (duty.Declined room moment) is
+      λ row found. follows P _ _ is
   in_rooms by (duty.Hit room response word moment) is =
       let outcome = hit_outcome (of_room room facts) word moment
       (settlement_found config facts room word moment) in

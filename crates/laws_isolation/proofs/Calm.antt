@@ -114,14 +114,8 @@ module _ (config : Configuration) (facts : List Fact) where
       → NoHitThere more
       → filter_map award_in (map (InRoom room) (event_facts known more)) ≡ []
   unfolding event_facts
-  event_calm room known (at_room.Open request) isnt = so_calm room _ _ refl
-  event_calm room known at_room.Ready isnt = so_calm room _ _ refl
-  event_calm room known (at_room.Post dealer word price until) isnt = so_calm room _ _ refl
-  event_calm room known (at_room.Unpost dealer word) isnt = so_calm room _ _ refl
-  event_calm room known (at_room.Decline dealer) isnt = so_calm room _ _ refl
   event_calm room known (at_room.Hit word moment settlement) isnt = absurd isnt
-  event_calm room known (at_room.Pass moment) isnt = so_calm room _ _ refl
-  event_calm room known (at_room.Expire moment) isnt = so_calm room _ _ refl
+  event_calm room known other isnt = so_calm room _ _ refl
 
   abbrev CalmThere : RoomRef → RoomEvent → List Duty → Type 0
   CalmThere room more left = NoHitThere more

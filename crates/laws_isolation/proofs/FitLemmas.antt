@@ -1,14 +1,13 @@
 -- Where all that comes to a desk fits, the desk view of what is due by it is the investor view.
-use Rattle.std.proofs.Common.{◌≡◌, Bool, true, false, ◌&&◌, List, [], ◌∷◌, ◌++◌, map, fold, None}
+use Rattle.std.proofs.Common.{◌≡◌, Bool, true, false, ◌&&◌, List, [], ◌∷◌, ◌++◌, map, fold}
 use Rattle.std.proofs.Common.{refl, sym, ap, subst, ◌∙◌}
 use Rattle.std.proofs.lemmas.List.{append-nil, append_assoc}
-use Rattle.investor_desk.specs.InvestorFacts.{knows}
 use Rattle.investor_desk.specs.InvestorDesk.{DeskEvents, book_at, no_events, with_event}
 use Rattle.investor_desk.specs.InvestorOutput.{investor_output}
 use Rattle.investor_desk.specs.InvestorRules.{InvestorMarket}
 use Rattle.investor_desk.specs.declared.events.InvestorEvent.{InvestorEvent}
 use Rattle.investor_desk.specs.declared.events.InvestorEvent.TheVariants as event
-use Rattle.venue_steps.specs.InvestorSteps.{replies_to, with_event_if}
+use Rattle.venue_steps.specs.InvestorSteps.{with_event_if}
 use Rattle.venue_steps.specs.Brought.{investor_with}
 use Rattle.venue_steps.specs.declared.arrivals.ForInvestor.TheVariants as to_investor
 use Rattle.investor_views.specs.Comings.{Coming, Own, For, after_coming, desk_by}
@@ -40,36 +39,20 @@ after_fits : (desk : DeskEvents) (came : Coming) → fits (book_at desk) came �
     → after_coming desk came ≡ with_event desk (event_of came)
 unfolding fits after_coming investor_with
 after_fits desk (Own moment bytes) is = refl
-after_fits desk (For (to_investor.Relay request offer moment)) is =
-    where_true (knows (book_at desk) request None) desk (event.QuoteCame request offer moment) is
-after_fits desk (For (to_investor.Gone request word moment)) is =
-    where_true (knows (book_at desk) request None) desk (event.QuoteGone request word moment) is
-after_fits desk (For (to_investor.Declined request dealer moment)) is =
-    where_true (knows (book_at desk) request None) desk
-    (event.DealerDeclined request dealer moment) is
 after_fits desk (For (to_investor.Answer request response reply moment)) is =
-    where_true (knows (book_at desk) request response.k && replies_to response.k reply) desk
-    (event.Answered request response reply moment) is
-after_fits desk (For (to_investor.Close request moment)) is =
-    where_true (knows (book_at desk) request None) desk (event.Closed request moment) is
+    where_true _ desk (event.Answered request response reply moment) is
+after_fits desk other is = where_true _ desk _ is
 
 -- What came by an event, and the event that it leaves, are one another's.
 
 coming_back : (came : Coming) → coming_of (event_of came) ≡ came
 coming_back (Own moment bytes) = refl
-coming_back (For (to_investor.Relay request offer moment)) = refl
-coming_back (For (to_investor.Gone request word moment)) = refl
-coming_back (For (to_investor.Declined request dealer moment)) = refl
 coming_back (For (to_investor.Answer request response reply moment)) = refl
-coming_back (For (to_investor.Close request moment)) = refl
+coming_back other = refl
 
 event_back : (one : InvestorEvent) → event_of (coming_of one) ≡ one
 event_back (event.Received moment bytes) = refl
-event_back (event.QuoteCame request offer moment) = refl
-event_back (event.QuoteGone request word moment) = refl
-event_back (event.DealerDeclined request dealer moment) = refl
-event_back (event.Answered request response reply moment) = refl
-event_back (event.Closed request moment) = refl
+event_back other = refl
 
 events_back : (events : List InvestorEvent) → map event_of (map coming_of events) ≡ events
 events_back [] = refl

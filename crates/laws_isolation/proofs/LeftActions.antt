@@ -11,7 +11,6 @@ use Rattle.investor_desk.specs.InvestorFacts.{InvestorBook, knows}
 use Rattle.investor_desk.specs.InvestorOutput as investor_output
 use Rattle.investor_desk.specs.InvestorRules.{InvestorMarket}
 use Rattle.investor_desk.specs.declared.events.InvestorEvent.{InvestorEvent}
-use Rattle.request_room.specs.RoomFacts.{RoomFact}
 use Rattle.request_room.specs.Book.{event_facts}
 use Rattle.request_room.specs.declared.events.RoomEvent.{RoomEvent}
 use Rattle.step_replay.specs.DealerTrail.{entries_of}
@@ -20,14 +19,16 @@ use Rattle.step_replay.specs.InvestorTrail.{InvestorEntry}
 use Rattle.step_replay.specs.VenueFacts.{Fact, InRoom, of_dealer, of_investor, of_room}
 use Rattle.step_replay.specs.Actions.{Dealer, at_dealer, in_room, at_market, where_known}
 use Rattle.laws_days.specs.ActionCases.{if_both, if_does}
+use Rattle.laws_days.specs.DutyWalk.{NoHitThere}
 use Rattle.laws_isolation.proofs.Left.{left, left_duty, AreAlike, IsHushed, IsUnseen, nothing_alike}
 use Rattle.laws_isolation.proofs.Left.{nothing_hushed, nothing_unseen}
 use Rattle.laws_isolation.proofs.LeftPlaces.{desk_left, investor_added, left_desk, left_room}
 use Rattle.laws_isolation.proofs.LeftPlaces.{other_added, room_added, room_left}
 use Rattle.laws_isolation.proofs.LeftDealer.{event_left}
-use Rattle.laws_isolation.proofs.LeftRoom.{IsOfOther, happens_same, is_hit_there, other_adds}
-use Rattle.laws_isolation.proofs.LeftInvestor.{Hushes, book_left, facts_hushed, knows_same}
-use Rattle.laws_isolation.proofs.LeftInvestor.{left_book}
+use Rattle.laws_isolation.proofs.LeftRoom.{happens_same, other_adds}
+use Rattle.laws_isolation.proofs.LeftInvestor.{book_left, facts_hushed, knows_same, left_book}
+use Rattle.laws_isolation.proofs.QuietInvestor.{Hushes}
+use Rattle.laws_isolation.proofs.QuietRoom.{IsOfOther}
 
 module _ (own : ℕ) (facts : List Fact) where
   -- what is left of the day
@@ -75,26 +76,23 @@ module _ (own : ℕ) (facts : List Fact) where
             ∙ ap (map (InRoom room)) (other_adds own (of_room room facts) more is);
       })
 
-  -- an event that is no hit, where what is left of the room tests and leaves the same
-  pub room_alike : (config : Configuration) (room : RoomRef) (may : List RoomFact → Bool)
-      (more : RoomEvent) (duties : List RoomFact → List Duty) → is_hit_there more ≡ false
-      → may (of_room room facts) ≡ may (left_room own (of_room room facts))
-      → map left_duty (duties (of_room room facts))
-      ≡ map left_duty (duties (left_room own (of_room room facts)))
-      → AreAlike own
-      (in_room config facts room (may (of_room room facts)) more (duties (of_room room facts)))
-      (in_room config known room (may (of_room room known)) more (duties (of_room room known)))
-  room_alike config room may more duties isnt tests same =
+  -- an event that is no hit, where both rooms test and leave the same
+  pub room_alike : (config : Configuration) (room : RoomRef) (may may_too : Bool)
+      (more : RoomEvent) (duties duties_too : List Duty) → NoHitThere more → may ≡ may_too
+      → map left_duty duties ≡ map left_duty duties_too
+      → AreAlike own (in_room config facts room may more duties)
+      (in_room config known room may_too more duties_too)
+  room_alike config room may may_too more duties duties_too isnt tests same =
       let here = of_room room facts in
       let has = has_room config room.investor room.n in
-      rw (room_left own room facts) (if_both (AreAlike own) (nothing_alike own) (has && may here)
-      (has && may (left_room own here)) _ _ (ap (λ (b : Bool). has && b) tests)
+      if_both (AreAlike own) (nothing_alike own) (has && may) (has && may_too) _ _
+      (ap (λ (b : Bool). has && b) tests)
       (record {
-        facts_are = room_added own room (event_facts here more)
+        facts_are = rw (room_left own room facts) (room_added own room (event_facts here more)
             ∙ ap (map (InRoom room)) (happens_same own here more isnt)
-            ∙ sym (room_added own room (event_facts (left_room own here) more));
+            ∙ sym (room_added own room (event_facts (left_room own here) more)));
         duties_are = same;
-      }))
+      })
 
   -- At an investor's desk.
 

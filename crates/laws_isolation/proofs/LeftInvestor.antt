@@ -45,6 +45,7 @@ use Rattle.investor_desk.specs.declared.events.InvestorEvent.{InvestorEvent}
 use Rattle.investor_desk.specs.declared.events.InvestorEvent.TheVariants as event
 use Rattle.laws_isolation.proofs.Left.{left_of_desk, no_response}
 use Rattle.laws_isolation.proofs.LeftPlaces.{left_desk}
+use Rattle.laws_isolation.proofs.QuietInvestor.{Hushes}
 
 -- What is left of the book.
 
@@ -260,14 +261,6 @@ verdict_heard book market moment bytes =
 
 -- What an event adds.
 
--- Events of which nothing is left: a quote comes or is gone, a dealer declined, a hit is refused.
-abbrev pub Hushes : InvestorEvent → Type 0
-Hushes (event.QuoteCame request offer moment) = Unit {0}
-Hushes (event.QuoteGone request word moment) = Unit {0}
-Hushes (event.DealerDeclined request dealer moment) = Unit {0}
-Hushes (event.Answered request response (reply.Refused refused) moment) = Unit {0}
-Hushes other = ⊥
-
 module _ (market : InvestorMarket) (book : InvestorBook) where
   -- a message of the investor's own
   pub own_left : (moment : ℕ) (bytes : List ℕ)
@@ -313,10 +306,9 @@ module _ (market : InvestorMarket) (book : InvestorBook) where
       offer_hushed request offer (open_request book request)
   facts_hushed (event.QuoteGone request word moment) is =
       withdrawal_hushed request word (open_request book request)
-  facts_hushed (event.DealerDeclined request dealer moment) is = refl
   facts_hushed (event.Answered request response (reply.Refused refused) moment) is =
       refused_hushed request response refused (request_numbered book request)
-  facts_hushed other is = absurd is
+  facts_hushed other is = search
 
   -- a pass is answered
   passed_facts : (request : ℕ) (id : List ℕ) (found : Option StandingRequest)

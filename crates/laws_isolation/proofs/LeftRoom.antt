@@ -13,13 +13,10 @@ use Rattle.request_room.specs.Book.{quote_posted, fact_if, event_facts}
 use Rattle.request_room.specs.declared.events.RoomEvent.{RoomEvent}
 use Rattle.request_room.specs.declared.events.RoomEvent.TheVariants as event
 use Rattle.request_room.specs.declared.quotes.PostedQuote.{PostedQuote}
+use Rattle.laws_days.specs.DutyWalk.{NoHitThere}
 use Rattle.laws_isolation.proofs.Left.{left_in_room}
 use Rattle.laws_isolation.proofs.LeftPlaces.{left_room}
-
--- whether an event is a hit
-abbrev pub is_hit_there : RoomEvent → Bool
-is_hit_there (event.Hit word moment settlement) = true
-is_hit_there other = false
+use Rattle.laws_isolation.proofs.QuietRoom.{IsOfOther}
 
 module _ (own : ℕ) where
   -- What facts say.
@@ -77,6 +74,8 @@ module _ (own : ℕ) where
   ended_same (Opened request ∷ facts) = ended_same facts
   ended_same (Readied ∷ facts) = ended_same facts
   ended_same (Ended end moment ∷ facts) = refl
+
+  ruleset said_same = (request_same, ready_same, ended_same)
 
   -- The book: an own quote stands in it or not, whoever else posts.
 
@@ -138,13 +137,6 @@ module _ (own : ℕ) where
   own_stands (Readied ∷ later) word = own_stands later word
   own_stands (Ended end moment ∷ later) word = own_stands later word
 
-  -- an event of a dealer that is another one
-  abbrev pub IsOfOther : RoomEvent → Type 0
-  IsOfOther (event.Post dealer word price until) = (dealer == own) ≡ false
-  IsOfOther (event.Unpost dealer word) = (dealer == own) ≡ false
-  IsOfOther (event.Decline dealer) = (dealer == own) ≡ false
-  IsOfOther other = ⊥
-
   module _ (facts : List RoomFact) where
     pub stands_same : (dealer word : ℕ) → (dealer == own) ≡ true
         → stands (book_of (left_room own facts)) dealer word ≡ stands (book_of facts) dealer word
@@ -173,23 +165,15 @@ module _ (own : ℕ) where
           none)
     ]
 
-    pub happens_same : (more : RoomEvent) → is_hit_there more ≡ false
+    pub happens_same : (more : RoomEvent) → NoHitThere more
         → left_room own (event_facts facts more)
         ≡ left_room own (event_facts (left_room own facts) more)
     unfolding event_facts
-    happens_same (event.Open request) isnt = rw (request_same facts, ended_same facts) refl
-    happens_same event.Ready isnt =
-        rw (request_same facts, ready_same facts, ended_same facts) refl
-    happens_same (event.Post dealer word price until) isnt =
-        rw (request_same facts, ended_same facts) refl
     happens_same (event.Unpost dealer word) isnt = unposts_same dealer word
-    happens_same (event.Decline dealer) isnt = rw (request_same facts, ended_same facts) refl
-    happens_same (event.Hit word moment settlement) isnt = cc
-    happens_same (event.Pass moment) isnt = rw (ready_same facts, ended_same facts) refl
-    happens_same (event.Expire moment) isnt =
-        rw (request_same facts, ready_same facts, ended_same facts) refl
+    happens_same (event.Hit word moment settlement) isnt = absurd isnt
+    happens_same other isnt = simp said_same
 
-    pub other_adds : (more : RoomEvent) → IsOfOther more
+    pub other_adds : (more : RoomEvent) → IsOfOther own more
         → left_room own (event_facts facts more) ≡ []
     unfolding event_facts
     other_adds (event.Post dealer word price until) another =

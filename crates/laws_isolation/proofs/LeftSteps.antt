@@ -3,6 +3,7 @@
 use Rattle.std.proofs.Common.{◌≡◌, ℕ, ◌==◌, ◌&&◌, Bool, true, false, List, [], Option, Some, None}
 use Rattle.std.proofs.Common.{refl, sym, ap, ◌∙◌, is_some}
 use Rattle.std.proofs.lemmas.Bool.{and_parts}
+use Rattle.market_terms.specs.declared.closes.Close.{Close}
 use Rattle.market_terms.specs.declared.closes.HitRefusal.{HitRefusal}
 use Rattle.market_terms.specs.declared.closes.HitRefusal.TheVariants.{NotOpen}
 use Rattle.market_terms.specs.declared.closes.Reply.{Reply}
@@ -15,21 +16,25 @@ use Rattle.venue_rows.specs.Rows.{Configuration}
 use Rattle.investor_desk.specs.InvestorDesk.{market_for, market_of}
 use Rattle.investor_desk.specs.InvestorFacts.{InvestorBook, knows, knows_quote, request_numbered}
 use Rattle.investor_desk.specs.InvestorRules.{InvestorMarket, response_to}
-use Rattle.investor_desk.specs.declared.events.InvestorEvent.{InvestorEvent}
 use Rattle.investor_desk.specs.declared.events.InvestorEvent.TheVariants as at_investor
-use Rattle.request_room.specs.RoomFacts.{RoomFact, hears}
-use Rattle.request_room.specs.declared.events.RoomEvent.TheVariants as at_room
 use Rattle.venue_steps.specs.InvestorSteps.{replies_to}
-use Rattle.venue_steps.specs.RoomSteps.{duties_of_post, duties_of_unpost, duties_of_decline}
-use Rattle.venue_steps.specs.RoomSteps.{duties_of_open, duties_of_pass, duties_of_expire}
+use Rattle.request_room.specs.RoomFacts.{hears}
+use Rattle.venue_steps.specs.Table.{Line, acting_in, brings, drops, line_of, telling}
 use Rattle.laws_days.specs.Conditions.{holds_for, is_known, is_known_to, is_met, may_reply}
 use Rattle.venue_steps.specs.declared.actors.Actor.{Actor}
-use Rattle.step_replay.specs.Actions.{Dealer, where_known, word_for, has_word_for}
-use Rattle.step_replay.specs.Actions.{offer_of}
-use Rattle.step_replay.specs.Actions.{acting_dealer, dealer_at, done_for}
-use Rattle.step_replay.specs.LineActions.{answered_by, at_investor_of, declined_by, posted_by, unposted_by}
+use Rattle.venue_steps.specs.declared.arrivals.ForDealer.TheVariants as to_dealer
+use Rattle.venue_steps.specs.declared.arrivals.ForInvestor.{ForInvestor}
+use Rattle.venue_steps.specs.declared.arrivals.ForInvestor.TheVariants as to_investor
+use Rattle.venue_steps.specs.declared.arrivals.ForRoom.{ForRoom}
+use Rattle.venue_steps.specs.declared.arrivals.ForRoom.TheVariants as to_room
+use Rattle.venue_steps.specs.declared.arrivals.Placement.{Placement}
+use Rattle.venue_steps.specs.declared.arrivals.Placement.TheVariants as arrival
+use Rattle.step_replay.specs.Actions.{Dealer, acting_dealer, dealer_at, done_for}
+use Rattle.step_replay.specs.LineActions.{answered_by, at_investor_of}
+use Rattle.step_replay.specs.Coming.{arrival_effect, dealer_gets, investor_gets, room_gets}
+use Rattle.step_replay.specs.Coming.{room_gets_where}
 use Rattle.step_replay.specs.VenueFacts.{Fact, of_room}
-use Rattle.step_replay.specs.DutyEffects.{duty_effect, sweep_effect}
+use Rattle.step_replay.specs.DutyEffects.{duty_effect, line_effect, sweep_effect}
 use Rattle.laws_days.specs.ActionCases.{if_both, if_does, invested_both, by_both, invested_does}
 use Rattle.laws_isolation.specs.Silence.{acts_as_another, is_hit}
 use Rattle.laws_isolation.proofs.Left.{AreAlike, IsHushed, acting_own, hushed_alike}
@@ -38,10 +43,10 @@ use Rattle.laws_isolation.proofs.Left.{nothing_hushed}
 use Rattle.laws_isolation.proofs.LeftActions as actions
 use Rattle.laws_isolation.proofs.LeftActions.{known, known_alike, known_hushed, room_alike}
 use Rattle.laws_isolation.proofs.LeftInvestor as investor
-use Rattle.laws_isolation.proofs.LeftInvestor.{Hushes}
-use Rattle.laws_isolation.proofs.LeftPlaces.{left_desk}
+use Rattle.laws_isolation.proofs.LeftPlaces.{left_desk, room_left}
 use Rattle.laws_isolation.proofs.LeftRoom.{ended_same, ready_same, request_same, stands_same}
 use Rattle.laws_isolation.proofs.LeftOwn.{dropped_alike, shown_alike, told_alike}
+use Rattle.laws_isolation.proofs.QuietSteps.{IsOwnUnpost}
 
 -- whether a reply closes its request
 abbrev reply_kind : Reply → Bool
@@ -56,57 +61,42 @@ module _ (config : Configuration) (own : ℕ) (facts : List Fact) where
 
   -- In a room.
 
-  -- its facts
-  abbrev here : RoomRef → List RoomFact
-  here room = of_room room facts
+  ruleset same_there = (room_left, request_same, ended_same, ready_same)
 
-  posted_alike : (room : RoomRef) (quote price : ℕ) (until : Option ℕ) (moment : ℕ)
-      (dealer : Dealer)
-      → AreAlike own (posted_by config facts room quote price until moment dealer)
-      (posted_by config after room quote price until moment dealer)
-  posted_alike room quote price until moment dealer =
-      room_alike own facts config room
-      (λ l. has_word_for config dealer quote && hears l dealer.number)
-      (at_room.Post dealer.number (word_for config dealer quote) price until)
-      (λ l. duties_of_post l room dealer.number (offer_of config dealer quote price until) moment)
-      refl (rw (request_same own (here room), ended_same own (here room)) refl)
-      (rw (request_same own (here room), ended_same own (here room)) refl)
+  heard_same : (may : Bool) (room : RoomRef) (dealer : ℕ)
+      → (may && hears (of_room room facts) dealer) ≡ (may && hears (of_room room after) dealer)
+  heard_same may room dealer = simp same_there
 
-  unposted_alike : (room : RoomRef) (quote moment : ℕ) (dealer : Dealer)
-      → (dealer.number == own) ≡ true
-      → AreAlike own (unposted_by config facts room quote moment dealer)
-      (unposted_by config after room quote moment dealer)
-  unposted_alike room quote moment dealer mine =
-      let stand = stands_same own (here room) dealer.number (word_for config dealer quote) mine in
-      room_alike own facts config room
-      (λ l. has_word_for config dealer quote && hears l dealer.number)
-      (at_room.Unpost dealer.number (word_for config dealer quote))
-      (λ l. duties_of_unpost l room dealer.number (word_for config dealer quote) moment)
-      refl (rw (request_same own (here room), ended_same own (here room)) refl)
-      (rw (request_same own (here room), ended_same own (here room), stand) refl)
+  room_gets_alike : (may : Bool) (room : RoomRef) (what : ForRoom) → IsOwnUnpost own what
+      → AreAlike own (room_gets_where config facts may room what)
+      (room_gets_where config after may room what)
+  unfolding room_gets_where
+  room_gets_alike may room (to_room.Ready moment) mine =
+      room_alike own facts config room _ _ _ _ _ tt refl refl
+  room_gets_alike may room (to_room.Unpost dealer word moment) mine =
+      let stand = stands_same own (of_room room facts) dealer word mine in
+      room_alike own facts config room _ _ _ _ _ tt (heard_same may room dealer)
+      (simp (same_there, stand))
+  room_gets_alike may room other mine =
+      room_alike own facts config room _ _ _ _ _ tt (search heard_same) (simp same_there)
 
-  declined_alike : (room : RoomRef) (moment : ℕ) (dealer : Dealer)
-      → AreAlike own (declined_by config facts room moment dealer)
-      (declined_by config after room moment dealer)
-  declined_alike room moment dealer =
-      room_alike own facts config room (λ l. hears l dealer.number)
-      (at_room.Decline dealer.number)
-      (λ l. duties_of_decline l room dealer.number moment)
-      refl (rw (request_same own (here room), ended_same own (here room)) refl)
-      (rw (request_same own (here room), ended_same own (here room)) refl)
+  -- At an investor: what is no reply.
 
-  -- At an investor.
+  abbrev IsNoReply : ForInvestor → Type 0
+  IsNoReply (to_investor.Answer request response said moment) = ⊥
+  IsNoReply other = Unit {0}
 
-  -- what comes to an investor of which nothing is left, in both days
-  came_alike : (room : RoomRef) (more : InvestorEvent) → Hushes more
-      → AreAlike own (at_investor_of config room (where_known facts room.n None more))
-      (at_investor_of config room (where_known after room.n None more))
-  came_alike room more is =
-      invested_both (AreAlike own) (nothing_alike own) config room.investor
-      (where_known facts room.n None more) (where_known after room.n None more)
-      (λ row. hushed_alike own _ _
-      (known_hushed own facts (market_of config room.investor row) room.n None more is)
-      (known_hushed own after (market_of config room.investor row) room.n None more is))
+  investor_gets_alike : (what : ForInvestor) → IsNoReply what → (market : InvestorMarket)
+      → AreAlike own (investor_gets facts what market) (investor_gets after what market)
+  unfolding investor_gets
+  investor_gets_alike (to_investor.Answer request response said moment) none market = absurd none
+  investor_gets_alike (to_investor.Close request moment) none market =
+      known_alike own facts market request (at_investor.Closed request moment)
+      (at_investor.Closed request moment)
+      (ap left_desk (investor.expired_left market (actions.book own facts market) request moment))
+  investor_gets_alike other none market =
+      hushed_alike own _ _ (known_hushed own facts market _ None _ tt)
+      (known_hushed own after market _ None _ tt)
 
   -- An answer: that of an award is of a quote that is known.
 
@@ -192,65 +182,84 @@ module _ (config : Configuration) (own : ℕ) (facts : List Fact) where
   unfolding duty_effect
   refused_answer by room response why moment = refused_hushed facts room response why moment
 
-  -- All duties but a hit, line by line.
+  -- What comes to a place, and is the same in what is left: no hit, no reply, no notice, and no
+  -- unpost of another dealer.
+
+  abbrev IsSameThere : Placement → Type 0
+  IsSameThere (arrival.Dealer firm (to_dealer.Show room ask moment)) = Unit {0}
+  IsSameThere (arrival.Investor firm what) = IsNoReply what
+  IsSameThere (arrival.Room room what) = IsOwnUnpost own what
+  IsSameThere other = ⊥
+
+  arrival_alike : (coming : Placement) → IsSameThere coming
+      → AreAlike own (arrival_effect config facts coming) (arrival_effect config after coming)
+  unfolding arrival_effect dealer_gets room_gets
+  arrival_alike (arrival.Dealer firm (to_dealer.Show room ask moment)) same =
+      by_both (AreAlike own) (nothing_alike own) (dealer_at config firm) _ _
+      (shown_alike config own facts room ask moment)
+  arrival_alike (arrival.Investor firm what) same =
+      invested_both (AreAlike own) (nothing_alike own) config firm (investor_gets facts what)
+      (investor_gets after what) (λ row. investor_gets_alike what same (market_of config firm row))
+  arrival_alike (arrival.Room room what) same = room_gets_alike true room what same
+  arrival_alike other same = absurd same
+
+  -- All duties but a hit, by the lines of the table.
+
+  abbrev IsSameLine : Line → Type 0
+  IsSameLine (brings coming) = IsSameThere coming
+  IsSameLine (acting_in room may bring) =
+      (dealer : Dealer) → (dealer.number == own) ≡ true → IsOwnUnpost own (bring dealer)
+  IsSameLine (telling firm bring) = (dealer : Dealer) → IsNoReply (bring dealer)
+  IsSameLine (drops last moment) = Unit {0}
+
+  line_alike : (by : Actor) → acts_as_another config own by ≡ false → (line : Line)
+      → IsSameLine line
+      → AreAlike own (line_effect config facts by line) (line_effect config after by line)
+  line_alike by isnt (brings coming) same = arrival_alike coming same
+  line_alike by isnt (acting_in room may bring) same =
+      acting_own config own by isnt _ _
+      (λ dealer mine. room_gets_alike (may dealer) room (bring dealer) (same dealer mine))
+  line_alike by isnt (telling firm bring) same =
+      by_both (AreAlike own) (nothing_alike own) (acting_dealer config by) _ _
+      (λ dealer. arrival_alike (arrival.Investor firm (bring dealer)) (same dealer))
+  line_alike by isnt (drops last moment) same =
+      acting_own config own by isnt _ _
+      (λ dealer mine. dropped_alike config own facts dealer mine last moment)
+
+  same_alike : (by : Actor) (more : Duty) → acts_as_another config own by ≡ false
+      → IsSameLine (line_of config more)
+      → AreAlike own (duty_effect config facts by more) (duty_effect config after by more)
+  unfolding duty_effect
+  same_alike by more isnt same = line_alike by isnt (line_of config more) same
+
+  noticed_alike : (by : Actor) (number : ℕ) (room : RoomRef) (close : Close) (moment : ℕ)
+      → AreAlike own (duty_effect config facts by (duty.Tell number room close moment))
+      (duty_effect config after by (left_duty (duty.Tell number room close moment)))
+  unfolding duty_effect
+  noticed_alike by number room close moment =
+      by_both (AreAlike own) (nothing_alike own) (dealer_at config number) _ _
+      (told_alike config own facts room close moment)
 
   pub duty_alike : (by : Actor) (more : Duty) → acts_as_another config own by ≡ false
       → is_hit more ≡ false → is_met config facts by more ≡ true
       → AreAlike own (duty_effect config facts by more)
       (duty_effect config after by (left_duty more))
-  unfolding duty_effect is_met
-  duty_alike by (duty.Open room ask dealers moment) isnt no_hit met =
-      room_alike own facts config room (λ l. true)
-      (at_room.Open (record { ask = ask; dealers = dealers }))
-      (λ l. duties_of_open l room ask dealers moment) refl refl
-      (rw (request_same own (here room), ended_same own (here room)) refl)
-  duty_alike by (duty.Show dealer room ask moment) isnt no_hit met =
-      by_both (AreAlike own) (nothing_alike own) (dealer_at config dealer) _ _
-      (shown_alike config own facts room ask moment)
-  duty_alike by (duty.Ready room moment) isnt no_hit met =
-      room_alike own facts config room (λ l. true) at_room.Ready (λ l. []) refl refl refl
+  unfolding is_met line_of
   duty_alike by (duty.Post room quote price valid_until moment) isnt no_hit met =
-      by_both (AreAlike own) (nothing_alike own) (acting_dealer config by) _ _
-      (posted_alike room quote price valid_until moment)
-  duty_alike by (duty.Relay room offer moment) isnt no_hit met =
-      came_alike room (at_investor.QuoteCame room.n offer moment) tt
+      same_alike by _ isnt (λ dealer mine. tt)
   duty_alike by (duty.Unpost room quote moment) isnt no_hit met =
-      acting_own config own by isnt _ _ (unposted_alike room quote moment)
-  duty_alike by (duty.Gone room word moment) isnt no_hit met =
-      came_alike room (at_investor.QuoteGone room.n word moment) tt
+      same_alike by _ isnt (λ dealer mine. mine)
   duty_alike by (duty.Decline room moment) isnt no_hit met =
-      by_both (AreAlike own) (nothing_alike own) (acting_dealer config by) _ _
-      (declined_alike room moment)
-  duty_alike by (duty.Declined room moment) isnt no_hit met =
-      by_both (AreAlike own) (nothing_alike own) (acting_dealer config by) _ _
-      (λ dealer. came_alike room
-      (at_investor.DealerDeclined room.n dealer.row.name moment) tt)
+      same_alike by _ isnt (λ dealer mine. tt)
+  duty_alike by (duty.Declined room moment) isnt no_hit met = same_alike by _ isnt (λ dealer. tt)
   duty_alike by (duty.Hit room response word moment) isnt no_hit met = cc
-  duty_alike by (duty.Pass room response moment) isnt no_hit met =
-      room_alike own facts config room (λ l. true) (at_room.Pass moment)
-      (λ l. duties_of_pass l room response moment) refl refl
-      (rw (request_same own (here room), ready_same own (here room), ended_same own (here room))
-      refl)
   duty_alike by (duty.Answer room response said moment) isnt no_hit met =
       answered_alike by room response said moment met
-  duty_alike by (duty.Close room moment) isnt no_hit met =
-      invested_both (AreAlike own) (nothing_alike own) config room.investor _ _
-      (λ row. known_alike own facts (market_of config room.investor row) room.n
-      (at_investor.Closed room.n moment) (at_investor.Closed room.n moment)
-      (ap left_desk (investor.expired_left (market_of config room.investor row)
-      (actions.book own facts (market_of config room.investor row)) room.n moment)))
-  duty_alike by (duty.Tell dealer room close moment) isnt no_hit met =
-      by_both (AreAlike own) (nothing_alike own) (dealer_at config dealer) _ _
-      (told_alike config own facts room close moment)
-  duty_alike by (duty.Drop last moment) isnt no_hit met =
-      acting_own config own by isnt _ _
-      (λ dealer mine. dropped_alike config own facts dealer mine last moment)
+  duty_alike by (duty.Tell number room close moment) isnt no_hit met =
+      noticed_alike by number room close moment
+  duty_alike by other isnt no_hit met = same_alike by _ isnt tt
 
   pub sweep_alike : (room : RoomRef) (moment : ℕ)
       → AreAlike own (sweep_effect config facts room moment) (sweep_effect config after room moment)
-  unfolding sweep_effect
-  sweep_alike room moment =
-      room_alike own facts config room (λ l. true) (at_room.Expire moment)
-      (λ l. duties_of_expire l room moment) refl refl
-      (rw (request_same own (here room), ready_same own (here room), ended_same own (here room))
-      refl)
+  unfolding sweep_effect room_gets
+  sweep_alike room moment = room_gets_alike true room (to_room.Expire moment) tt

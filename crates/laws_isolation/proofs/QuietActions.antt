@@ -22,13 +22,13 @@ use Rattle.step_replay.specs.VenueFacts.{fact_in_room, entry_at_investor, of_dea
 use Rattle.step_replay.specs.VenueFacts.{of_investor}
 use Rattle.step_replay.specs.Actions.{Dealer, at_dealer, in_room, at_market, where_known}
 use Rattle.laws_days.specs.ActionCases.{if_both, if_does}
+use Rattle.laws_days.specs.DutyWalk.{NoHitThere}
 use Rattle.laws_days.specs.KeptItems.{every_map, found_kept, none_kept, found_of_kept, kept_in}
 use Rattle.laws_days.specs.KeptItems.{either_same, where_kept}
 use Rattle.laws_isolation.proofs.Quiet.{stays, stays_in_room, stays_there, stays_at_desk, AreAlike}
 use Rattle.laws_isolation.proofs.Quiet.{IsHushed, IsUnseen, nothing_alike, nothing_hushed}
 use Rattle.laws_isolation.proofs.Quiet.{nothing_unseen}
-use Rattle.laws_isolation.proofs.QuietRoom.{IsOfOther, is_hit_there, happens_same, other_adds}
-use Rattle.laws_isolation.proofs.QuietRoom.{quiet_room}
+use Rattle.laws_isolation.proofs.QuietRoom.{IsOfOther, happens_same, other_adds, quiet_room}
 use Rattle.laws_isolation.proofs.QuietVerdicts.{quiet_book, book_by_kept, knows_same}
 use Rattle.laws_isolation.proofs.QuietInvestor.{Hushes, event_kept, event_hushed}
 
@@ -117,25 +117,23 @@ module _ (own : ℕ) (facts : List Fact) where
             ∙ ap (map (InRoom room)) (other_adds own (of_room room facts) more is);
       })
 
-  -- In a room: an event that is no hit, where the quiet room tests and leaves the same.
-  pub room_alike : (config : Configuration) (room : RoomRef) (may : List RoomFact → Bool)
-      (more : RoomEvent) (left : List RoomFact → List Duty) → is_hit_there more ≡ false
-      → may (of_room room facts) ≡ may (quiet_room own (of_room room facts))
-      → left (of_room room facts) ≡ left (quiet_room own (of_room room facts))
-      → AreAlike own
-      (in_room config facts room (may (of_room room facts)) more (left (of_room room facts)))
-      (in_room config known room (may (of_room room known)) more (left (of_room room known)))
-  room_alike config room may more left isnt tests duties =
+  -- In a room: an event that is no hit, where both rooms test and leave the same.
+  pub room_alike : (config : Configuration) (room : RoomRef) (may may_too : Bool)
+      (more : RoomEvent) (left left_too : List Duty) → NoHitThere more → may ≡ may_too
+      → left ≡ left_too
+      → AreAlike own (in_room config facts room may more left)
+      (in_room config known room may_too more left_too)
+  room_alike config room may may_too more left left_too isnt tests same =
       let here = of_room room facts in
       let has = has_room config room.investor room.n in
-      rw (room_same room) (if_both (AreAlike own) (nothing_alike own) (has && may here)
-      (has && may (quiet_room own here)) _ _ (ap (λ (b : Bool). has && b) tests)
+      if_both (AreAlike own) (nothing_alike own) (has && may) (has && may_too) _ _
+      (ap (λ (b : Bool). has && b) tests)
       (record {
-        facts_are = in_place room (event_facts here more)
+        facts_are = rw (room_same room) (in_place room (event_facts here more)
             ∙ ap (map (InRoom room)) (happens_same own here more isnt)
-            ∙ sym (in_place room (event_facts (quiet_room own here) more));
-        duties_are = duties;
-      }))
+            ∙ sym (in_place room (event_facts (quiet_room own here) more)));
+        duties_are = same;
+      })
 
   -- At an investor's desk.
 

@@ -54,13 +54,14 @@ event_kept market trail more same =
     (sym (book_by_kept trail))
     ∙ sym (entries_kept market (filter stays_there trail) more)
 
--- Events of which nothing stays: a quote comes or is gone, a dealer declined, a hit is refused.
+-- Events of which nothing stays: all but a message of the investor's own, an award or a pass, and
+-- that its request expired.
 abbrev pub Hushes : InvestorEvent → Type 0
-Hushes (event.QuoteCame request offer moment) = Unit {0}
-Hushes (event.QuoteGone request word moment) = Unit {0}
-Hushes (event.DealerDeclined request dealer moment) = Unit {0}
+Hushes (event.Received moment bytes) = ⊥
 Hushes (event.Answered request response (reply.Refused refused) moment) = Unit {0}
-Hushes other = ⊥
+Hushes (event.Answered request response reply moment) = ⊥
+Hushes (event.Closed request moment) = ⊥
+Hushes other = Unit {0}
 
 module _ (market : InvestorMarket) (book : InvestorBook) where
   -- a message of the investor's own
@@ -108,10 +109,9 @@ module _ (market : InvestorMarket) (book : InvestorBook) where
       offer_hushed request offer (open_request book request)
   facts_hushed (event.QuoteGone request word moment) is =
       withdrawal_hushed request word (open_request book request)
-  facts_hushed (event.DealerDeclined request dealer moment) is = refl
   facts_hushed (event.Answered request response (reply.Refused refused) moment) is =
       refused_hushed request response refused (request_numbered book request)
-  facts_hushed other is = absurd is
+  facts_hushed other is = search
 
   -- a pass is answered
   passed_facts : (request : ℕ) (id : List ℕ) (found : Option StandingRequest)

@@ -16,13 +16,9 @@ use Rattle.request_room.specs.declared.ends.End.{End}
 use Rattle.request_room.specs.declared.events.RoomEvent.{RoomEvent}
 use Rattle.request_room.specs.declared.events.RoomEvent.TheVariants as event
 use Rattle.request_room.specs.declared.quotes.PostedQuote.{PostedQuote}
+use Rattle.laws_days.specs.DutyWalk.{NoHitThere}
 use Rattle.laws_days.specs.KeptItems.{any_kept}
 use Rattle.laws_isolation.proofs.Quiet.{stays_in_room}
-
--- whether an event is a hit
-abbrev pub is_hit_there : RoomEvent → Bool
-is_hit_there (event.Hit word moment settlement) = true
-is_hit_there other = false
 
 module _ (own : ℕ) where
   -- the facts of a room without the others
@@ -65,6 +61,8 @@ module _ (own : ℕ) where
       none : (fact : RoomFact) → stays_in_room own fact ≡ false → ended_as fact ≡ None
       none (Ended end moment) is = cc
       none fact is = refl
+
+  ruleset said_same = (request_same, ready_same, ended_same)
 
   -- The book: an own quote stands in it or not, whoever else posts.
 
@@ -158,20 +156,12 @@ module _ (own : ℕ) where
         ∙ sym (none_stays (may_unpost (quiet_room facts) dealer word) (Unposted dealer word)
         another)
 
-    pub happens_same : (more : RoomEvent) → is_hit_there more ≡ false
+    pub happens_same : (more : RoomEvent) → NoHitThere more
         → quiet_room (event_facts facts more) ≡ quiet_room (event_facts (quiet_room facts) more)
     unfolding event_facts
-    happens_same (event.Open request) isnt = rw (request_same facts, ended_same facts) refl
-    happens_same event.Ready isnt =
-        rw (request_same facts, ready_same facts, ended_same facts) refl
-    happens_same (event.Post dealer word price until) isnt =
-        rw (request_same facts, ended_same facts) refl
     happens_same (event.Unpost dealer word) isnt = unposts_same dealer word (dealer == own) refl
-    happens_same (event.Decline dealer) isnt = rw (request_same facts, ended_same facts) refl
-    happens_same (event.Hit word moment settlement) isnt = cc
-    happens_same (event.Pass moment) isnt = rw (ready_same facts, ended_same facts) refl
-    happens_same (event.Expire moment) isnt =
-        rw (request_same facts, ready_same facts, ended_same facts) refl
+    happens_same (event.Hit word moment settlement) isnt = absurd isnt
+    happens_same other isnt = simp said_same
 
     pub other_adds : (more : RoomEvent) → IsOfOther more
         → quiet_room (event_facts facts more) ≡ []

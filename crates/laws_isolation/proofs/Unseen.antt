@@ -24,7 +24,7 @@ use Rattle.laws_isolation.specs.Silence.{acts_as_another, is_another}
 use Rattle.laws_isolation.proofs.Left.{IsUnseen, acting_other, hushed_unseen, nothing_unseen}
 use Rattle.laws_isolation.proofs.Left.{numbered_other}
 use Rattle.laws_isolation.proofs.LeftActions.{desk_unseen, known_hushed, room_unseen}
-use Rattle.laws_isolation.proofs.LeftInvestor.{Hushes}
+use Rattle.laws_isolation.proofs.QuietInvestor.{Hushes}
 
 module _ (config : Configuration) (facts : List Fact) where
   pub duty_quoting : (by : Actor) (more : Duty) → IsQuoting more

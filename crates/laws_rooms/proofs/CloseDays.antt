@@ -163,7 +163,7 @@ module _ (lone : LoneQuotes) (words : WordsOfDay) (config : Configuration) (inve
 
     plain : (d : Duty) → IsNoClose d → Told (facts ++ (brings_of d).facts) (sent (brings_of d).facts) []
     plain d isnt = told_none (facts ++ (brings_of d).facts) (sent (brings_of d).facts)
-        (duty_quiet expires config facts investor row is by d (hushed d isnt)).says
+        (duty_quiet expires config facts investor row is by d (hushed config d isnt)).says
 
     module _ (n moment : ℕ) where
       abbrev closing : Duty

@@ -82,14 +82,7 @@ answer_silent response reply moment (Some own) = by_quote response.k
 verdict_silent : (moment : ℕ) (v : InvestorVerdict)
     → filter_map (expires moment) (option_to_list (investor_output.verdict_message v)) ≡ []
 verdict_silent moment asks.Dropped = refl
-verdict_silent moment (asks.OutOfSequence reject) = refl
-verdict_silent moment (asks.Rejected reject) = refl
-verdict_silent moment (asks.RequestRefused request bond refusal) = refl
-verdict_silent moment (asks.HitUnknown id quote) = refl
-verdict_silent moment (asks.PassUnknown id request) = refl
-verdict_silent moment (asks.RequestAccepted id request) = refl
-verdict_silent moment (asks.Hits request response word) = refl
-verdict_silent moment (asks.Passes request response) = refl
+verdict_silent moment other = refl
 
 pub received_silent : (moment : ℕ) (bytes : List ℕ) → IsSilent expires (at_investor.Received moment bytes)
 unfolding investor_output.event_messages
@@ -99,18 +92,18 @@ abbrev pub IsNoClose : Duty → Type 0
 IsNoClose (duty.Close room moment) = ⊥
 IsNoClose d = Unit {0}
 
-pub hushed : (d : Duty) → IsNoClose d → IsHushed expires d
+pub hushed : (config : Configuration) (d : Duty) → IsNoClose d → IsHushed expires config d
 unfolding investor_output.event_messages
-hushed (duty.Relay room offer moment) isnt = λ market book.
+hushed config (duty.Relay room offer moment) isnt = λ row found market book.
     offer_silent book room.n moment offer (open_request book room.n)
-hushed (duty.Gone room word moment) isnt = λ market book.
+hushed config (duty.Gone room word moment) isnt = λ row found market book.
     withdrawal_silent word moment (open_request book room.n)
-hushed (duty.Declined room moment) isnt = λ dealer market book.
+hushed config (duty.Declined room moment) isnt = λ dealer row found market book.
     decline_silent dealer moment (open_request book room.n)
-hushed (duty.Answer room response reply moment) isnt = λ market book.
+hushed config (duty.Answer room response reply moment) isnt = λ fits row found market book.
     answer_silent response reply moment (request_numbered book room.n)
-hushed (duty.Close room moment) isnt = absurd isnt
-hushed other isnt = tt
+hushed config (duty.Close room moment) isnt = absurd isnt
+hushed config other isnt = tt
 
 -- Duties that are left.
 

@@ -44,7 +44,6 @@ use Rattle.step_replay.specs.LineActions.{answered_by}
 use Rattle.step_replay.specs.DutyEffects.{duty_effect, message_effect, sweep_effect}
 use Rattle.step_replay.specs.GrowthLemmas.{same_room}
 use Rattle.step_replay.specs.InvestorTrail as investor_trail
-use Rattle.step_replay.specs.InvestorTrail.{InvestorEntry}
 use Rattle.step_replay.specs.Lists.{Every}
 use Rattle.step_replay.specs.PlaceLemmas.{other_room, own_room, room_grown}
 use Rattle.step_replay.specs.VenueFacts.{Fact, InRoom, of_investor, of_room}
@@ -223,7 +222,7 @@ module _ (config : Configuration) (facts : List Fact) (room : RoomRef) where
   LeavesOpen (at_room.Expire moment) = ⊥
   LeavesOpen other = Unit {0}
 
-  open_says : (event : RoomEvent) → LeavesOpen event → MayHappen IsNoEnd config facts room event
+  open_says : (event : RoomEvent) → LeavesOpen event → MayHappen IsNoEnd event
   open_says (at_room.Hit word moment settlement) is = absurd is
   open_says (at_room.Pass moment) is = absurd is
   open_says (at_room.Expire moment) is = absurd is

@@ -347,7 +347,7 @@ module _ (dealer : ℕ) (config : Configuration) (row : DealerRow)
     OfAnother (at_room.Decline number) = (number == dealer) ≡ false
     OfAnother other = Unit {0}
 
-    another_says : (event : RoomEvent) → OfAnother event → MayHappen SaysNot config facts room event
+    another_says : (event : RoomEvent) → OfAnother event → MayHappen SaysNot event
     another_says (at_room.Post number word price until) differs = rw differs refl
     another_says (at_room.Unpost number word) differs = rw differs refl
     another_says (at_room.Decline number) differs = rw differs refl

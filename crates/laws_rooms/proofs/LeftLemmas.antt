@@ -4,7 +4,6 @@ use Rattle.std.proofs.Common.{Option, Some, None, is_some, refl, inl}
 use Rattle.std.proofs.Common.{if◌then◌else◌, length, Result, Ok, Err, ◌&&◌}
 use Rattle.std.specs.Option.{option_to_list}
 use Rattle.market_terms.specs.declared.closes.HitRefusal.{HitRefusal}
-use Rattle.market_terms.specs.declared.closes.Reply.{Reply}
 use Rattle.market_terms.specs.declared.duties.Duty.{Duty}
 use Rattle.market_terms.specs.declared.duties.Duty.TheVariants as duty
 use Rattle.market_terms.specs.declared.rooms.Offer.{Offer}
@@ -20,20 +19,17 @@ use Rattle.venue_steps.specs.declared.actors.Actor.TheVariants as actor
 use Rattle.dealer_desk.specs.declared.events.DealerEvent.{DealerEvent}
 use Rattle.dealer_desk.specs.declared.events.DealerEvent.TheVariants as at_desk
 use Rattle.investor_desk.specs.InvestorDesk.{market_for, market_of}
-use Rattle.investor_desk.specs.InvestorFacts.{Asked, InvestorBook, InvestorFact, StandingRequest}
+use Rattle.investor_desk.specs.InvestorFacts.{Asked, InvestorFact}
 use Rattle.investor_desk.specs.InvestorFacts as investor_facts
 use Rattle.investor_desk.specs.InvestorOutput as investor_output
 use Rattle.investor_desk.specs.InvestorRules.{InvestorMarket, investor_verdict}
 use Rattle.investor_desk.specs.declared.events.InvestorEvent.{InvestorEvent}
 use Rattle.investor_desk.specs.declared.events.InvestorEvent.TheVariants as at_investor
-use Rattle.investor_desk.specs.declared.standing.RequestClose.{RequestClose}
-use Rattle.investor_desk.specs.declared.standing.ShownOffer.{ShownOffer}
 use Rattle.investor_desk.specs.declared.verdicts.InvestorVerdict.{InvestorVerdict}
 use Rattle.investor_desk.specs.declared.verdicts.InvestorVerdict.TheVariants as asks
-use Rattle.request_room.specs.Book.{end_by, event_facts, expired, hit_outcome, may_expire, may_unpost, passed}
+use Rattle.request_room.specs.Book.{event_facts, hit_outcome}
 use Rattle.request_room.specs.Book.{quote_posted, fact_if}
-use Rattle.request_room.specs.RoomFacts.{Ended, Noted, Opened, Posted, Readied, RoomFact, Unposted, hears}
-use Rattle.request_room.specs.RoomFacts.{is_open, is_opening, is_vacant}
+use Rattle.request_room.specs.RoomFacts.{Noted, Posted, RoomFact, hears}
 use Rattle.request_room.specs.RoomFacts.{takes_quotes}
 use Rattle.request_room.specs.declared.ends.End.{End}
 use Rattle.request_room.specs.declared.quotes.PostedQuote.{PostedQuote}
@@ -63,7 +59,9 @@ use Rattle.laws_days.specs.ActionCases.{if_does, invested_does, numbered_does}
 use Rattle.laws_days.specs.KeptItems.{every_map}
 use Rattle.laws_shown.specs.ShownRequests.{room_of}
 use Rattle.laws_days.proofs.VenueParts.{duties_by}
+use Rattle.laws_days.proofs.NewsWalk.{any_news, news_adds, offer_adds, reply_adds}
 use Rattle.laws_rooms.specs.Told.{IsItsOffer}
+use Rattle.laws_rooms.proofs.RoomWalk.{MayHappen, event_each}
 
 -- What adds no accepted request, and no quote and no decline of a room.
 
@@ -105,35 +103,21 @@ module _ (config : Configuration) (facts : List Fact) where
   abbrev AtRoom : RoomRef → RoomFact → Type 0
   AtRoom room fact = IsOther (InRoom room fact)
 
-  so_quiet : (room : RoomRef) (is : Bool) (fact : RoomFact) → AtRoom room fact
-      → Every (AtRoom room) (fact_if is fact)
-  so_quiet room true fact other = (other, tt)
-  so_quiet room false fact other = tt
-
-  end_quiet : (room : RoomRef) (outcome : Result End HitRefusal) (moment : ℕ)
-      → Every (AtRoom room) (end_by outcome moment)
-  end_quiet room (Ok award) moment = (tt, tt)
-  end_quiet room (Err why) moment = tt
-
   abbrev IsNoPost : RoomEvent → Type 0
   IsNoPost (at_room.Post dealer word price until) = ⊥
   IsNoPost (at_room.Decline dealer) = ⊥
   IsNoPost event = Unit {0}
 
+  quiet_may : (room : RoomRef) (event : RoomEvent) → IsNoPost event → MayHappen (AtRoom room) event
+  quiet_may room (at_room.Post dealer word price until) isnt = absurd isnt
+  quiet_may room (at_room.Decline dealer) isnt = absurd isnt
+  quiet_may room (at_room.Hit word moment settlement) isnt = λ end. tt
+  quiet_may room other isnt = tt
+
   event_quiet : (room : RoomRef) (known : List RoomFact) (event : RoomEvent) → IsNoPost event
       → Every (AtRoom room) (event_facts known event)
-  unfolding event_facts
-  event_quiet room known (at_room.Open request) isnt = so_quiet room (is_vacant known) (Opened request) tt
-  event_quiet room known at_room.Ready isnt = so_quiet room (is_opening known) Readied tt
-  event_quiet room known (at_room.Post dealer word price until) isnt = absurd isnt
-  event_quiet room known (at_room.Unpost dealer word) isnt =
-      so_quiet room (may_unpost known dealer word) (Unposted dealer word) tt
-  event_quiet room known (at_room.Decline dealer) isnt = absurd isnt
-  event_quiet room known (at_room.Hit word moment settlement) isnt =
-      end_quiet room (hit_outcome known word moment settlement) moment
-  event_quiet room known (at_room.Pass moment) isnt = so_quiet room (is_open known) (Ended passed moment) tt
-  event_quiet room known (at_room.Expire moment) isnt =
-      so_quiet room (may_expire known moment) (Ended expired moment) tt
+  event_quiet room known event isnt =
+      event_each (AtRoom room) known event (quiet_may room event isnt)
 
   room_quiet : (room : RoomRef) (event : RoomEvent) (left : List Duty) → IsNoPost event
       → Quiet (event_in config facts room event left)
@@ -149,41 +133,6 @@ module _ (config : Configuration) (facts : List Fact) where
 
     abbrev AtThis : InvestorEntry → Type 0
     AtThis entry = IsOther (AtInvestor market.firm entry)
-
-    gone_so : (number : ℕ) (found : Option ShownOffer)
-        → Every AtDesk (investor_output.gone_facts number found)
-    gone_so number None = tt
-    gone_so number (Some shown) = (tt, tt)
-
-    offer_so : (book : InvestorBook) (number : ℕ) (offer : Offer) (own : Option StandingRequest)
-        → Every AtDesk (investor_output.offer_facts book number offer own)
-    offer_so book number offer None = tt
-    offer_so book number offer (Some own) =
-        every_both AtDesk (investor_output.gone_facts number (investor_facts.offer_of_dealer own offer.dealer))
-        (investor_facts.Offered (investor_output.next_offer book number offer) ∷ [])
-        (gone_so number (investor_facts.offer_of_dealer own offer.dealer)) (tt, tt)
-
-    withdrawal_so : (number word : ℕ) (own : Option StandingRequest)
-        → Every AtDesk (investor_output.withdrawal_facts number word own)
-    withdrawal_so number word None = tt
-    withdrawal_so number word (Some own) = gone_so number (investor_facts.offer_with_word own word)
-
-    closed_so : (number : ℕ) (found : Option RequestClose)
-        → Every AtDesk (investor_output.closed_facts number found)
-    closed_so number None = tt
-    closed_so number (Some how) = (tt, tt)
-
-    answer_so : (book : InvestorBook) (number : ℕ) (response : ResponseRef) (answer : Reply)
-        (own : Option StandingRequest)
-        → Every AtDesk (investor_output.answer_facts book number response answer own)
-    answer_so book number response answer None = tt
-    answer_so book number response answer (Some own) =
-        closed_so number (investor_output.close_by_answer book response (investor_output.refusal_of answer))
-
-    expiry_so : (number : ℕ) (own : Option StandingRequest)
-        → Every AtDesk (investor_output.expiry_facts number own)
-    expiry_so number None = tt
-    expiry_so number (Some own) = (tt, tt)
 
     market_quiet : (event : InvestorEvent) (duties : List Duty)
         → Every AtDesk (investor_output.event_facts market
@@ -253,19 +202,16 @@ module _ (config : Configuration) (facts : List Fact) where
   unfolding investor_output.event_facts
   at_desks (duty.Relay room offer moment) = λ row found.
       let book = investor_trail.book_by (of_investor room.investor facts) in
-      offer_so (market_of config room.investor row) book room.n offer (investor_facts.open_request book room.n)
-  at_desks (duty.Gone room word moment) = λ row found.
-      withdrawal_so (market_of config room.investor row) room.n word
-      (investor_facts.open_request (investor_trail.book_by (of_investor room.investor facts)) room.n)
-  at_desks (duty.Declined room moment) = λ dealer row found. tt
+      offer_adds (AtDesk (market_of config room.investor row)) book room.n offer (λ quote. tt) tt
+      (investor_facts.open_request book room.n)
   at_desks (duty.Answer room response answer moment) = λ fits row found.
       let book = investor_trail.book_by (of_investor room.investor facts) in
-      answer_so (market_of config room.investor row) book room.n response answer
-      (investor_facts.request_numbered book room.n)
-  at_desks (duty.Close room moment) = λ row found.
-      expiry_so (market_of config room.investor row) room.n
-      (investor_facts.request_numbered (investor_trail.book_by (of_investor room.investor facts)) room.n)
-  at_desks other = tt
+      reply_adds (AtDesk (market_of config room.investor row)) book room.n response answer
+      (λ how. tt) (investor_facts.request_numbered book room.n)
+  at_desks other = any_news AddsOther config other tt (λ number row found event news.
+      news_adds (AtDesk (market_of config number row)) (market_of config number row)
+      (investor_trail.book_by (of_investor number facts)) event news
+      (λ request word moment is quote. tt) (λ request. tt))
 
   in_rooms : (by : Actor) (d : Duty) → IsNoPosting d → RoomMay AddsNoPost config facts by d
   in_rooms by (duty.Post room quote price valid_until moment) isnt = absurd isnt

@@ -15,13 +15,12 @@ use Rattle.venue_steps.specs.declared.actors.Actor.TheVariants as actor
 use Rattle.venue_steps.specs.RoomSteps.{hit_word}
 use Rattle.investor_desk.specs.InvestorDesk.{market_of}
 use Rattle.investor_desk.specs.InvestorFacts.{InvestorBook, InvestorFact, Offered, StandingRequest}
-use Rattle.investor_desk.specs.InvestorFacts.{offer_of_dealer, offer_with_word, offers_of, open_request}
+use Rattle.investor_desk.specs.InvestorFacts.{offer_of_dealer, offers_of, open_request}
 use Rattle.investor_desk.specs.InvestorFacts.{request_numbered}
 use Rattle.investor_desk.specs.InvestorOutput as investor_output
 use Rattle.investor_desk.specs.InvestorRules.{InvestorMarket, investor_verdict}
 use Rattle.investor_desk.specs.declared.events.InvestorEvent.{InvestorEvent}
 use Rattle.investor_desk.specs.declared.events.InvestorEvent.TheVariants as at_investor
-use Rattle.investor_desk.specs.declared.standing.RequestClose.{RequestClose}
 use Rattle.investor_desk.specs.declared.standing.ShownOffer.{ShownOffer}
 use Rattle.investor_desk.specs.declared.verdicts.InvestorVerdict.{InvestorVerdict}
 use Rattle.investor_desk.specs.declared.verdicts.InvestorVerdict.TheVariants as asks
@@ -40,10 +39,13 @@ use Rattle.step_replay.specs.PlaceLemmas.{own_investor}
 use Rattle.step_replay.specs.VenueFacts.{AtInvestor, Fact, InRoom, of_dealer, of_investor, of_room}
 use Rattle.step_replay.specs.declared.steps.Step.{Step}
 use Rattle.step_replay.specs.declared.steps.Step.TheVariants as step
+use Rattle.step_replay.specs.Lists.{Every}
+use Rattle.laws_days.proofs.NewsWalk.{news_adds, reply_adds}
 use Rattle.laws_shown.specs.ShownQuotes.{shown_to}
 use Rattle.laws_shown.proofs.ListLemmas.{AreFrom, from_both}
 use Rattle.laws_shown.proofs.ShownMarket.{entries_facts}
 use Rattle.laws_shown.proofs.ShownParts.{shown_grown}
+use Rattle.laws_shown.proofs.ShownQuiet.{NoOffer, no_offers}
 use Rattle.laws_rooms.proofs.StandLemmas.{number_of}
 
 -- What an event shows bears the next number.
@@ -69,37 +71,17 @@ module _ (market : InvestorMarket) (book : InvestorBook) where
       by_old None = (next, tt)
       by_old (Some old) = (next, tt)
 
-  gone_on : (request : ℕ) (found : Option ShownOffer) → GoOn (investor_output.gone_facts request found)
-  gone_on request None = tt
-  gone_on request (Some shown) = tt
-
-  withdrawn_on : (request word : ℕ) (own : Option StandingRequest)
-      → GoOn (investor_output.withdrawal_facts request word own)
-  withdrawn_on request word None = tt
-  withdrawn_on request word (Some own) = gone_on request (offer_with_word own word)
-
-  closed_on : (request : ℕ) (close : Option RequestClose) → GoOn (investor_output.closed_facts request close)
-  closed_on request None = tt
-  closed_on request (Some close) = tt
-
-  expired_on : (request : ℕ) (own : Option StandingRequest) → GoOn (investor_output.expiry_facts request own)
-  expired_on request None = tt
-  expired_on request (Some own) = tt
+  none_on : (facts : List InvestorFact) → Every NoOffer facts → GoOn facts
+  none_on facts none = rw (no_offers facts none) tt
 
   event_on : (event : InvestorEvent) → GoOn (investor_output.event_facts market book event)
   unfolding investor_output.event_facts
   event_on (at_investor.Received moment bytes) = said_on (investor_verdict market book moment bytes)
   event_on (at_investor.QuoteCame request offer moment) = came_on request offer (open_request book request)
-  event_on (at_investor.QuoteGone request word moment) = withdrawn_on request word (open_request book request)
-  event_on (at_investor.DealerDeclined request dealer moment) = tt
-  event_on (at_investor.Answered request response reply moment) = answered (request_numbered book request)
-    where
-      answered : (own : Option StandingRequest)
-          → GoOn (investor_output.answer_facts book request response reply own)
-      answered None = tt
-      answered (Some own) = closed_on request
-          (investor_output.close_by_answer book response (investor_output.refusal_of reply))
-  event_on (at_investor.Closed request moment) = expired_on request (request_numbered book request)
+  event_on (at_investor.Answered request response reply moment) =
+      none_on _ (reply_adds NoOffer book request response reply (λ how. tt) (request_numbered book request))
+  event_on other = none_on (investor_output.event_facts market book other)
+      (news_adds NoOffer market book other tt (λ request word moment is quote. tt) (λ request. tt))
 
 module _ (config : Configuration) (investor : ℕ) where
   abbrev pub AreNumbered : List Fact → Type 0

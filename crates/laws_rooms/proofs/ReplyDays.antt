@@ -137,14 +137,14 @@ module _ (lone : LoneQuotes) (words : WordsOfDay) (config : Configuration) (inve
       (duty.Answer (record { investor = i; n = room.n }) response reply moment)).facts) (named response moment ∷ []))
       (sym (same_firm room.investor investor (sym own ∙ one)))
       (answer_own config facts investor row is by room.n response reply moment) fit
-  turn_mine facts by other own fit one = (duty_quiet answers config facts investor row is by other (hushed other tt)).says
+  turn_mine facts by other own fit one = (duty_quiet answers config facts investor row is by other (hushed config other tt)).says
 
   turn_other : (facts : List Fact) (by : Actor) (d : Duty) → OwnReply by d
       → is_same_actor by me ≡ false → Says answers market (sent (duty_effect config facts by d).facts) []
   turn_other facts by (duty.Answer room response reply moment) own differs =
       (answer_other answers config facts investor row is by room response reply moment
       (ap (λ (a : Actor). is_same_actor a me) (sym own) ∙ differs)).says
-  turn_other facts by other own differs = (duty_quiet answers config facts investor row is by other (hushed other tt)).says
+  turn_other facts by other own differs = (duty_quiet answers config facts investor row is by other (hushed config other tt)).says
 
   module _ (venue : AuditTrail) (stood : VenueOk config venue) (by : Actor) (d : Duty) (rest : List Duty)
       (waits : pending by venue ≡ d ∷ rest) where

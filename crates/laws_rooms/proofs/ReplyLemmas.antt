@@ -16,9 +16,10 @@ use Rattle.venue_steps.specs.declared.actors.Actor.{Actor}
 use Rattle.venue_steps.specs.InvestorSteps.{replies_to}
 use Rattle.investor_desk.specs.InvestorDesk.{market_of}
 use Rattle.investor_desk.specs.InvestorFacts.{InvestorBook, StandingRequest, offer_of_dealer}
-use Rattle.investor_desk.specs.InvestorFacts.{offer_with_word, open_request, request_numbered}
+use Rattle.investor_desk.specs.InvestorFacts.{open_request, request_numbered}
 use Rattle.investor_desk.specs.InvestorOutput as investor_output
 use Rattle.investor_desk.specs.InvestorRules.{InvestorMarket, investor_verdict}
+use Rattle.investor_desk.specs.declared.events.InvestorEvent.{InvestorEvent}
 use Rattle.investor_desk.specs.declared.events.InvestorEvent.TheVariants as at_investor
 use Rattle.investor_desk.specs.declared.standing.ShownOffer.{ShownOffer}
 use Rattle.investor_desk.specs.declared.verdicts.InvestorVerdict.{InvestorVerdict}
@@ -29,7 +30,8 @@ use Rattle.step_replay.specs.InvestorTrail as investor_trail
 use Rattle.step_replay.specs.VenueFacts.{Fact, of_investor}
 use Rattle.laws_days.specs.Conditions.{holds_for, is_known_to, is_met}
 use Rattle.laws_rooms.specs.Responses.{Response, answers}
-use Rattle.laws_rooms.proofs.SaidLemmas.{IsHushed, IsSilent, Says, event_says}
+use Rattle.laws_days.proofs.NewsWalk.{IsNews, any_news, news_says, none_given}
+use Rattle.laws_rooms.proofs.SaidLemmas.{IsHushed, IsSilent, Says, Silent, Silently, event_says}
 
 -- what an answer that is due answers
 abbrev pub reply_in : Duty → Option Response
@@ -43,11 +45,6 @@ named response moment = record { id = response.id; moment = moment; quote = resp
 
 -- Events that answer no hit and no pass.
 
-gone_silent : (moment : ℕ) (own : StandingRequest) (found : Option ShownOffer)
-    → filter_map (answers moment) (option_to_list (option_map (investor_output.gone_message own) found)) ≡ []
-gone_silent moment own None = refl
-gone_silent moment own (Some shown) = refl
-
 offer_silent : (book : InvestorBook) (request moment : ℕ) (offer : Offer) (own : Option StandingRequest)
     → filter_map (answers moment) (investor_output.offer_messages book request offer own) ≡ []
 offer_silent book request moment offer None = refl
@@ -59,32 +56,21 @@ offer_silent book request moment offer (Some own) = by_found (offer_of_dealer ow
     by_found None = refl
     by_found (Some shown) = refl
 
-withdrawal_silent : (word moment : ℕ) (own : Option StandingRequest)
-    → filter_map (answers moment) (investor_output.withdrawal_messages word own) ≡ []
-withdrawal_silent word moment None = refl
-withdrawal_silent word moment (Some own) = gone_silent moment own (offer_with_word own word)
-
-decline_silent : (dealer : List ℕ) (moment : ℕ) (own : Option StandingRequest)
-    → filter_map (answers moment) (investor_output.decline_messages dealer own) ≡ []
-decline_silent dealer moment None = refl
-decline_silent dealer moment (Some own) = refl
-
-expiry_silent : (moment : ℕ) (own : Option StandingRequest)
-    → filter_map (answers moment) (investor_output.expiry_messages own) ≡ []
-expiry_silent moment None = refl
-expiry_silent moment (Some own) = refl
+news_silent : (market : InvestorMarket) (book : InvestorBook) (event : InvestorEvent) → IsNews event
+    → Silent answers market book event
+news_silent market book event news =
+    let moment = investor_output.moment_of event in
+    none_given (answers moment) (investor_output.event_messages market book event)
+    (news_says (λ message. answers moment message ≡ None) market book event news (λ request own stands. record {
+      gone = λ its word when is shown. refl;
+      declined = λ its dealer when is. refl;
+      expired = refl;
+    }))
 
 verdict_silent : (moment : ℕ) (v : InvestorVerdict)
     → filter_map (answers moment) (option_to_list (investor_output.verdict_message v)) ≡ []
 verdict_silent moment asks.Dropped = refl
-verdict_silent moment (asks.OutOfSequence reject) = refl
-verdict_silent moment (asks.Rejected reject) = refl
-verdict_silent moment (asks.RequestRefused request bond refusal) = refl
-verdict_silent moment (asks.HitUnknown id quote) = refl
-verdict_silent moment (asks.PassUnknown id request) = refl
-verdict_silent moment (asks.RequestAccepted id request) = refl
-verdict_silent moment (asks.Hits request response word) = refl
-verdict_silent moment (asks.Passes request response) = refl
+verdict_silent moment other = refl
 
 pub received_silent : (moment : ℕ) (bytes : List ℕ) → IsSilent answers (at_investor.Received moment bytes)
 unfolding investor_output.event_messages
@@ -94,17 +80,13 @@ abbrev pub IsNoAnswer : Duty → Type 0
 IsNoAnswer (duty.Answer room response reply moment) = ⊥
 IsNoAnswer d = Unit {0}
 
-pub hushed : (d : Duty) → IsNoAnswer d → IsHushed answers d
+pub hushed : (config : Configuration) (d : Duty) → IsNoAnswer d → IsHushed answers config d
 unfolding investor_output.event_messages
-hushed (duty.Relay room offer moment) isnt = λ market book.
+hushed config (duty.Relay room offer moment) isnt = λ row found market book.
     offer_silent book room.n moment offer (open_request book room.n)
-hushed (duty.Gone room word moment) isnt = λ market book.
-    withdrawal_silent word moment (open_request book room.n)
-hushed (duty.Declined room moment) isnt = λ dealer market book.
-    decline_silent dealer moment (open_request book room.n)
-hushed (duty.Answer room response reply moment) isnt = absurd isnt
-hushed (duty.Close room moment) isnt = λ market book. expiry_silent moment (request_numbered book room.n)
-hushed other isnt = tt
+hushed config (duty.Answer room response reply moment) isnt = absurd isnt
+hushed config other isnt = any_news (Silently answers) config other tt (λ number row found event news market book.
+    news_silent market book event news)
 
 -- An answer answers its response.
 

@@ -1,7 +1,7 @@
 -- An investor is sent a message for each quote that is gone by the facts at its desk, after every list of steps.
 use Rattle.std.proofs.Common.{◌≡◌, ◌==◌, ◌+◌, ℕ, List, [], ◌∷◌, ◌++◌, fold, length, map}
-use Rattle.std.proofs.Common.{filter_map, Option, Some, None, is_none, option_map, option_to_list, refl, sym, ap}
-use Rattle.std.proofs.Common.{◌∙◌, subst, inl, inr, Result, Ok, Err, if◌then◌else◌}
+use Rattle.std.proofs.Common.{filter_map, Option, Some, None, option_map, option_to_list, refl, sym, ap}
+use Rattle.std.proofs.Common.{◌∙◌, subst, inl, inr, Result, Ok, Err}
 use Rattle.std.proofs.lemmas.Bool.{cases_Bool, eqb-true}
 use Rattle.std.proofs.lemmas.List.{map-append}
 use Rattle.std.proofs.lemmas.List.Elements.{filter_map-append}
@@ -20,7 +20,6 @@ use Rattle.venue_steps.specs.RoomSteps.{hit_word}
 use Rattle.investor_desk.specs.InvestorDesk.{market_of}
 use Rattle.investor_desk.specs.InvestorFacts.{Asked, InvestorBook, InvestorFact, Offered, StandingRequest, book_of}
 use Rattle.investor_desk.specs.InvestorFacts.{offer_of_dealer, offer_with_word, open_request, request_numbered}
-use Rattle.investor_desk.specs.InvestorFacts.{while_open}
 use Rattle.investor_desk.specs.InvestorOutput as investor_output
 use Rattle.investor_desk.specs.InvestorRules.{InvestorMarket, investor_verdict}
 use Rattle.investor_desk.specs.declared.events.InvestorEvent.{InvestorEvent}
@@ -50,6 +49,7 @@ use Rattle.step_replay.specs.PlaceLemmas.{own_investor}
 use Rattle.step_replay.specs.VenueFacts.{Fact, InRoom, of_dealer, of_investor, of_room}
 use Rattle.step_replay.specs.declared.steps.Step.{Step}
 use Rattle.step_replay.specs.declared.steps.Step.TheVariants as step
+use Rattle.laws_days.proofs.NewsWalk.{news_adds, news_says, none_given, while_found}
 use Rattle.laws_shown.proofs.ShownMarket.{entries_facts, requests_in}
 use Rattle.laws_shown.specs.ShownRequests.{at_investor as market_facts}
 use Rattle.laws_rooms.specs.Reports.{AreReported, gone_in, reports}
@@ -89,26 +89,9 @@ module _ (market : InvestorMarket) (facts : List InvestorFact) where
   said_none : (v : InvestorVerdict) (moment at : ℕ) (bytes : List ℕ)
       → Reports (option_to_list (investor_output.verdict_message v)) (investor_output.own_facts at bytes v) moment
   said_none asks.Dropped moment at bytes = none_of_them _ _ moment refl refl
-  said_none (asks.OutOfSequence reject) moment at bytes = none_of_them _ _ moment refl refl
-  said_none (asks.Rejected reject) moment at bytes = none_of_them _ _ moment refl refl
-  said_none (asks.RequestRefused request bond refusal) moment at bytes = none_of_them _ _ moment refl refl
-  said_none (asks.HitUnknown id quote) moment at bytes = none_of_them _ _ moment refl refl
-  said_none (asks.PassUnknown id request) moment at bytes = none_of_them _ _ moment refl refl
-  said_none (asks.RequestAccepted id request) moment at bytes = none_of_them _ _ moment refl refl
-  said_none (asks.Hits request response word) moment at bytes = none_of_them _ _ moment refl refl
-  said_none (asks.Passes request response) moment at bytes = none_of_them _ _ moment refl refl
+  said_none other moment at bytes = none_of_them _ _ moment refl refl
 
   -- a request that is open is one that was accepted under its number
-  while_is : (found : Option StandingRequest) (own : StandingRequest) → while_open found ≡ Some own
-      → found ≡ Some own
-  while_is None own is = cc
-  while_is (Some other) own is = by_close other.close is
-    where
-      by_close : (close : Option RequestClose) → (if is_none close then Some other else None) ≡ Some own
-          → Some other ≡ Some own
-      by_close None at = at
-      by_close (Some how) at = cc
-
   record IsAccepted (request : ℕ) (own : StandingRequest) : Type 0 where
     pub accepted : In (Asked own.request) facts
     pub number_is : own.request.number ≡ request
@@ -118,7 +101,7 @@ module _ (market : InvestorMarket) (facts : List InvestorFact) where
   unfolding request_numbered
   accepted_so request own is =
       let there = found_there (λ (r : StandingRequest). r.request.number == request) book.requests own
-      (while_is (request_numbered book request) own is) in
+      (while_found (request_numbered book request) own is) in
       record {
         accepted = requests_in facts own there.0;
         number_is = eqb-true own.request.number request there.1;
@@ -172,12 +155,6 @@ module _ (market : InvestorMarket) (facts : List InvestorFact) where
       came_reports request offer moment (open_request book request) refl
   event_reports (at_investor.QuoteGone request word moment) =
       gone_reports request word moment (open_request book request) refl
-  event_reports (at_investor.DealerDeclined request dealer moment) = declined (open_request book request)
-    where
-      declined : (found : Option StandingRequest)
-          → Reports (investor_output.decline_messages dealer found) [] moment
-      declined None = none_of_them _ _ moment refl refl
-      declined (Some own) = none_of_them _ _ moment refl refl
   event_reports (at_investor.Answered request response reply moment) = answered (request_numbered book request)
     where
       by_close : (own : StandingRequest) (id : List ℕ) (k : Option ℕ) (why : Option HitRefusal)
@@ -195,12 +172,18 @@ module _ (market : InvestorMarket) (facts : List InvestorFact) where
       answered None = none_of_them _ _ moment refl refl
       answered (Some own) = by_close own response.id response.k (investor_output.refusal_of reply)
           (investor_output.close_by_answer book response (investor_output.refusal_of reply))
-  event_reports (at_investor.Closed request moment) = expired (request_numbered book request)
-    where
-      expired : (found : Option StandingRequest)
-          → Reports (investor_output.expiry_messages found) (investor_output.expiry_facts request found) moment
-      expired None = none_of_them _ _ moment refl refl
-      expired (Some own) = none_of_them _ _ moment refl refl
+  event_reports other =
+      let moment = investor_output.moment_of other in
+      none_of_them _ _ moment
+      (none_given (reports moment) (investor_output.event_messages market book other)
+      (news_says (λ message. reports moment message ≡ None) market book other tt (λ request own stands. record {
+        gone = λ its word when at shown. cc;
+        declined = λ its dealer when at. refl;
+        expired = refl;
+      })))
+      (none_given gone_in (investor_output.event_facts market book other)
+      (news_adds (λ fact. gone_in fact ≡ None) market book other tt (λ its word when at quote. cc)
+      (λ its. refl)))
 
 -- What an action reports.
 

@@ -53,6 +53,40 @@ lifted_none room None outcome = refl
 lifted_none room (Some hit) (Ok award) = refl
 lifted_none room (Some hit) (Err why) = refl
 
+module _ (P : RoomFact → Type 0) where
+  -- what an event may add
+  abbrev pub MayHappen : RoomEvent → Type 0
+  MayHappen (at_room.Open request) = P (Opened request)
+  MayHappen at_room.Ready = P Readied
+  MayHappen (at_room.Post dealer word price until) = P (Posted (quote_posted dealer word price until))
+  MayHappen (at_room.Unpost dealer word) = P (Unposted dealer word)
+  MayHappen (at_room.Decline dealer) = P (Noted dealer)
+  MayHappen (at_room.Hit word moment settlement) = (end : End) → P (Ended end moment)
+  MayHappen (at_room.Pass moment) = P (Ended passed moment)
+  MayHappen (at_room.Expire moment) = P (Ended expired moment)
+
+  so_each : (b : Bool) (fact : RoomFact) → P fact → Every P (fact_if b fact)
+  so_each true fact is = (is, tt)
+  so_each false fact is = tt
+
+  end_each : (moment : ℕ) → ((end : End) → P (Ended end moment)) → (outcome : Result End HitRefusal)
+      → Every P (end_by outcome moment)
+  end_each moment is (Ok award) = (is award, tt)
+  end_each moment is (Err why) = tt
+
+  pub event_each : (known : List RoomFact) (event : RoomEvent) → MayHappen event → Every P (event_facts known event)
+  unfolding event_facts
+  event_each known (at_room.Open request) is = so_each _ (Opened request) is
+  event_each known at_room.Ready is = so_each _ Readied is
+  event_each known (at_room.Post dealer word price until) is =
+      so_each _ (Posted (quote_posted dealer word price until)) is
+  event_each known (at_room.Unpost dealer word) is = so_each _ (Unposted dealer word) is
+  event_each known (at_room.Decline dealer) is = so_each _ (Noted dealer) is
+  event_each known (at_room.Hit word moment settlement) is =
+      end_each moment is (hit_outcome known word moment settlement)
+  event_each known (at_room.Pass moment) is = so_each _ (Ended passed moment) is
+  event_each known (at_room.Expire moment) is = so_each _ (Ended expired moment) is
+
 module _ (P : RoomFact → Type 0) (config : Configuration) (facts : List Fact) (room : RoomRef) where
   -- each fact that an action adds to the room is so
   pub record Adds (effect : Effect) : Type 0 where
@@ -86,43 +120,10 @@ module _ (P : RoomFact → Type 0) (config : Configuration) (facts : List Fact) 
     | inr differs ↦ subst (Every P) (sym (other_room room at differs happened)) tt
   ]
 
-  -- what an event may add
-  abbrev pub MayHappen : RoomEvent → Type 0
-  MayHappen (at_room.Open request) = P (Opened request)
-  MayHappen at_room.Ready = P Readied
-  MayHappen (at_room.Post dealer word price until) = P (Posted (quote_posted dealer word price until))
-  MayHappen (at_room.Unpost dealer word) = P (Unposted dealer word)
-  MayHappen (at_room.Decline dealer) = P (Noted dealer)
-  MayHappen (at_room.Hit word moment settlement) = (end : End) → P (Ended end moment)
-  MayHappen (at_room.Pass moment) = P (Ended passed moment)
-  MayHappen (at_room.Expire moment) = P (Ended expired moment)
-
-  so_each : (b : Bool) (fact : RoomFact) → P fact → Every P (fact_if b fact)
-  so_each true fact is = (is, tt)
-  so_each false fact is = tt
-
-  end_each : (moment : ℕ) → ((end : End) → P (Ended end moment)) → (outcome : Result End HitRefusal)
-      → Every P (end_by outcome moment)
-  end_each moment is (Ok award) = (is award, tt)
-  end_each moment is (Err why) = tt
-
-  event_each : (known : List RoomFact) (event : RoomEvent) → MayHappen event → Every P (event_facts known event)
-  unfolding event_facts
-  event_each known (at_room.Open request) is = so_each _ (Opened request) is
-  event_each known at_room.Ready is = so_each _ Readied is
-  event_each known (at_room.Post dealer word price until) is =
-      so_each _ (Posted (quote_posted dealer word price until)) is
-  event_each known (at_room.Unpost dealer word) is = so_each _ (Unposted dealer word) is
-  event_each known (at_room.Decline dealer) is = so_each _ (Noted dealer) is
-  event_each known (at_room.Hit word moment settlement) is =
-      end_each moment is (hit_outcome known word moment settlement)
-  event_each known (at_room.Pass moment) is = so_each _ (Ended passed moment) is
-  event_each known (at_room.Expire moment) is = so_each _ (Ended expired moment) is
-
-  event_adds : (at : RoomRef) (event : RoomEvent) (left : List Duty) → MayHappen event
+  event_adds : (at : RoomRef) (event : RoomEvent) (left : List Duty) → MayHappen P event
       → Adds (event_in config facts at event left)
   event_adds at event left is = record {
-    each = placed at (event_facts (of_room at facts) event) (event_each (of_room at facts) event is);
+    each = placed at (event_facts (of_room at facts) event) (event_each P (of_room at facts) event is);
   }
 
   hit_adds : (at : RoomRef) (response : ResponseRef) (word moment : ℕ) (settlement : Option Settled)
@@ -137,12 +138,12 @@ module _ (P : RoomFact → Type 0) (config : Configuration) (facts : List Fact) 
             (every_both P (of_room room lifted) (of_room room (map (InRoom at) happened))
             (subst (Every P)
             (sym (lifted_none room (quote_with_word config word) (hit_outcome known word moment settlement))) tt)
-            (placed at happened (event_each known (at_room.Hit word moment settlement) is)));
+            (placed at happened (event_each P known (at_room.Hit word moment settlement) is)));
       }
 
   -- Duties.
 
-  module _ (Kind : RoomEvent → Type 0) (may : (event : RoomEvent) → Kind event → MayHappen event) where
+  module _ (Kind : RoomEvent → Type 0) (may : (event : RoomEvent) → Kind event → MayHappen P event) where
     walks : Walks AnyDealer AnyInvestor (OfKind Kind) config facts Adds
     walks = record {
       idle = idle;
@@ -164,18 +165,18 @@ module _ (P : RoomFact → Type 0) (config : Configuration) (facts : List Fact) 
 
   -- what a duty may add
   abbrev pub MayAdd : Actor → Duty → Type 0
-  MayAdd by d = RoomMay (OfKind MayHappen) config facts by d
+  MayAdd by d = RoomMay (OfKind (MayHappen P)) config facts by d
 
   pub duty_adds : (by : Actor) (d : Duty) → MayAdd by d → Adds (duty_effect config facts by d)
-  duty_adds by d is = kind_adds MayHappen (λ event so. so) by d is
+  duty_adds by d is = kind_adds (MayHappen P) (λ event so. so) by d is
 
   -- A sweep, and messages of firms.
 
   pub sweep_adds : (at : RoomRef) (moment : ℕ) → P (Ended expired moment)
       → Adds (sweep_effect config facts at moment)
   sweep_adds at moment is =
-      sweep_walks AnyDealer AnyInvestor (OfKind MayHappen) config facts Adds
-      (walks MayHappen (λ event so. so)) at moment is
+      sweep_walks AnyDealer AnyInvestor (OfKind (MayHappen P)) config facts Adds
+      (walks (MayHappen P) (λ event so. so)) at moment is
 
   received_adds : (dealer : Dealer) (moment : ℕ) (bytes : List ℕ)
       → Adds (received_by_dealer config facts moment bytes dealer)

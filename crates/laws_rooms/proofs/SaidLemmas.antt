@@ -144,15 +144,11 @@ module _ {X : Type 0} (f : ℕ → OutMessage → Option X) where
   IsSilent event = (market : InvestorMarket) (book : InvestorBook) → Silent market book event
 
   -- a duty that brings an investor nothing but such an event
-  abbrev pub IsHushed : Duty → Type 0
-  IsHushed (duty.Relay room offer moment) = IsSilent (at_investor.QuoteCame room.n offer moment)
-  IsHushed (duty.Gone room word moment) = IsSilent (at_investor.QuoteGone room.n word moment)
-  IsHushed (duty.Declined room moment) =
-      (dealer : List ℕ) → IsSilent (at_investor.DealerDeclined room.n dealer moment)
-  IsHushed (duty.Answer room response reply moment) =
-      IsSilent (at_investor.Answered room.n response reply moment)
-  IsHushed (duty.Close room moment) = IsSilent (at_investor.Closed room.n moment)
-  IsHushed d = Unit {0}
+  abbrev pub Silently : ℕ → InvestorRow → InvestorEvent → Type 0
+  Silently number row event = IsSilent event
+
+  abbrev pub IsHushed : Configuration → Duty → Type 0
+  IsHushed config d = InvestorMay Silently config d
 
   -- What an effect says to one investor.
 
@@ -267,9 +263,6 @@ module _ {X : Type 0} (f : ℕ → OutMessage → Option X) where
 
     -- Duties.
 
-    abbrev Silently : ℕ → InvestorRow → InvestorEvent → Type 0
-    Silently number other event = IsSilent event
-
     walks : Walks AnyDealer Silently AnyRoom config facts Quiet
     walks = record {
       idle = idle;
@@ -280,18 +273,10 @@ module _ {X : Type 0} (f : ℕ → OutMessage → Option X) where
           hit_quiet at response word moment (settlement_found config facts at word moment);
     }
 
-    may : (d : Duty) → IsHushed d → InvestorMay Silently config d
-    may (duty.Relay room offer moment) hushed = λ other found. hushed
-    may (duty.Gone room word moment) hushed = λ other found. hushed
-    may (duty.Declined room moment) hushed = λ dealer other found. hushed dealer
-    may (duty.Answer room response reply moment) hushed = λ fits other found. hushed
-    may (duty.Close room moment) hushed = λ other found. hushed
-    may other hushed = tt
-
-    pub duty_quiet : (by : Actor) (d : Duty) → IsHushed d → Quiet (duty_effect config facts by d)
+    pub duty_quiet : (by : Actor) (d : Duty) → IsHushed config d → Quiet (duty_effect config facts by d)
     duty_quiet by d hushed =
         duty_walks AnyDealer Silently AnyRoom config facts Quiet walks by d
-        (any_dealer AnyDealer config facts by d (λ number other event left is. tt)) (may d hushed)
+        (any_dealer AnyDealer config facts by d (λ number other event left is. tt)) hushed
         (any_room AnyRoom config facts by d (λ at event left is. tt))
 
     pub sweep_quiet : (room : RoomRef) (moment : ℕ) → Quiet (sweep_effect config facts room moment)

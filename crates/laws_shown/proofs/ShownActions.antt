@@ -43,9 +43,9 @@ use Rattle.laws_days.specs.DutyWalk.{DealerMay, InvestorMay, NoHitThere, RoomMay
 use Rattle.laws_days.specs.DutyWalk.{sweep_walks}
 use Rattle.laws_days.specs.KeptItems.{every_all, every_map}
 use Rattle.laws_days.specs.MayLeave.{AreTold, follows, if_each, outcome_each, shown_each, told_each}
+use Rattle.laws_days.proofs.NewsWalk.{any_news}
 use Rattle.laws_shown.specs.ShownRequests.{at_dealer}
-use Rattle.laws_shown.proofs.ShownComes.{answered_brings, asked_brings, closed_brings}
-use Rattle.laws_shown.proofs.ShownComes.{declined_brings, gone_brings}
+use Rattle.laws_shown.proofs.ShownComes.{answered_brings, asked_brings, news_brings}
 use Rattle.laws_shown.proofs.ShownDesk.{Brings, Stood, idle, shown_brings, told_brings}
 use Rattle.step_replay.specs.PlaceLemmas.{investor_grown}
 use Rattle.laws_shown.proofs.ShownParts.{turn_none, DutyOk, FactOk, Posts, each_later}
@@ -250,15 +250,10 @@ module _ (config : Configuration) (facts : List Fact) (stood : Stood config fact
     at_investors : (d : Duty) → DutyOk config facts by d → InvestorMay InvestorShows config d
     at_investors (duty.Relay room offer moment) ok = λ row is.
         came_brings config facts by room.investor row stood is room.n offer moment ok
-    at_investors (duty.Gone room word moment) ok =
-        λ row is. gone_brings config facts by room.investor row room.n word moment
-    at_investors (duty.Declined room moment) ok =
-        λ dealer row is. declined_brings config facts by room.investor row room.n dealer moment
     at_investors (duty.Answer room response reply moment) ok =
         λ fits row is. answered_brings config facts by room.investor row room.n response reply moment
-    at_investors (duty.Close room moment) ok =
-        λ row is. closed_brings config facts by room.investor row room.n moment
-    at_investors other ok = tt
+    at_investors other ok = any_news InvestorShows config other tt
+        (λ number row is more news. news_brings config facts by number row more news)
 
     -- a post of a quote of the dealer that acts
     posts : (room : RoomRef) (quote price : ℕ) (valid_until : Option ℕ) (moment : ℕ)

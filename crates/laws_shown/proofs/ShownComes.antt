@@ -1,7 +1,7 @@
 -- What a message of an investor and a quote that comes to it bring of what is shown, and all else
 -- that comes to its desk.
 use Rattle.std.proofs.Common.{◌≡◌, ℕ, ◌+◌, true, false, List, [], ◌++◌, length}
-use Rattle.std.proofs.Common.{Option, Some, None, option_map, refl, inl, inr, arith}
+use Rattle.std.proofs.Common.{Option, Some, None, refl, inl, inr, arith}
 use Rattle.std.specs.Option.{option_to_list}
 use Rattle.market_terms.specs.declared.closes.HitRefusal.{HitRefusal}
 use Rattle.market_terms.specs.declared.closes.Reply.{Reply}
@@ -12,28 +12,25 @@ use Rattle.venue_rows.specs.declared.investor_rows.InvestorRow.{InvestorRow}
 use Rattle.venue_steps.specs.declared.actors.Actor.{Actor}
 use Rattle.investor_desk.specs.InvestorDesk.{market_of}
 use Rattle.investor_desk.specs.InvestorFacts.{Asked, Came, InvestorBook, InvestorFact}
-use Rattle.investor_desk.specs.InvestorFacts.{StandingRequest, offer_with_word}
-use Rattle.investor_desk.specs.InvestorFacts.{offers_of, open_request, request_numbered}
+use Rattle.investor_desk.specs.InvestorFacts.{StandingRequest}
+use Rattle.investor_desk.specs.InvestorFacts.{offers_of, request_numbered}
 use Rattle.investor_desk.specs.InvestorFacts.{requests_of}
-use Rattle.investor_desk.specs.InvestorOutput.{answer_facts, answer_messages, close_by_answer}
-use Rattle.investor_desk.specs.InvestorOutput.{closed_facts, decline_messages, event_facts}
-use Rattle.investor_desk.specs.InvestorOutput.{event_messages, expiry_facts, expiry_messages}
-use Rattle.investor_desk.specs.InvestorOutput.{gone_facts, gone_message}
+use Rattle.investor_desk.specs.InvestorOutput.{answer_messages}
+use Rattle.investor_desk.specs.InvestorOutput.{event_facts}
+use Rattle.investor_desk.specs.InvestorOutput.{event_messages}
 use Rattle.investor_desk.specs.InvestorOutput.{own_facts}
 use Rattle.investor_desk.specs.InvestorOutput.{refusal_of, response_message}
 use Rattle.investor_desk.specs.InvestorOutput.{verdict_duty, verdict_facts, verdict_message}
-use Rattle.investor_desk.specs.InvestorOutput.{withdrawal_facts, withdrawal_messages}
 use Rattle.investor_desk.specs.InvestorRules.{InvestorMarket, investor_verdict}
 use Rattle.investor_desk.specs.declared.events.InvestorEvent.{InvestorEvent}
 use Rattle.investor_desk.specs.declared.events.InvestorEvent.TheVariants as event
-use Rattle.investor_desk.specs.declared.standing.RequestClose.{RequestClose}
-use Rattle.investor_desk.specs.declared.standing.ShownOffer.{ShownOffer}
 use Rattle.investor_desk.specs.declared.verdicts.InvestorVerdict.{InvestorVerdict}
 use Rattle.investor_desk.specs.declared.verdicts.InvestorVerdict.TheVariants as verdict
 use Rattle.step_replay.specs.Actions.{at_market, left_by_investor, received_by_investor}
 use Rattle.step_replay.specs.InvestorTrail.{AtDesk, book_by}
 use Rattle.step_replay.specs.Lists.{Every, In}
 use Rattle.step_replay.specs.VenueFacts.{Fact, of_investor}
+use Rattle.laws_days.proofs.NewsWalk.{IsNews, news_adds, news_says, reply_adds}
 use Rattle.laws_shown.specs.ShownRequests.{at_investor}
 use Rattle.laws_shown.proofs.AcceptedRequests.{AcceptOk, verdict_accepts}
 use Rattle.laws_shown.proofs.ListLemmas.{AreFrom}
@@ -110,14 +107,9 @@ module _ (config : Configuration) (facts : List Fact) (by : Actor) (firm : ℕ) 
         → AcceptOk market book moment bytes v
         → Every (λ (m : OutMessage). shows m ≡ false) (option_to_list (verdict_message v))
     said_plain moment bytes verdict.Dropped accepts = tt
-    said_plain moment bytes (verdict.OutOfSequence reject) accepts = (refl, tt)
-    said_plain moment bytes (verdict.Rejected reject) accepts = (refl, tt)
-    said_plain moment bytes (verdict.RequestRefused request bond refusal) accepts = (refl, tt)
-    said_plain moment bytes (verdict.HitUnknown id quote) accepts = (refl, tt)
-    said_plain moment bytes (verdict.PassUnknown id request) accepts = (refl, tt)
-    said_plain moment bytes (verdict.RequestAccepted id request) accepts = (refl, tt)
     said_plain moment bytes (verdict.Hits request response word) accepts = tt
     said_plain moment bytes (verdict.Passes request response) accepts = tt
+    said_plain moment bytes other accepts = (refl, tt)
 
     said_offers : (v : InvestorVerdict) → offers_of (verdict_facts v) ≡ []
     said_offers (verdict.RequestAccepted id request) = refl
@@ -141,72 +133,31 @@ module _ (config : Configuration) (facts : List Fact) (by : Actor) (firm : ℕ) 
         (event_messages market book more) (said_plain moment bytes v accepts)))
         (said_left is_investor moment bytes now v stands)
 
-    -- What comes from a room and shows nothing: that a quote is gone, that a dealer declined, the
-    -- reply to a response, that the request expired.
+    -- What comes from a room and shows nothing: news, and the reply to a response.
 
-    gone_stands : (more : InvestorEvent) (number : ℕ) (found : Option ShownOffer)
-        → Every (IsPlain config facts by firm row more []) (gone_facts number found)
-    gone_stands more number None = tt
-    gone_stands more number (Some shown) = (tt, tt)
-
-    pub gone_plain : (own : StandingRequest) (found : Option ShownOffer)
-        → Every (λ (m : OutMessage). shows m ≡ false)
-        (option_to_list (option_map (gone_message own) found))
-    gone_plain own None = tt
-    gone_plain own (Some shown) = (refl, tt)
-
-    pub gone_brings : (number word moment : ℕ)
-        → Brings config facts by (at_market facts market (event.QuoteGone number word moment) [])
-    unfolding event_facts event_messages
-    gone_brings number word moment =
-        plain_brings config facts by firm row (event.QuoteGone number word moment) []
-        (stands (open_request book number)) (says (open_request book number)) tt
-      where
-        stands : (found : Option StandingRequest)
-            → Every (IsPlain config facts by firm row (event.QuoteGone number word moment) [])
-            (withdrawal_facts number word found)
-        stands None = tt
-        stands (Some own) =
-            gone_stands (event.QuoteGone number word moment) number (offer_with_word own word)
-
-        says : (found : Option StandingRequest)
-            → Every (λ (m : OutMessage). shows m ≡ false) (withdrawal_messages word found)
-        says None = tt
-        says (Some own) = gone_plain own (offer_with_word own word)
-
-    pub declined_brings : (number : ℕ) (dealer : List ℕ) (moment : ℕ)
-        → Brings config facts by
-        (at_market facts market (event.DealerDeclined number dealer moment) [])
-    unfolding event_facts event_messages
-    declined_brings number dealer moment =
-        plain_brings config facts by firm row (event.DealerDeclined number dealer moment) [] tt
-        (says (open_request book number)) tt
-      where
-        says : (found : Option StandingRequest)
-            → Every (λ (m : OutMessage). shows m ≡ false) (decline_messages dealer found)
-        says None = tt
-        says (Some own) = (refl, tt)
+    pub news_brings : (more : InvestorEvent) → IsNews more
+        → Brings config facts by (at_market facts market more [])
+    news_brings more news =
+        plain_brings config facts by firm row more []
+        (news_adds (IsPlain config facts by firm row more []) market book more news
+        (λ request word moment at quote. tt) (λ request. tt))
+        (news_says (λ (m : OutMessage). shows m ≡ false) market book more news
+        (λ request own stands. record {
+          gone = λ request word moment at shown. refl;
+          declined = λ request dealer moment at. refl;
+          expired = refl;
+        })) tt
 
     pub answered_brings : (number : ℕ) (response : ResponseRef) (reply : Reply) (moment : ℕ)
         → Brings config facts by
         (at_market facts market (event.Answered number response reply moment) [])
     unfolding event_facts event_messages
     answered_brings number response reply moment =
-        plain_brings config facts by firm row (event.Answered number response reply moment) []
-        (stands (request_numbered book number)) (says (request_numbered book number)) tt
+        let answered = event.Answered number response reply moment in
+        plain_brings config facts by firm row answered []
+        (reply_adds (IsPlain config facts by firm row answered []) book number response reply
+        (λ how. tt) (request_numbered book number)) (says (request_numbered book number)) tt
       where
-        closes : (close : Option RequestClose)
-            → Every (IsPlain config facts by firm row (event.Answered number response reply moment) [])
-            (closed_facts number close)
-        closes None = tt
-        closes (Some close) = (tt, tt)
-
-        stands : (found : Option StandingRequest)
-            → Every (IsPlain config facts by firm row (event.Answered number response reply moment) [])
-            (answer_facts book number response reply found)
-        stands None = tt
-        stands (Some own) = closes (close_by_answer book response (refusal_of reply))
-
         reported : (own : StandingRequest) (id : List ℕ) (quote : Option ℕ)
             (refusal : Option HitRefusal) → shows (response_message own id quote refusal) ≡ false
         reported own id None refusal = refl
@@ -216,21 +167,3 @@ module _ (config : Configuration) (facts : List Fact) (by : Actor) (firm : ℕ) 
             → Every (λ (m : OutMessage). shows m ≡ false) (answer_messages response reply found)
         says None = tt
         says (Some own) = (reported own response.id response.k (refusal_of reply), tt)
-
-    pub closed_brings : (number moment : ℕ)
-        → Brings config facts by (at_market facts market (event.Closed number moment) [])
-    unfolding event_facts event_messages
-    closed_brings number moment =
-        plain_brings config facts by firm row (event.Closed number moment) []
-        (stands (request_numbered book number)) (says (request_numbered book number)) tt
-      where
-        stands : (found : Option StandingRequest)
-            → Every (IsPlain config facts by firm row (event.Closed number moment) [])
-            (expiry_facts number found)
-        stands None = tt
-        stands (Some own) = (tt, tt)
-
-        says : (found : Option StandingRequest)
-            → Every (λ (m : OutMessage). shows m ≡ false) (expiry_messages found)
-        says None = tt
-        says (Some own) = (refl, tt)

@@ -1,6 +1,6 @@
 -- What an event at an investor's desk brings of what is shown.
 use Rattle.std.proofs.Common.{◌≡◌, ℕ, ◌+◌, ◌==◌, false, List, [], ◌∷◌, ◌++◌, map}
-use Rattle.std.proofs.Common.{length, Option, Some, None, refl, ap}
+use Rattle.std.proofs.Common.{length, None, refl, ap}
 use Rattle.std.proofs.Common.{◌∙◌, subst, inl, inr, codes}
 use Rattle.std.proofs.lemmas.Bool.{cases_Bool, eqb-true}
 use Rattle.std.proofs.lemmas.List.{append-nil}
@@ -13,8 +13,8 @@ use Rattle.venue_rows.specs.declared.investor_rows.InvestorRow.{InvestorRow}
 use Rattle.venue_steps.specs.declared.actors.Actor.{Actor}
 use Rattle.investor_desk.specs.InvestorDesk.{market_of}
 use Rattle.investor_desk.specs.InvestorFacts.{offers_of, Asked, InvestorBook, InvestorFact, Offered}
-use Rattle.investor_desk.specs.InvestorFacts.{StandingRequest, is_open}
-use Rattle.investor_desk.specs.InvestorFacts.{requests_of, while_open}
+use Rattle.investor_desk.specs.InvestorFacts.{StandingRequest}
+use Rattle.investor_desk.specs.InvestorFacts.{requests_of}
 use Rattle.investor_desk.specs.InvestorOutput.{event_facts}
 use Rattle.investor_desk.specs.InvestorOutput.{event_messages}
 use Rattle.investor_desk.specs.InvestorOutput.{head_of, moment_of}
@@ -60,15 +60,6 @@ asked_count [] = refl
 asked_count (Asked request ∷ facts) =
     ap (λ (n : ℕ). n) (rw (asked_count facts) refl)
 asked_count (fact ∷ facts) = asked_count facts
-
--- a request that is open is the accepted one with its number
-pub while_found : (found : Option StandingRequest) (own : StandingRequest)
-    → while_open found ≡ Some own → found ≡ Some own
-while_found None own is = cc
-while_found (Some other) own is = elim (cases_Bool (is_open other)) [
-  | inl test ↦ rw test at is
-  | inr fails ↦ cc (rw fails at is)
-]
 
 module _ (config : Configuration) (facts : List Fact) (by : Actor) (firm : ℕ) (row : InvestorRow)
   where

@@ -4,11 +4,9 @@ use Rattle.std.proofs.Common.{None, refl, ◌∙◌, subst, inl, inr, ◌⊎◌,
 use Rattle.std.proofs.Common.{Result}
 use Rattle.std.proofs.lemmas.Bool.{cases_Bool, eqb-true}
 use Rattle.market_terms.specs.declared.closes.HitRefusal.{HitRefusal}
-use Rattle.market_terms.specs.declared.closes.Reply.{Reply}
 use Rattle.market_terms.specs.declared.duties.Duty.{Duty}
 use Rattle.market_terms.specs.declared.duties.Duty.TheVariants as duty
 use Rattle.market_terms.specs.declared.rooms.Offer.{Offer}
-use Rattle.market_terms.specs.declared.rooms.ResponseRef.{ResponseRef}
 use Rattle.market_terms.specs.declared.rooms.RoomRef.{RoomRef}
 use Rattle.venue_rows.specs.Rows.{Configuration, dealer_numbered}
 use Rattle.venue_rows.specs.declared.investor_rows.InvestorRow.{InvestorRow}
@@ -16,17 +14,14 @@ use Rattle.venue_steps.specs.declared.actors.Actor.{Actor}
 use Rattle.venue_steps.specs.declared.actors.Actor.TheVariants as actor
 use Rattle.dealer_desk.specs.declared.events.DealerEvent.{DealerEvent}
 use Rattle.investor_desk.specs.InvestorDesk.{market_of}
-use Rattle.investor_desk.specs.InvestorFacts.{InvestorBook, StandingRequest}
-use Rattle.investor_desk.specs.InvestorFacts.{knows, offer_of_dealer, offer_with_word, offers_of}
+use Rattle.investor_desk.specs.InvestorFacts.{InvestorBook, InvestorFact, Offered, StandingRequest}
+use Rattle.investor_desk.specs.InvestorFacts.{knows, offer_of_dealer, offers_of}
 use Rattle.investor_desk.specs.InvestorFacts.{open_request, request_numbered}
-use Rattle.investor_desk.specs.InvestorOutput.{answer_facts, close_by_answer, closed_facts}
-use Rattle.investor_desk.specs.InvestorOutput.{event_facts, expiry_facts, gone_facts, next_offer}
-use Rattle.investor_desk.specs.InvestorOutput.{offer_facts, refusal_of, verdict_facts}
-use Rattle.investor_desk.specs.InvestorOutput.{withdrawal_facts}
+use Rattle.investor_desk.specs.InvestorOutput.{event_facts, gone_facts, next_offer}
+use Rattle.investor_desk.specs.InvestorOutput.{offer_facts, verdict_facts}
 use Rattle.investor_desk.specs.InvestorRules.{investor_verdict}
 use Rattle.investor_desk.specs.declared.events.InvestorEvent.{InvestorEvent}
 use Rattle.investor_desk.specs.declared.events.InvestorEvent.TheVariants as event
-use Rattle.investor_desk.specs.declared.standing.RequestClose.{RequestClose}
 use Rattle.investor_desk.specs.declared.standing.ShownOffer.{ShownOffer}
 use Rattle.investor_desk.specs.declared.verdicts.InvestorVerdict.{InvestorVerdict}
 use Rattle.investor_desk.specs.declared.verdicts.InvestorVerdict.TheVariants as verdict
@@ -38,6 +33,7 @@ use Rattle.step_replay.specs.DutyEffects.{duty_effect, message_effect, sweep_eff
 use Rattle.step_replay.specs.InvestorTrail.{book_by}
 use Rattle.step_replay.specs.PlaceLemmas.{investor_at_dealer, investor_in_room, other_investor}
 use Rattle.step_replay.specs.PlaceLemmas.{own_investor}
+use Rattle.step_replay.specs.Lists.{Every}
 use Rattle.step_replay.specs.VenueFacts.{Fact, InRoom, of_investor}
 use Rattle.laws_days.specs.ActionCases.{if_does, invested_does, message_of, numbered_does}
 use Rattle.laws_days.specs.DutyWalk.{AnyDealer, AnyRoom, InvestorMay, Walks, any_dealer, any_room}
@@ -45,6 +41,7 @@ use Rattle.laws_days.specs.DutyWalk.{duty_walks, sweep_walks}
 use Rattle.laws_shown.specs.ShownQuotes.{shown_to}
 use Rattle.laws_shown.proofs.ShownActions.{lifting_asked}
 use Rattle.laws_shown.proofs.ShownMarket.{entries_facts}
+use Rattle.laws_days.proofs.NewsWalk.{any_news, news_adds, reply_adds}
 use Rattle.step_replay.specs.PlaceLemmas.{investor_grown}
 use Rattle.laws_shown.proofs.ShownParts.{offers_both}
 
@@ -58,31 +55,19 @@ gone_shows : (number : ℕ) (found : Option ShownOffer) → offers_of (gone_fact
 gone_shows number None = refl
 gone_shows number (Some shown) = refl
 
-closed_shows : (number : ℕ) (close : Option RequestClose)
-    → offers_of (closed_facts number close) ≡ []
-closed_shows number None = refl
-closed_shows number (Some close) = refl
-
 verdict_shows : (v : InvestorVerdict) → offers_of (verdict_facts v) ≡ []
 verdict_shows (verdict.RequestAccepted id request) = refl
 verdict_shows other = refl
 
-withdrawal_shows : (number word : ℕ) (found : Option StandingRequest)
-    → offers_of (withdrawal_facts number word found) ≡ []
-withdrawal_shows number word None = refl
-withdrawal_shows number word (Some own) = gone_shows number (offer_with_word own word)
+-- facts of which none is a quote
+abbrev pub NoOffer : InvestorFact → Type 0
+NoOffer (Offered shown) = ⊥
+NoOffer fact = Unit {0}
 
-answer_shows : (book : InvestorBook) (number : ℕ) (response : ResponseRef) (reply : Reply)
-    (found : Option StandingRequest)
-    → offers_of (answer_facts book number response reply found) ≡ []
-answer_shows book number response reply None = refl
-answer_shows book number response reply (Some own) =
-    closed_shows number (close_by_answer book response (refusal_of reply))
-
-expiry_shows : (number : ℕ) (found : Option StandingRequest)
-    → offers_of (expiry_facts number found) ≡ []
-expiry_shows number None = refl
-expiry_shows number (Some own) = refl
+pub no_offers : (facts : List InvestorFact) → Every NoOffer facts → offers_of facts ≡ []
+no_offers [] none = refl
+no_offers (Offered shown ∷ facts) none = absurd none.0
+no_offers (fact ∷ facts) none = no_offers facts none.1
 
 -- a quote that comes is shown, or is not
 came_shows : (book : InvestorBook) (number : ℕ) (offer : Offer) (found : Option StandingRequest)
@@ -181,16 +166,15 @@ module _ (config : Configuration) (facts : List Fact) where
   at_desks : (left : Duty) → is_relay left ≡ false → InvestorMay ShowsNone config left
   unfolding event_facts
   at_desks (duty.Relay room offer moment) isnt = λ row found. cc
-  at_desks (duty.Gone room word moment) isnt = λ row found.
-      withdrawal_shows room.n word
-      (open_request (book_by (of_investor room.investor facts)) room.n)
-  at_desks (duty.Declined room moment) isnt = λ dealer row found. refl
   at_desks (duty.Answer room response reply moment) isnt = λ fits row found.
-      answer_shows (book_by (of_investor room.investor facts)) room.n response reply
-      (request_numbered (book_by (of_investor room.investor facts)) room.n)
-  at_desks (duty.Close room moment) isnt = λ row found.
-      expiry_shows room.n (request_numbered (book_by (of_investor room.investor facts)) room.n)
-  at_desks other isnt = tt
+      let book = book_by (of_investor room.investor facts) in
+      no_offers _ (reply_adds NoOffer book room.n response reply (λ how. tt)
+      (request_numbered book room.n))
+  at_desks other isnt = any_news ShowsNone config other tt (λ number row found more news.
+      let market = market_of config number row in
+      let book = book_by (of_investor number facts) in
+      no_offers (event_facts market book more) (news_adds NoOffer market book more news
+      (λ request word moment is quote. tt) (λ request. tt)))
 
   pub duty_quiet : (by : Actor) (left : Duty) → is_relay left ≡ false
       → IsQuiet (duty_effect config facts by left)

@@ -1,5 +1,6 @@
 -- What a quote that comes to an investor's desk brings of what is shown.
 use Rattle.std.proofs.Common.{◌≡◌, ℕ, ◌+◌, ◌==◌, List, [], ◌∷◌, ◌++◌, length}
+use Rattle.std.proofs.Common.{false}
 use Rattle.std.proofs.Common.{Option, Some, None, option_map, refl, sym, ap, ◌∙◌, inl, inr}
 use Rattle.std.proofs.Common.{subst}
 use Rattle.std.proofs.lemmas.Bool.{eqb-true}
@@ -29,6 +30,8 @@ use Rattle.step_replay.specs.GrowthLemmas.{in_right}
 use Rattle.step_replay.specs.InvestorTrail.{AtDesk, book_by}
 use Rattle.step_replay.specs.Lists.{Every, In}
 use Rattle.step_replay.specs.VenueFacts.{Fact, of_investor}
+use Rattle.quote_messages.specs.declared.out_messages.OutMessage.{OutMessage}
+use Rattle.laws_days.proofs.NewsWalk.{gone_says, while_found}
 use Rattle.laws_shown.specs.ShownQuotes.{IsShown}
 use Rattle.laws_shown.specs.ShownRequests.{at_investor, room_of}
 use Rattle.laws_shown.proofs.LawfulFields.{frame_value}
@@ -37,17 +40,15 @@ use Rattle.laws_shown.proofs.ShownDesk.{Brings, Stood}
 use Rattle.quote_messages.specs.Written.{written}
 use Rattle.investor_desk.specs.InvestorOutput.{written_from}
 use Rattle.laws_shown.specs.ShownQuotes.{AreShownInTurn, ShowsQuote, shown_to}
-use Rattle.laws_shown.proofs.Messages.{plain_shows_none}
+use Rattle.laws_shown.proofs.Messages.{plain_shows_none, shows}
 use Rattle.laws_shown.proofs.ShownParts.{turn_none}
 use Rattle.laws_shown.proofs.ShownTexts.{quote_beside}
 use Rattle.laws_shown.proofs.ShownMarket.{first}
 use Rattle.laws_shown.proofs.ShownMarket.{Says, effect, happened_now}
 use Rattle.laws_shown.proofs.ShownMarket.{market_brings, plain_says, requests_in}
-use Rattle.laws_shown.proofs.ShownMarket.{while_found}
 use Rattle.laws_shown.proofs.ShownParts.{InvestorOk, Relays, asked_in, asked_of, number_asked}
 use Rattle.laws_shown.proofs.ShownParts.{quote_later, request_later, shown_later, written_later}
 use Rattle.laws_shown.proofs.ShownTexts.{quote_text}
-use Rattle.laws_shown.proofs.ShownComes.{gone_plain}
 
 -- what was offered is one of the quotes that were shown
 pub offered_in : (shown : ShownOffer) (facts : List InvestorFact) → In (Offered shown) facts
@@ -157,7 +158,8 @@ module _ (config : Configuration) (facts : List Fact) (by : Actor) (firm : ℕ) 
           (option_to_list (option_map (gone_message own) (offer_of_dealer own offer.dealer)))
           (offer_message own shown ∷ [])
           (plain_says config facts by firm row more [] _
-          (gone_plain config facts by firm row own (offer_of_dealer own offer.dealer))) (
+          (gone_says (λ (m : OutMessage). shows m ≡ false) own (λ shown. refl)
+          (offer_of_dealer own offer.dealer))) (
             (λ next when. quote_text config now (head_of market next when) refl named firm shown
                 relays.dealer relays.quote (shown_later config facts (effect config facts by firm row more []).facts firm
                 shown relays.dealer relays.quote is_shown)

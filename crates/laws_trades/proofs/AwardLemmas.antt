@@ -22,11 +22,11 @@ use Rattle.request_room.specs.Book.{IsBest, award_of, book_of, cover_for, cover_
 use Rattle.request_room.specs.Book.{event_facts, expired, hit_checks, others}
 use Rattle.request_room.specs.Book.{hit_outcome, hit_refusal}
 use Rattle.request_room.specs.Book.{hit_settled, is_expired, is_lift, is_past_deadline, may_expire}
-use Rattle.request_room.specs.Book.{may_unpost, passed}
-use Rattle.request_room.specs.Book.{quote_meant, quote_posted, fact_if}
-use Rattle.request_room.specs.RoomFacts.{Ended, Noted, Opened, Posted, Readied, RoomFact, Unposted}
+use Rattle.request_room.specs.Book.{passed}
+use Rattle.request_room.specs.Book.{quote_meant, fact_if}
+use Rattle.request_room.specs.RoomFacts.{Ended, Readied, RoomFact}
 use Rattle.request_room.specs.RoomFacts.{is_awarded_kind, is_ended, is_ready, opened_for}
-use Rattle.request_room.specs.RoomFacts.{is_open, is_opening, is_vacant, request_of, takes_quotes}
+use Rattle.request_room.specs.RoomFacts.{is_open, is_opening, request_of}
 use Rattle.request_room.specs.declared.ends.End.{End}
 use Rattle.request_room.specs.declared.events.RoomEvent.{RoomEvent}
 use Rattle.request_room.specs.declared.events.RoomEvent.TheVariants as at_room
@@ -171,13 +171,7 @@ ready_each facts false opening = tt
 event_each : (facts : List RoomFact) (event : RoomEvent)
     → Each AwardsInTime facts (event_facts facts event)
 unfolding event_facts
-event_each facts (at_room.Open request) = so_each (is_vacant facts) facts (Opened request) tt
 event_each facts at_room.Ready = ready_each facts (is_opening facts) refl
-event_each facts (at_room.Post dealer w price until) =
-    so_each (takes_quotes facts) facts (Posted (quote_posted dealer w price until)) tt
-event_each facts (at_room.Unpost dealer w) =
-    so_each (may_unpost facts dealer w) facts (Unposted dealer w) tt
-event_each facts (at_room.Decline dealer) = so_each (takes_quotes facts) facts (Noted dealer) tt
 event_each facts (at_room.Hit w moment settlement) =
     by_outcome (hit_outcome facts w moment settlement) refl
   where
@@ -195,6 +189,7 @@ event_each facts (at_room.Pass moment) =
     so_each (is_open facts) facts (Ended passed moment) (λ kind. cc)
 event_each facts (at_room.Expire moment) =
     so_each (may_expire facts moment) facts (Ended expired moment) (λ kind. cc)
+event_each facts other = so_each _ facts _ tt
 
 -- The cover.
 

@@ -12,12 +12,9 @@ use Rattle.market_terms.specs.declared.rooms.Offer.{Offer}
 use Rattle.quote_messages.specs.Arrivals.{investor_arrival}
 use Rattle.quote_messages.specs.Written.{msg_type_of, quote_name, written}
 use Rattle.quote_messages.specs.declared.out_messages.OutMessage.{OutMessage}
-use Rattle.quote_messages.specs.declared.out_messages.OutMessage.TheVariants as out
 use Rattle.quote_messages.specs.declared.out_messages.PassStatus.TheVariants as status
-use Rattle.investor_desk.specs.InvestorOutput.{decline_messages, expiry_messages}
 use Rattle.investor_desk.specs.InvestorOutput.{gone_message, head_of, offer_message}
 use Rattle.investor_desk.specs.InvestorOutput.{offer_messages, verdict_message}
-use Rattle.investor_desk.specs.InvestorOutput.{withdrawal_messages}
 use Rattle.laws_days.proofs.Common.{option_map, false}
 use Rattle.laws_trades.specs.SentTrades.{is_answer}
 use Rattle.fix_fields.specs.Frame.{Field, IsValue, frame_of}
@@ -32,16 +29,18 @@ use Rattle.quote_messages.specs.declared.requests.RequestPass.{RequestPass}
 use Rattle.venue_rows.specs.declared.bond_rows.BondRow.{BondRow}
 use Rattle.investor_desk.specs.InvestorFacts.{StandingRequest, expected_number}
 use Rattle.investor_desk.specs.InvestorFacts.{offer_named, offer_numbered, offer_of_dealer}
-use Rattle.investor_desk.specs.InvestorFacts.{offer_with_word, open_request, request_numbered}
+use Rattle.investor_desk.specs.InvestorFacts.{open_request, request_numbered}
 use Rattle.investor_desk.specs.InvestorFacts.{request_with_id, requests_of}
-use Rattle.investor_desk.specs.Refusals.{request_reason}
 use Rattle.investor_desk.specs.InvestorOutput.{next_offer}
 use Rattle.investor_desk.specs.InvestorRules.{arrival_verdict, hit_of, hit_verdict, pass_of}
 use Rattle.investor_desk.specs.InvestorRules.{pass_verdict, request_answer}
 use Rattle.investor_desk.specs.InvestorRules.{request_verdict}
+use Rattle.investor_desk.specs.declared.events.InvestorEvent.{InvestorEvent}
+use Rattle.investor_desk.specs.InvestorOutput.{event_messages}
 use Rattle.investor_desk.specs.declared.verdicts.InvestorVerdict.TheVariants as verdict
 use Rattle.laws_days.proofs.ListLemmas.{found_passes}
-use Rattle.laws_shown.proofs.ShownMarket.{requests_in, while_found}
+use Rattle.laws_days.proofs.NewsWalk.{IsNews, gone_says, news_says, while_found}
+use Rattle.laws_shown.proofs.ShownMarket.{requests_in}
 use Rattle.std.proofs.Common.{codes}
 use Rattle.laws_trades.proofs.TradeLists.{find_fewer, find_in}
 use Rattle.laws_trades.proofs.ReadIds.{ArrivalIds, IdsOf, arrival_ids}
@@ -79,15 +78,11 @@ open_asked facts number own is =
     (while_found (request_numbered (book_of facts) number) own is)
 
 module _ (at : InvestorMarket) (facts : List InvestorFact) where
-  pub gone_harmless : (own : StandingRequest) → In (Asked own.request) facts
-      → (found : Option ShownOffer)
-      → Every (Harmless at facts) (option_to_list (option_map (gone_message own) found))
-  gone_harmless own asked None = tt
-  gone_harmless own asked (Some shown) = (
-    λ number moment may. gone_read (head_of at number moment) may.named may.dated own.request.id
-        shown.number (may.ids own.request asked),
-    tt,
-  )
+  gone_harmless : (own : StandingRequest) → In (Asked own.request) facts → (shown : ShownOffer)
+      → Harmless at facts (gone_message own shown)
+  gone_harmless own asked shown = λ number moment may.
+      gone_read (head_of at number moment) may.named may.dated own.request.id shown.number
+      (may.ids own.request asked)
 
   pub offer_harmless : (book : InvestorBook) (request : ℕ) (offer : Offer)
       (own : Option StandingRequest) → WasAsked facts own
@@ -97,32 +92,24 @@ module _ (at : InvestorMarket) (facts : List InvestorFact) where
       every_both (Harmless at facts)
       (option_to_list (option_map (gone_message own) (offer_of_dealer own offer.dealer)))
       (offer_message own (next_offer book request offer) ∷ [])
-      (gone_harmless own (asked own refl) (offer_of_dealer own offer.dealer))
+      (gone_says (Harmless at facts) own (gone_harmless own (asked own refl))
+      (offer_of_dealer own offer.dealer))
       (other_harmless at facts (offer_message own (next_offer book request offer)) refl, tt)
 
-  pub withdrawal_harmless : (word : ℕ) (own : Option StandingRequest) → WasAsked facts own
-      → Every (Harmless at facts) (withdrawal_messages word own)
-  withdrawal_harmless word None asked = tt
-  withdrawal_harmless word (Some own) asked =
-      gone_harmless own (asked own refl) (offer_with_word own word)
-
-  pub decline_harmless : (dealer : List ℕ) (own : Option StandingRequest) → WasAsked facts own
-      → Every (Harmless at facts) (decline_messages dealer own)
-  decline_harmless dealer None asked = tt
-  decline_harmless dealer (Some own) asked = (
-    λ number moment may. declined_read (head_of at number moment) may.named may.dated
-        own.request.id dealer (may.ids own.request (asked own refl)),
-    tt,
-  )
-
-  pub expiry_harmless : (own : Option StandingRequest) → WasAsked facts own
-      → Every (Harmless at facts) (expiry_messages own)
-  expiry_harmless None asked = tt
-  expiry_harmless (Some own) asked = (
-    λ number moment may. expired_read (head_of at number moment) may.named may.dated
-        own.request.id (may.ids own.request (asked own refl)),
-    tt,
-  )
+  pub news_harmless : (event : InvestorEvent) → IsNews event
+      → Every (Harmless at facts) (event_messages at (book_of facts) event)
+  news_harmless event news =
+      news_says (Harmless at facts) at (book_of facts) event news (λ request own stands.
+      let asked = numbered_asked facts request own stands in
+      record {
+        gone = λ its word when is shown. gone_harmless own asked shown;
+        declined = λ its dealer when is number moment may.
+            declined_read (head_of at number moment) may.named may.dated own.request.id dealer
+            (may.ids own.request asked);
+        expired = λ number moment may.
+            expired_read (head_of at number moment) may.named may.dated own.request.id
+            (may.ids own.request asked);
+      })
 
 -- What a verdict on a message means by a hit: a quote that was shown, under its number. The ids
 -- that it answers by may stand in a field.
@@ -142,12 +129,6 @@ Means market facts other = Unit {0}
 pub verdict_harmless : (market : InvestorMarket) (facts : List InvestorFact) (v : InvestorVerdict)
     → Means market facts v → Every (Harmless market facts) (option_to_list (verdict_message v))
 verdict_harmless market facts verdict.Dropped means = tt
-verdict_harmless market facts (verdict.OutOfSequence reject) means =
-    (other_harmless market facts (out.Reject reject) refl, tt)
-verdict_harmless market facts (verdict.Rejected reject) means =
-    (other_harmless market facts (out.Reject reject) refl, tt)
-verdict_harmless market facts (verdict.RequestRefused request bond refusal) means =
-    (other_harmless market facts (out.RequestRefused request bond (request_reason refusal)) refl, tt)
 verdict_harmless market facts (verdict.HitUnknown id quote) means = (
   λ number moment may. unknown_read (head_of market number moment) may.named may.dated id quote
       means.0 means.1,
@@ -164,6 +145,7 @@ verdict_harmless market facts (verdict.RequestAccepted id request) means = (
 )
 verdict_harmless market facts (verdict.Hits request response word) means = tt
 verdict_harmless market facts (verdict.Passes request response) means = tt
+verdict_harmless market facts other means = (other_harmless market facts _ refl, tt)
 
 module _ (market : InvestorMarket) (facts : List InvestorFact) where
   abbrev book : InvestorBook

@@ -5,13 +5,13 @@ use Rattle.laws_days.proofs.Common.{◌∙◌, ◌∷◌, ◌≡◌, cases_Bool,
 use Rattle.laws_days.proofs.Common.{Duty, RoomRef, Configuration, DealerRow}
 use Rattle.laws_days.proofs.Common.{DealerFact, Came, Dropped, Shown, Told, number_to_drop}
 use Rattle.laws_days.proofs.Common.{event_facts, settled_facts, verdict_facts, dealer_verdict}
-use Rattle.laws_days.proofs.Common.{InvestorFact, Offered, RoomFact, Effect}
+use Rattle.laws_days.proofs.Common.{InvestorFact, RoomFact, Effect}
 use Rattle.laws_days.proofs.Common.{dealer_of, drop_at}
 use Rattle.laws_days.proofs.Common.{answer_to_drop, lifting, nothing, received_by_dealer}
 use Rattle.laws_days.proofs.Common.{settlement_of, where_known, QuoteRef, Lifted, AtDesk}
 use Rattle.laws_days.proofs.Common.{DealerEntry, Sent, ShownIn, book_by, entries_of}
 use Rattle.laws_days.proofs.Common.{Every}
-use Rattle.laws_days.proofs.Common.{every_both, every_weaker, dealer_grown, investor_grown, own_trail}
+use Rattle.laws_days.proofs.Common.{every_weaker, dealer_grown, investor_grown, own_trail}
 use Rattle.laws_days.proofs.Common.{investor_in_room, AtDealer, AtInvestor, Fact, InRoom, of_dealer}
 use Rattle.laws_days.proofs.Common.{of_investor, InvestorEvent, InvestorVerdict}
 use Rattle.laws_days.proofs.Common.{own_facts, market_of, InvestorRow, HitRefusal}
@@ -22,11 +22,9 @@ use Rattle.laws_days.specs.ActionCases.{if_does}
 use Rattle.dealer_desk.specs.declared.events.DealerEvent.TheVariants as at_desk
 use Rattle.dealer_desk.specs.declared.standing.Withdrawal.TheVariants as by_way
 use Rattle.investor_desk.specs.InvestorFacts.{InvestorBook, StandingRequest}
-use Rattle.investor_desk.specs.InvestorFacts.{offer_of_dealer, offer_with_word}
 use Rattle.investor_desk.specs.InvestorOutput.{event_facts as market_event_facts}
-use Rattle.investor_desk.specs.InvestorOutput.{answer_facts, expiry_facts, gone_facts, next_offer}
-use Rattle.investor_desk.specs.InvestorOutput.{offer_facts, withdrawal_facts}
-use Rattle.investor_desk.specs.declared.standing.ShownOffer.{ShownOffer}
+use Rattle.investor_desk.specs.InvestorOutput.{answer_facts}
+use Rattle.investor_desk.specs.InvestorOutput.{offer_facts}
 use Rattle.investor_desk.specs.declared.verdicts.InvestorVerdict.TheVariants as verdict
 use Rattle.step_replay.specs.Actions.{at_dealer, at_market}
 use Rattle.step_replay.specs.InvestorTrail as investor_trail
@@ -34,6 +32,8 @@ use Rattle.step_replay.specs.InvestorTrail.{InvestorEntry}
 use Rattle.step_replay.specs.PlaceLemmas.{investor_at_dealer, other_investor, other_trail, own_investor}
 use Rattle.step_replay.specs.PlaceLemmas.{trail_at_investor, trail_in_room}
 use Rattle.step_replay.specs.TrailLemmas.{facts_added}
+use Rattle.investor_desk.specs.InvestorRules.{InvestorMarket}
+use Rattle.laws_days.proofs.NewsWalk.{IsNews, news_adds, offer_adds}
 use Rattle.laws_days.proofs.PlainFacts.{IsPlain, settled_plain, verdict_plain}
 use Rattle.laws_trades.specs.TradeNames.{hit_in, notice_in}
 use Rattle.laws_trades.proofs.NameParts.{Pair, hits, last_trail, none_said, notices}
@@ -177,27 +177,17 @@ module _ (p : Pair) where
     unfolding investor_trail.entries_of
     market_silent firm row event duties none = silent_market firm _ _ none
 
-    gone_none : (request : ℕ) (shown : Option ShownOffer) → NoHits (gone_facts request shown)
-    gone_none request None = tt
-    gone_none request (Some shown) = (refl, tt)
-
     pub offer_none : (book : InvestorBook) (request : ℕ) (offer : Offer) (own : Option StandingRequest)
         → NoHits (offer_facts book request offer own)
-    offer_none book request offer None = tt
-    offer_none book request offer (Some own) =
-        every_both (λ fact. hit_in p.investor p.dealer_name fact ≡ None)
-        (gone_facts request (offer_of_dealer own offer.dealer))
-        (Offered (next_offer book request offer) ∷ [])
-        (gone_none request (offer_of_dealer own offer.dealer)) (refl, tt)
+    offer_none book request offer own =
+        offer_adds (λ fact. hit_in p.investor p.dealer_name fact ≡ None) book request offer
+        (λ quote. refl) refl own
 
-    pub withdrawal_none : (request word : ℕ) (own : Option StandingRequest)
-        → NoHits (withdrawal_facts request word own)
-    withdrawal_none request word None = tt
-    withdrawal_none request word (Some own) = gone_none request (offer_with_word own word)
-
-    pub expiry_none : (request : ℕ) (own : Option StandingRequest) → NoHits (expiry_facts request own)
-    expiry_none request None = tt
-    expiry_none request (Some own) = (refl, tt)
+    pub news_none : (market : InvestorMarket) (book : InvestorBook) (event : InvestorEvent)
+        → IsNews event → NoHits (market_event_facts market book event)
+    news_none market book event news =
+        news_adds (λ fact. hit_in p.investor p.dealer_name fact ≡ None) market book event news
+        (λ request word moment is quote. refl) (λ request. refl)
 
     pub said_none : (moment : ℕ) (bytes : List ℕ) (v : InvestorVerdict)
         → NoHits (own_facts moment bytes v)

@@ -36,12 +36,13 @@ use Rattle.step_replay.specs.Actions.{received_by_investor}
 use Rattle.step_replay.specs.Actions.{verdict_on, where_known}
 use Rattle.step_replay.specs.InvestorTrail as investor_trail
 use Rattle.laws_days.proofs.ListLemmas.{cases_some}
+use Rattle.laws_days.proofs.NewsWalk.{any_news}
 use Rattle.laws_trades.proofs.NameParts.{IsBatch, IsStill, Pair, hits, notices}
 use Rattle.laws_trades.proofs.NameParts.{still_batch}
-use Rattle.laws_trades.proofs.NameSilent.{NoHits, SilentIn, dropped_silent, expiry_none, idle}
-use Rattle.laws_trades.proofs.NameSilent.{known_silent, market_silent, offer_none}
+use Rattle.laws_trades.proofs.NameSilent.{SilentIn, dropped_silent, idle}
+use Rattle.laws_trades.proofs.NameSilent.{known_silent, market_silent, news_none, offer_none}
 use Rattle.laws_trades.proofs.NameSilent.{passed_none, refused_none, said_none, said_silent}
-use Rattle.laws_trades.proofs.NameSilent.{shown_silent, silent_room, withdrawal_none}
+use Rattle.laws_trades.proofs.NameSilent.{shown_silent, silent_room}
 
 -- what an effect adds and leaves of the trades of a pair
 pub record Adds (p : Pair) (effect : Effect) (hit told : List RoomRef) : Type 0 where
@@ -108,30 +109,16 @@ module _ (p : Pair) where
         (left_by_drop config known last moment (dealer_of number row))
     at_dealers by other is = tt
 
-    -- what comes to an investor's desk
-    came_silent : (room : RoomRef) (row : InvestorRow) (event : InvestorEvent)
-        → NoHits p config known (event_facts (market_of config room.investor row)
-        (investor_trail.book_by (of_investor room.investor known)) event)
-        → InvestorSilent room.investor row event
-    came_silent room row event none =
-        market_silent p config known room.investor row event [] none
-
     at_investors : (d : Duty) → IsOther d → InvestorMay InvestorSilent config d
     unfolding event_facts
     at_investors (duty.Relay room offer moment) is = λ row found.
-        came_silent room row (at_investor.QuoteCame room.n offer moment)
-        (offer_none p config known
+        market_silent p config known room.investor row (at_investor.QuoteCame room.n offer moment)
+        [] (offer_none p config known
         (investor_trail.book_by (of_investor room.investor known)) room.n offer _)
-    at_investors (duty.Gone room word moment) is = λ row found.
-        came_silent room row (at_investor.QuoteGone room.n word moment)
-        (withdrawal_none p config known room.n word _)
-    at_investors (duty.Declined room moment) is = λ dealer row found.
-        came_silent room row (at_investor.DealerDeclined room.n dealer moment) tt
     at_investors (duty.Answer room response reply moment) is = absurd is
-    at_investors (duty.Close room moment) is = λ row found.
-        came_silent room row (at_investor.Closed room.n moment)
-        (expiry_none p config known room.n _)
-    at_investors other is = tt
+    at_investors other is = any_news InvestorSilent config other tt (λ number row found event news.
+        market_silent p config known number row event [] (news_none p config known
+        (market_of config number row) (investor_trail.book_by (of_investor number known)) event news))
 
     in_rooms : (by : Actor) (d : Duty) → IsOther d → RoomMay RoomSilent config known by d
     in_rooms by (duty.Hit room response word moment) is = absurd is

@@ -9,22 +9,21 @@ use Rattle.std.proofs.lemmas.List.Elements.{filter-append, filter_map-append}
 use Rattle.std.proofs.lemmas.List.Sums.{length-filter}
 use Rattle.std.proofs.lemmas.Slice.Eq.{bytes_eq-Decides}
 use Rattle.market_terms.specs.declared.closes.Reply.{Reply}
-use Rattle.market_terms.specs.declared.rooms.Offer.{Offer}
 use Rattle.market_terms.specs.declared.rooms.ResponseRef.{ResponseRef}
 use Rattle.market_terms.specs.declared.rooms.RoomRef.{RoomRef}
 use Rattle.quote_messages.specs.declared.out_messages.OutMessage.{OutMessage}
 use Rattle.venue_rows.specs.Texts.{same_text}
 use Rattle.note_lines.specs.NoteLines.{count_to, trades_with_dealer}
-use Rattle.investor_desk.specs.InvestorFacts.{InvestorBook, InvestorFact, Closed, Offered, StandingRequest}
-use Rattle.investor_desk.specs.InvestorFacts.{book_of, offer_of_dealer, offer_with_word, open_request}
+use Rattle.investor_desk.specs.InvestorFacts.{InvestorBook, InvestorFact, Closed, StandingRequest}
+use Rattle.investor_desk.specs.InvestorFacts.{book_of, open_request}
 use Rattle.investor_desk.specs.InvestorFacts.{request_numbered}
 use Rattle.investor_desk.specs.InvestorOutput.{DeskState, after_event, answer_facts, answer_messages}
 use Rattle.investor_desk.specs.InvestorOutput.{answer_note, award_note, beside_each, close_by_answer}
 use Rattle.investor_desk.specs.InvestorOutput.{closed_facts, desk_after, event_facts, event_messages}
-use Rattle.investor_desk.specs.InvestorOutput.{event_note, expiry_facts, gone_facts, investor_notes}
-use Rattle.investor_desk.specs.InvestorOutput.{moment_of, next_offer, no_facts, offer_facts, own_facts}
+use Rattle.investor_desk.specs.InvestorOutput.{event_note, investor_notes}
+use Rattle.investor_desk.specs.InvestorOutput.{moment_of, no_facts, own_facts}
 use Rattle.investor_desk.specs.InvestorOutput.{refusal_of, response_message, verdict_note}
-use Rattle.investor_desk.specs.InvestorOutput.{withdrawal_facts, written_from}
+use Rattle.investor_desk.specs.InvestorOutput.{written_from}
 use Rattle.investor_desk.specs.InvestorRules.{InvestorMarket, investor_verdict}
 use Rattle.investor_desk.specs.declared.events.InvestorEvent.{InvestorEvent}
 use Rattle.investor_desk.specs.declared.events.InvestorEvent.TheVariants as event
@@ -32,7 +31,6 @@ use Rattle.investor_desk.specs.declared.notes.InvestorNote.{InvestorNote}
 use Rattle.investor_desk.specs.declared.notes.InvestorNote.TheVariants as note
 use Rattle.investor_desk.specs.declared.standing.RequestClose.{RequestClose}
 use Rattle.investor_desk.specs.declared.standing.RequestClose.TheVariants as close
-use Rattle.investor_desk.specs.declared.standing.ShownOffer.{ShownOffer}
 use Rattle.investor_desk.specs.declared.verdicts.InvestorVerdict.{InvestorVerdict}
 use Rattle.investor_desk.specs.declared.verdicts.InvestorVerdict.TheVariants as verdict
 use Rattle.step_replay.specs.EachLemmas.{Each, each_append, each_weaker}
@@ -41,6 +39,7 @@ use Rattle.step_replay.specs.InvestorTrail.{AtDesk, InvestorEntry, Sent, book_by
 use Rattle.step_replay.specs.InvestorTrail.{sent_by}
 use Rattle.step_replay.specs.NotedGrowth.{noted_push, notes_more}
 use Rattle.step_replay.specs.NotedTrail.{NotedAs}
+use Rattle.laws_days.proofs.NewsWalk.{news_adds, none_given, offer_adds}
 use Rattle.laws_trades.specs.TradeNames.{hit_in}
 use Rattle.laws_trades.specs.Trades.{room_of}
 use Rattle.laws_trades.specs.PrintedTrades.{TellsOfTrade}
@@ -110,41 +109,12 @@ module _ (market : InvestorMarket) (investor : ℕ) (dealer : List ℕ) where
 
   received : (moment : ℕ) (bytes : List ℕ) (v : InvestorVerdict) (messages : List OutMessage)
       → Says (own_facts moment bytes v) messages (verdict_note v)
-  received moment bytes verdict.Dropped messages = nothing refl refl
-  received moment bytes (verdict.OutOfSequence reject) messages = nothing refl refl
-  received moment bytes (verdict.Rejected reject) messages = nothing refl refl
-  received moment bytes (verdict.RequestRefused request bond refusal) messages = nothing refl refl
-  received moment bytes (verdict.HitUnknown id quote) messages = nothing refl refl
-  received moment bytes (verdict.PassUnknown id request) messages = nothing refl refl
   received moment bytes (verdict.RequestAccepted id request) messages = nothing refl refl
-  received moment bytes (verdict.Hits request response word) messages = nothing refl refl
-  received moment bytes (verdict.Passes request response) messages = nothing refl refl
+  received moment bytes other messages = nothing refl refl
 
-  no_gone : (number : ℕ) (gone : Option ShownOffer)
-      → filter_map (hit_in investor dealer) (gone_facts number gone) ≡ []
-  no_gone number None = refl
-  no_gone number (Some shown) = refl
-
-  no_withdrawal : (number word : ℕ) (found : Option StandingRequest)
-      → filter_map (hit_in investor dealer) (withdrawal_facts number word found) ≡ []
-  no_withdrawal number word None = refl
-  no_withdrawal number word (Some own) = no_gone number (offer_with_word own word)
-
-  no_offer : (book : InvestorBook) (number : ℕ) (offer : Offer) (found : Option StandingRequest)
-      → filter_map (hit_in investor dealer) (offer_facts book number offer found) ≡ []
-  no_offer book number offer None = refl
-  no_offer book number offer (Some own) = by_gone (offer_of_dealer own offer.dealer)
-    where
-      by_gone : (gone : Option ShownOffer)
-          → filter_map (hit_in investor dealer)
-          (gone_facts number gone ++ Offered (next_offer book number offer) ∷ []) ≡ []
-      by_gone None = refl
-      by_gone (Some shown) = refl
-
-  no_expiry : (number : ℕ) (found : Option StandingRequest)
-      → filter_map (hit_in investor dealer) (expiry_facts number found) ≡ []
-  no_expiry number None = refl
-  no_expiry number (Some own) = refl
+  -- a fact that is no trade with this dealer
+  abbrev NoTrade : InvestorFact → Type 0
+  NoTrade fact = hit_in investor dealer fact ≡ None
 
   event_says : (book : InvestorBook) (more : InvestorEvent)
       → Says (event_facts market book more) (event_messages market book more)
@@ -153,14 +123,14 @@ module _ (market : InvestorMarket) (investor : ℕ) (dealer : List ℕ) where
   event_says book (event.Received moment bytes) =
       received moment bytes (investor_verdict market book moment bytes) _
   event_says book (event.QuoteCame request offer moment) =
-      nothing (no_offer book request offer (open_request book request)) refl
-  event_says book (event.QuoteGone request word moment) =
-      nothing (no_withdrawal request word (open_request book request)) refl
-  event_says book (event.DealerDeclined request name moment) = nothing refl refl
+      nothing (none_given (hit_in investor dealer) _ (offer_adds NoTrade book request offer
+      (λ quote. refl) refl (open_request book request))) refl
   event_says book (event.Answered request response reply moment) =
       answered book request response reply (request_numbered book request)
-  event_says book (event.Closed request moment) =
-      nothing (no_expiry request (request_numbered book request)) refl
+  event_says book other =
+      nothing (none_given (hit_in investor dealer) (event_facts market book other)
+      (news_adds NoTrade market book other tt (λ request word moment is quote. refl)
+      (λ request. refl))) refl
 
   room_there : (request quote price : ℕ)
       → filter_map (hit_in investor dealer) (Closed request (close.Awarded quote dealer price) ∷ [])

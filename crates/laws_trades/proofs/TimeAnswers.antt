@@ -1,6 +1,6 @@
 -- The moment of an investor's answer, and the request that it answers.
 use Rattle.std.proofs.Common.{◌≡◌, ◌==◌, ℕ, Bool, true, List, [], ◌∷◌, ◌++◌}
-use Rattle.std.proofs.Common.{Option, Some, None, option_map, refl, sym, ap, ◌∙◌}
+use Rattle.std.proofs.Common.{Option, Some, None, refl, sym, ap, ◌∙◌}
 use Rattle.std.proofs.Common.{subst, inl, inr, find}
 use Rattle.std.specs.Option.{option_to_list}
 use Rattle.std.proofs.lemmas.Bool.{cases_Bool, eqb-true, false≢true}
@@ -13,7 +13,6 @@ use Rattle.market_terms.specs.declared.rooms.Offer.{Offer}
 use Rattle.market_terms.specs.declared.rooms.ResponseRef.{ResponseRef}
 use Rattle.quote_messages.specs.declared.out_messages.OutMessage.{OutMessage}
 use Rattle.quote_messages.specs.declared.out_messages.OutMessage.TheVariants as out
-use Rattle.quote_messages.specs.declared.out_messages.PassStatus.TheVariants as status
 use Rattle.venue_rows.specs.Rows.{Configuration}
 use Rattle.venue_steps.specs.InvestorSteps.{replies_to}
 use Rattle.investor_desk.specs.InvestorDesk.{market_of}
@@ -21,11 +20,9 @@ use Rattle.investor_desk.specs.InvestorFacts as investor_facts
 use Rattle.investor_desk.specs.InvestorFacts.{InvestorFact}
 use Rattle.investor_desk.specs.InvestorOutput as investor_output
 use Rattle.investor_desk.specs.InvestorRules.{InvestorMarket, investor_verdict}
-use Rattle.investor_desk.specs.Refusals.{request_reason}
 use Rattle.investor_desk.specs.declared.events.InvestorEvent.{InvestorEvent}
 use Rattle.investor_desk.specs.declared.events.InvestorEvent.TheVariants as at_investor
 use Rattle.investor_desk.specs.declared.standing.AcceptedRequest.{AcceptedRequest}
-use Rattle.investor_desk.specs.declared.standing.ShownOffer.{ShownOffer}
 use Rattle.investor_desk.specs.declared.verdicts.InvestorVerdict.{InvestorVerdict}
 use Rattle.investor_desk.specs.declared.verdicts.InvestorVerdict.TheVariants as asks
 use Rattle.step_replay.specs.AuditTrail.{audit_trail}
@@ -35,6 +32,8 @@ use Rattle.step_replay.specs.InvestorTrail.{InvestorEntry}
 use Rattle.step_replay.specs.Lists.{Every, In}
 use Rattle.step_replay.specs.VenueFacts.{AtInvestor, Fact, of_investor}
 use Rattle.step_replay.specs.declared.steps.Step.{Step}
+use Rattle.step_replay.specs.EachLemmas.{every_both}
+use Rattle.laws_days.proofs.NewsWalk.{gone_says, news_says}
 use Rattle.laws_trades.specs.TradeTimes.{IsAnsweredAt, IsAwarded, IsSaidTo, room_at}
 use Rattle.laws_trades.proofs.AwardedWords.{found_passes}
 use Rattle.laws_trades.proofs.TimeDays.{day_timed}
@@ -99,56 +98,28 @@ module _ (market : InvestorMarket) (book : investor_facts.InvestorBook) (id name
     pub is_hit : response.k ≡ Some quote
     pub unrefused : investor_output.refusal_of reply_is ≡ None
 
-  one_of : (m : OutMessage) → (m ≡ answer → ⊥) → In answer (m ∷ []) → ⊥
-  one_of m differs (inl is) = differs is
-  one_of m differs (inr is) = is
+  -- another message than this answer
+  abbrev Differs : OutMessage → Type 0
+  Differs message = message ≡ answer → ⊥
 
-  no_own : (v : InvestorVerdict) → In answer (option_to_list (investor_output.verdict_message v)) → ⊥
-  no_own asks.Dropped is = is
-  no_own (asks.OutOfSequence reject) is = one_of (out.Reject reject) (λ at. cc) is
-  no_own (asks.Rejected reject) is = one_of (out.Reject reject) (λ at. cc) is
-  no_own (asks.RequestRefused request bond refusal) is =
-      one_of (out.RequestRefused request bond (request_reason refusal)) (λ at. cc) is
-  no_own (asks.HitUnknown own asked) is = one_of (out.HitUnknown own asked) (λ at. cc) is
-  no_own (asks.PassUnknown own request) is =
-      one_of (out.PassReport own request status.Unknown) (λ at. cc) is
-  no_own (asks.RequestAccepted own request) is = one_of (out.RequestAccepted own) (λ at. cc) is
-  no_own (asks.Hits request response word) is = is
-  no_own (asks.Passes request response) is = is
+  unsaid : (messages : List OutMessage) → Every Differs messages → In answer messages → ⊥
+  unsaid [] differ is = is
+  unsaid (message ∷ messages) differ (inl is) = differ.0 is
+  unsaid (message ∷ messages) differ (inr is) = unsaid messages differ.1 is
 
-  no_gone : (own : investor_facts.StandingRequest) (found : Option ShownOffer) (more : List OutMessage)
-      → In answer (option_to_list (option_map (investor_output.gone_message own) found) ++ more) → In answer more
-  no_gone own None more is = is
-  no_gone own (Some shown) more (inl is) = cc
-  no_gone own (Some shown) more (inr is) = is
+  no_own : (v : InvestorVerdict) → Every Differs (option_to_list (investor_output.verdict_message v))
+  no_own asks.Dropped = tt
+  no_own (asks.Hits request response word) = tt
+  no_own (asks.Passes request response) = tt
+  no_own other = (λ at. cc, tt)
 
   no_offer : (number : ℕ) (offer : Offer) (own : Option investor_facts.StandingRequest)
-      → In answer (investor_output.offer_messages book number offer own) → ⊥
-  no_offer number offer None is = is
-  no_offer number offer (Some own) is =
-      one_of (investor_output.offer_message own (investor_output.next_offer book number offer)) (λ at. cc)
-      (no_gone own (investor_facts.offer_of_dealer own offer.dealer)
-      (investor_output.offer_message own (investor_output.next_offer book number offer) ∷ []) is)
-
-  no_withdrawal : (word : ℕ) (own : Option investor_facts.StandingRequest)
-      → In answer (investor_output.withdrawal_messages word own) → ⊥
-  no_withdrawal word None is = is
-  no_withdrawal word (Some own) is = by_shown (investor_facts.offer_with_word own word) is
-    where
-      by_shown : (found : Option ShownOffer)
-          → In answer (option_to_list (option_map (investor_output.gone_message own) found)) → ⊥
-      by_shown None so = so
-      by_shown (Some shown) so = one_of (investor_output.gone_message own shown) (λ at. cc) so
-
-  no_decline : (dealer : List ℕ) (own : Option investor_facts.StandingRequest)
-      → In answer (investor_output.decline_messages dealer own) → ⊥
-  no_decline dealer None is = is
-  no_decline dealer (Some own) is = one_of (out.DealerDeclined own.request.id dealer) (λ at. cc) is
-
-  no_expiry : (own : Option investor_facts.StandingRequest)
-      → In answer (investor_output.expiry_messages own) → ⊥
-  no_expiry None is = is
-  no_expiry (Some own) is = one_of (out.RequestExpired own.request.id) (λ at. cc) is
+      → Every Differs (investor_output.offer_messages book number offer own)
+  no_offer number offer None = tt
+  no_offer number offer (Some own) =
+      every_both Differs _ _
+      (gone_says Differs own (λ shown at. cc) (investor_facts.offer_of_dealer own offer.dealer))
+      (λ at. cc, tt)
 
   -- a reply to a hit of a quote on this request
   record IsOfHit (response : ResponseRef) (given : Reply)
@@ -193,15 +164,9 @@ module _ (market : InvestorMarket) (book : investor_facts.InvestorBook) (id name
       → Replies event
   unfolding investor_output.event_messages
   award_replies (at_investor.Received moment bytes) is =
-      absurd (no_own (investor_verdict market book moment bytes) is)
+      absurd (unsaid _ (no_own (investor_verdict market book moment bytes)) is)
   award_replies (at_investor.QuoteCame request offer moment) is =
-      absurd (no_offer request offer (investor_facts.open_request book request) is)
-  award_replies (at_investor.QuoteGone request word moment) is =
-      absurd (no_withdrawal word (investor_facts.open_request book request) is)
-  award_replies (at_investor.DealerDeclined request dealer moment) is =
-      absurd (no_decline dealer (investor_facts.open_request book request) is)
-  award_replies (at_investor.Closed request moment) is =
-      absurd (no_expiry (investor_facts.request_numbered book request) is)
+      absurd (unsaid _ (no_offer request offer (investor_facts.open_request book request)) is)
   award_replies (at_investor.Answered request response given moment) is =
       let so = reply_of response given (investor_facts.request_numbered book request) is in
       record {
@@ -216,6 +181,13 @@ module _ (market : InvestorMarket) (book : investor_facts.InvestorBook) (id name
         is_hit = so.is_hit;
         unrefused = so.unrefused;
       }
+  award_replies other is =
+      absurd (unsaid (investor_output.event_messages market book other)
+      (news_says Differs market book other tt (λ request own stands. record {
+        gone = λ its word moment at shown same. cc;
+        declined = λ its dealer moment at same. cc;
+        expired = λ same. cc;
+      })) is)
 
 awarded : (quote : ℕ) (given : Reply) → investor_output.refusal_of given ≡ None
     → replies_to (Some quote) given ≡ true → given ≡ reply.Awarded

@@ -47,6 +47,7 @@ use Rattle.laws_days.specs.ActionCases.{if_does, numbered_does}
 use Rattle.laws_days.specs.DutyWalk.{AnyRoom, DealerMay, InvestorMay, NoHitThere, RoomMay, Walks}
 use Rattle.laws_days.specs.DutyWalk.{any_room, duty_walks, settlement_found}
 use Rattle.laws_days.specs.LeftBehind.{LeftBy, duty_each}
+use Rattle.laws_days.proofs.NewsWalk.{IsNews, any_news}
 use Rattle.laws_trades.specs.TradeTimes.{IsAwarded, room_at}
 use Rattle.laws_trades.proofs.TimeParts.{Brings, DutyTimed, FactTimed, none}
 use Rattle.laws_trades.proofs.TimeDesks.{MayReply, dropped_brings, grown, invested_brings}
@@ -123,31 +124,25 @@ module _ (config : Configuration) (facts : List Fact) where
       λ row found. dropped_brings config facts number row last moment
   at_dealers by other is = tt
 
+  -- what comes to an investor's desk, and is no reply
+  unreplied : (number : ℕ) (row : InvestorRow) → investor_numbered config number ≡ Some row
+      → (event : InvestorEvent) → ((request : ℕ) (response : ResponseRef) (answer : Reply) (moment : ℕ)
+      → event ≡ at_investor.Answered request response answer moment → ⊥)
+      → InvestorTimed number row event
+  unreplied number row found event isnt = market_brings config facts number row found event [] (record {
+    replies = λ request response answer moment at. absurd (isnt request response answer moment at);
+    award = λ request response moment at. absurd (isnt request response reply.Awarded moment at);
+  }) tt
+
   at_investors : (d : Duty) → DutyTimed config facts d → InvestorMay InvestorTimed config d
   at_investors (duty.Relay room offer moment) is = λ row found.
-      market_brings config facts room.investor row found (at_investor.QuoteCame room.n offer moment) [] (record {
-        replies = λ request response answer other at. cc;
-        award = λ request response other at. cc;
-      }) tt
-  at_investors (duty.Gone room word moment) is = λ row found.
-      market_brings config facts room.investor row found (at_investor.QuoteGone room.n word moment) [] (record {
-        replies = λ request response answer other at. cc;
-        award = λ request response other at. cc;
-      }) tt
-  at_investors (duty.Declined room moment) is = λ dealer row found.
-      market_brings config facts room.investor row found (at_investor.DealerDeclined room.n dealer moment) [] (record {
-        replies = λ request response answer other at. cc;
-        award = λ request response other at. cc;
-      }) tt
+      unreplied room.investor row found (at_investor.QuoteCame room.n offer moment)
+      (λ request response answer other at. cc)
   at_investors (duty.Answer room response answer moment) is = λ fits row found.
       market_brings config facts room.investor row found (at_investor.Answered room.n response answer moment) []
       (replied room response answer moment is fits row found) tt
-  at_investors (duty.Close room moment) is = λ row found.
-      market_brings config facts room.investor row found (at_investor.Closed room.n moment) [] (record {
-        replies = λ request response answer other at. cc;
-        award = λ request response other at. cc;
-      }) tt
-  at_investors other is = tt
+  at_investors other is = any_news InvestorTimed config other tt (λ number row found event news.
+      unreplied number row found event (λ request response answer moment at. subst IsNews at news))
 
   -- a duty that is no response
   abbrev IsPlain : Duty → Type 0

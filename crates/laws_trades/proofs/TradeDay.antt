@@ -20,6 +20,7 @@ use Rattle.laws_days.specs.DutyWalk.{any_room, duty_walks}
 use Rattle.laws_days.specs.LeftBehind.{LeftBy, duty_each}
 use Rattle.laws_days.proofs.ListLemmas.{cases_some}
 use Rattle.laws_days.proofs.LiveQuotes.{LoneQuotes}
+use Rattle.laws_days.proofs.NewsWalk.{any_news}
 use Rattle.laws_days.proofs.VenueDay.{venue_ok}
 use Rattle.laws_days.proofs.VenueDesk.{WordsOfDay}
 use Rattle.laws_days.proofs.VenueInvariant.{DutyOk, VenueOk}
@@ -30,8 +31,8 @@ use Rattle.laws_days.proofs.VenueSteps.{Here}
 use Rattle.laws_days.proofs.VenueTurns.{Doing, beside, turn, turns_of}
 use Rattle.laws_trades.proofs.TradeDesk.{said_makes, shown_makes, unshown_adds}
 use Rattle.laws_trades.proofs.TradeHits.{hit_makes}
-use Rattle.laws_trades.proofs.TradeMarkets.{asked_makes, declined_makes, expired_makes}
-use Rattle.laws_trades.proofs.TradeMarkets.{investor_makes, relayed_makes, withdrawn_makes}
+use Rattle.laws_trades.proofs.TradeMarkets.{asked_makes, investor_makes, news_makes}
+use Rattle.laws_trades.proofs.TradeMarkets.{relayed_makes}
 use Rattle.laws_trades.proofs.TradeParts.{TradeDuty, TradeOk}
 use Rattle.laws_trades.proofs.TradeReplies.{answer_makes}
 use Rattle.laws_trades.proofs.TradeRooms.{opened_makes, passed_makes, posted_makes, swept_makes}
@@ -109,14 +110,8 @@ module _ (h : Here) where
 
   at_investors : (d : Duty) → IsCalm d → InvestorMay InvestorAdds h.config d
   at_investors (duty.Relay room offer moment) calm = absurd calm
-  at_investors (duty.Gone room word moment) calm =
-      λ row found. withdrawn_makes h room.investor row found room word moment
-  at_investors (duty.Declined room moment) calm =
-      λ dealer row found. declined_makes h room.investor row found room dealer moment
   at_investors (duty.Answer room response reply moment) calm = absurd calm
-  at_investors (duty.Close room moment) calm =
-      λ row found. expired_makes h room.investor row found room moment
-  at_investors other calm = tt
+  at_investors other calm = any_news InvestorAdds h.config other tt (news_makes h)
 
   in_rooms : (by : Actor) (d : Duty) → IsCalm d → RoomMay RoomAdds h.config h.venue.facts by d
   in_rooms by (duty.Hit room response word moment) calm = absurd calm

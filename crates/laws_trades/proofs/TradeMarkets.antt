@@ -1,14 +1,14 @@
 -- What comes to an investor's desk, and what its message leaves, brings what stands of trades.
-use Rattle.laws_days.proofs.Common.{List, None, Option, Some, ℕ, [], ap}
+use Rattle.laws_days.proofs.Common.{List, None, Some, ℕ, [], ap}
 use Rattle.laws_days.proofs.Common.{inl, inr, map}
 use Rattle.laws_days.proofs.Common.{option_to_list, refl, subst, sym, ◌++◌, ◌==◌, ◌∙◌, ◌∷◌}
 use Rattle.laws_days.proofs.Common.{◌≡◌, Duty}
 use Rattle.laws_days.proofs.Common.{RoomRef, investor_numbered, InvestorRow, market_for, market_of}
 use Rattle.laws_days.proofs.Common.{Asked}
-use Rattle.laws_days.proofs.Common.{InvestorFact, Offered, book_of, own_facts}
+use Rattle.laws_days.proofs.Common.{InvestorFact, book_of, own_facts}
 use Rattle.laws_days.proofs.Common.{InvestorMarket, investor_verdict, InvestorEvent}
 use Rattle.laws_days.proofs.Common.{ShownOffer, InvestorVerdict, Effect, done_for}
-use Rattle.laws_days.proofs.Common.{where_known, AuditTrail, Every, every_both, In}
+use Rattle.laws_days.proofs.Common.{where_known, AuditTrail, Every, In}
 use Rattle.laws_days.proofs.Common.{in_left, in_right, investor_grown, AtInvestor}
 use Rattle.laws_days.proofs.Common.{of_investor}
 use Rattle.market_terms.specs.declared.rooms.Offer.{Offer}
@@ -19,12 +19,11 @@ use Rattle.investor_desk.specs.InvestorOutput.{written_from}
 use Rattle.step_replay.specs.InvestorTrail.{sent_by}
 use Rattle.laws_days.proofs.Common.{length, ◌+◌}
 use Rattle.fix_fields.specs.Frame.{IsValue}
-use Rattle.investor_desk.specs.InvestorFacts.{offer_numbered, offer_of_dealer}
-use Rattle.investor_desk.specs.InvestorFacts.{offer_with_word, open_request, request_numbered}
+use Rattle.investor_desk.specs.InvestorFacts.{offer_numbered}
+use Rattle.investor_desk.specs.InvestorFacts.{open_request}
 use Rattle.investor_desk.specs.InvestorOutput.{DeskState}
 use Rattle.investor_desk.specs.InvestorOutput.{event_facts}
-use Rattle.investor_desk.specs.InvestorOutput.{expiry_facts, gone_facts, next_offer}
-use Rattle.investor_desk.specs.InvestorOutput.{offer_facts, verdict_duty, withdrawal_facts}
+use Rattle.investor_desk.specs.InvestorOutput.{verdict_duty}
 use Rattle.investor_desk.specs.declared.events.InvestorEvent.TheVariants as at_investor
 use Rattle.investor_desk.specs.declared.verdicts.InvestorVerdict.TheVariants as verdict
 use Rattle.venue_steps.specs.declared.actors.Actor.TheVariants as actor
@@ -36,13 +35,14 @@ use Rattle.step_replay.specs.PlaceLemmas.{own_investor}
 use Rattle.laws_days.proofs.KnownDesks.{offers_both}
 use Rattle.laws_days.proofs.ListLemmas.{cases_some, find_grown}
 use Rattle.std.proofs.lemmas.Option.{same_Some}
+use Rattle.laws_days.proofs.NewsWalk.{IsNews, news_adds, offer_adds}
 use Rattle.laws_days.proofs.VenueParts.{Later, Still, investor_facts}
 use Rattle.laws_days.proofs.VenueParts.{investor_facts_grown}
 use Rattle.laws_days.proofs.VenueSteps.{Here, day, to_now}
 use Rattle.laws_trades.specs.Trades.{room_of}
-use Rattle.laws_trades.proofs.CalmMessages.{Harmless, Means, decline_harmless, expiry_harmless}
-use Rattle.laws_trades.proofs.CalmMessages.{numbered_asked, offer_harmless, open_asked}
-use Rattle.laws_trades.proofs.CalmMessages.{verdict_harmless, verdict_means, withdrawal_harmless}
+use Rattle.laws_trades.proofs.CalmMessages.{Harmless, Means, news_harmless}
+use Rattle.laws_trades.proofs.CalmMessages.{offer_harmless, open_asked, verdict_harmless}
+use Rattle.laws_trades.proofs.CalmMessages.{verdict_means}
 use Rattle.laws_trades.proofs.TradeParts.{MayBeRead, OfferOf}
 use Rattle.laws_trades.proofs.TradeSteps.{DutyNow, FactNow, Makes, idle_makes}
 use Rattle.laws_trades.proofs.TradeSteps.{when_makes}
@@ -156,13 +156,7 @@ module _ (h : Here) where
       left = tt;
     }
 
-    gone_makes : (effect : Effect) (request : ℕ) (shown : Option ShownOffer)
-        → Every (λ fact. FactNow h effect (AtInvestor firm (AtDesk fact)))
-        (gone_facts request shown)
-    gone_makes effect request None = tt
-    gone_makes effect request (Some shown) = (λ now later. tt, tt)
-
-    -- A quote that is shown, that is gone, a decline, an expiry.
+    -- A quote that is shown, and news.
 
     pub relayed_makes : investor_numbered h.config firm ≡ Some row → (room : RoomRef)
         (offer : Offer) (moment : ℕ) → room.investor ≡ firm
@@ -174,71 +168,25 @@ module _ (h : Here) where
         let event = at_investor.QuoteCame room.n offer moment in
         let effect = at_market h.venue.facts market event [] in
         when_makes h _ effect (λ test. event_makes event
-        (elim (open_request (book_of desk_facts) room.n)
-        as (λ own. Every (λ fact. FactNow h effect (AtInvestor firm (AtDesk fact)))
-        (offer_facts (book_of desk_facts) room.n offer own)) [
-          | None ↦ tt
-          | Some own ↦ every_both (λ fact. FactNow h effect (AtInvestor firm (AtDesk fact)))
-              (gone_facts room.n (offer_of_dealer own offer.dealer))
-              (Offered (next_offer (book_of desk_facts) room.n offer) ∷ [])
-              (gone_makes effect room.n (offer_of_dealer own offer.dealer)) (
-                λ now later. subst (λ (i : ℕ). OfferOf h.config now.facts (room_of i room.n) offer) is
-                    (offers now (to_now h effect later)),
-                tt,
-              )
-        ])
+        (offer_adds (λ fact. FactNow h effect (AtInvestor firm (AtDesk fact))) (book_of desk_facts)
+        room.n offer (λ quote now later. tt)
+        (λ now later. subst (λ (i : ℕ). OfferOf h.config now.facts (room_of i room.n) offer) is
+        (offers now (to_now h effect later))) (open_request (book_of desk_facts) room.n))
         (harmless_sent effect firm row row_is _ moment _ (offer_harmless market desk_facts
         (book_of desk_facts) room.n offer (open_request (book_of desk_facts) room.n)
         (open_asked desk_facts room.n))))
 
-    pub withdrawn_makes : investor_numbered h.config firm ≡ Some row → (room : RoomRef)
-        (word moment : ℕ)
-        → Makes h (at_market h.venue.facts market (at_investor.QuoteGone room.n word moment) [])
-    unfolding event_facts event_messages
-    withdrawn_makes row_is room word moment =
-        let event = at_investor.QuoteGone room.n word moment in
+    pub news_makes : investor_numbered h.config firm ≡ Some row → (event : InvestorEvent)
+        → IsNews event → Makes h (at_market h.venue.facts market event [])
+    news_makes row_is event news =
         let effect = at_market h.venue.facts market event [] in
         event_makes event
-        (elim (open_request (book_of desk_facts) room.n)
-        as (λ own. Every (λ fact. FactNow h effect (AtInvestor firm (AtDesk fact)))
-        (withdrawal_facts room.n word own)) [
-          | None ↦ tt
-          | Some own ↦ gone_makes effect room.n (offer_with_word own word)
-        ])
-        (harmless_sent effect firm row row_is _ moment _
-        (withdrawal_harmless market desk_facts word (open_request (book_of desk_facts) room.n)
-        (open_asked desk_facts room.n)))
-
-    pub declined_makes : investor_numbered h.config firm ≡ Some row → (room : RoomRef)
-        (dealer : List ℕ) (moment : ℕ)
-        → Makes h (at_market h.venue.facts market
-        (at_investor.DealerDeclined room.n dealer moment) [])
-    unfolding event_facts event_messages
-    declined_makes row_is room dealer moment =
-        let event = at_investor.DealerDeclined room.n dealer moment in
-        let effect = at_market h.venue.facts market event [] in
-        event_makes event tt
-        (harmless_sent effect firm row row_is _ moment _
-        (decline_harmless market desk_facts dealer (open_request (book_of desk_facts) room.n)
-        (open_asked desk_facts room.n)))
-
-    pub expired_makes : investor_numbered h.config firm ≡ Some row → (room : RoomRef)
-        (moment : ℕ)
-        → Makes h (at_market h.venue.facts market (at_investor.Closed room.n moment) [])
-    unfolding event_facts event_messages
-    expired_makes row_is room moment =
-        let event = at_investor.Closed room.n moment in
-        let effect = at_market h.venue.facts market event [] in
-        event_makes event
-        (elim (request_numbered (book_of desk_facts) room.n)
-        as (λ own. Every (λ fact. FactNow h effect (AtInvestor firm (AtDesk fact)))
-        (expiry_facts room.n own)) [
-          | None ↦ tt
-          | Some own ↦ (λ now later. tt, tt)
-        ])
-        (harmless_sent effect firm row row_is _ moment _
-        (expiry_harmless market desk_facts (request_numbered (book_of desk_facts) room.n)
-        (numbered_asked desk_facts room.n)))
+        (news_adds (λ fact. FactNow h effect (AtInvestor firm (AtDesk fact))) market
+        (book_of desk_facts) event news (λ request word moment is quote now later. tt)
+        (λ request now later. tt))
+        (harmless_sent effect firm row row_is _ (moment_of event)
+        (event_messages market (book_of desk_facts) event)
+        (news_harmless market desk_facts event news))
 
     -- A message.
 

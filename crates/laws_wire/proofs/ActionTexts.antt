@@ -1,8 +1,9 @@
 -- Every duty, message and sweep: what it adds for a dealer and what it leaves may be said.
 use Rattle.std.proofs.Common.{◌≡◌, ℕ, ◌<◌, Bool, true, false, List, [], ◌++◌, map}
 use Rattle.std.proofs.Common.{Option, Some, None, option_map, option_to_list, Result, Ok, Err, refl}
-use Rattle.std.proofs.Common.{if◌then◌else◌, is_some}
+use Rattle.std.proofs.Common.{◌∷◌, if◌then◌else◌, is_some}
 use Rattle.fix_fields.specs.declared.limits.TheConstants.{A_DAY}
+use Rattle.market_terms.specs.declared.closes.Close.{Close}
 use Rattle.market_terms.specs.declared.closes.HitRefusal.{HitRefusal}
 use Rattle.market_terms.specs.declared.duties.Duty.{Duty}
 use Rattle.market_terms.specs.declared.duties.Duty.TheVariants as duty
@@ -12,10 +13,11 @@ use Rattle.quote_word.specs.declared.settled.Settled.{Settled}
 use Rattle.venue_rows.specs.Rows.{Configuration, dealer_numbered, investor_numbered}
 use Rattle.venue_rows.specs.declared.dealer_rows.DealerRow.{DealerRow}
 use Rattle.venue_rows.specs.declared.investor_rows.InvestorRow.{InvestorRow}
-use Rattle.dealer_desk.specs.DealerFacts.{quote_to_drop}
-use Rattle.dealer_desk.specs.DealerOutput.{event_facts, further_drop}
+use Rattle.dealer_desk.specs.DealerOutput.{event_facts}
 use Rattle.dealer_desk.specs.DealerOutput.{shown_room}
-use Rattle.dealer_desk.specs.DealerOutput.{unpost_dropped}
+use Rattle.dealer_desk.specs.DealerOutput.{post_of}
+use Rattle.dealer_desk.specs.declared.verdicts.DealerVerdict.{DealerVerdict}
+use Rattle.dealer_desk.specs.declared.verdicts.DealerVerdict.TheVariants as verdict
 use Rattle.dealer_desk.specs.declared.events.DealerEvent.{DealerEvent}
 use Rattle.dealer_desk.specs.declared.events.DealerEvent.TheVariants as at_desk
 use Rattle.investor_desk.specs.InvestorDesk.{market_for, market_of}
@@ -24,17 +26,17 @@ use Rattle.investor_desk.specs.declared.events.InvestorEvent.{InvestorEvent}
 use Rattle.investor_desk.specs.declared.events.InvestorEvent.TheVariants as at_investor
 use Rattle.request_room.specs.Book as room
 use Rattle.request_room.specs.Book.{hit_outcome}
-use Rattle.request_room.specs.RoomFacts.{RoomFact}
+use Rattle.request_room.specs.RoomFacts.{RoomFact, is_open, is_vacant, request_of}
 use Rattle.request_room.specs.declared.ends.End.{End}
 use Rattle.request_room.specs.declared.events.RoomEvent.{RoomEvent}
 use Rattle.request_room.specs.declared.events.RoomEvent.TheVariants as at_room
 use Rattle.venue_steps.specs.Dealers.{Dealer, QuoteRef, dealer_at, dealer_of}
-use Rattle.venue_steps.specs.Dealers.{offer_of, quote_with_word, word_for}
+use Rattle.venue_steps.specs.Dealers.{quote_with_word}
 use Rattle.venue_steps.specs.declared.actors.Actor.{Actor}
 use Rattle.venue_steps.specs.declared.actors.Actor.TheVariants as actor
-use Rattle.venue_steps.specs.RoomSteps.{duties_of_hit}
-use Rattle.step_replay.specs.Actions.{Effect, answer_to_drop, at_dealer, at_market}
-use Rattle.step_replay.specs.Actions.{done_by, done_for, drop_at}
+use Rattle.venue_steps.specs.RoomSteps.{dealers_of, duties_of_hit, shown_then_ready, told_in}
+use Rattle.step_replay.specs.Actions.{Effect, at_dealer, at_market}
+use Rattle.step_replay.specs.Actions.{done_by, done_for}
 use Rattle.step_replay.specs.Actions.{hit_with, left_by, left_by_investor}
 use Rattle.step_replay.specs.Actions.{lifting, nothing, received_by_dealer}
 use Rattle.step_replay.specs.Actions.{received_by_investor, settlement_of}
@@ -49,13 +51,15 @@ use Rattle.step_replay.specs.VenueFacts.{AtDealer, AtInvestor, Fact, InRoom, of_
 use Rattle.step_replay.specs.VenueFacts.{of_investor, of_room}
 use Rattle.laws_days.specs.DutyWalk.{AnyInvestor, DealerMay, RoomMay, Walks, any_investor}
 use Rattle.laws_days.specs.DutyWalk.{duty_walks, settlement_found, sweep_walks}
+use Rattle.laws_days.specs.KeptItems.{every_all, every_map}
+use Rattle.laws_days.specs.MayLeave.{AreTold, InRooms, MaySay, drop_each, follows, if_each}
+use Rattle.laws_days.specs.MayLeave.{outcome_each, shown_each, told_each, verdict_each}
 use Rattle.laws_wire.proofs.DealerTexts as dealer
 use Rattle.laws_wire.proofs.DealerTexts.{event_adds}
 use Rattle.laws_wire.proofs.InvestorTexts as investor
 use Rattle.laws_wire.proofs.DutyTexts.{AreNamed, DutyGiven, EffectGiven, EntryGiven, FactGiven}
-use Rattle.laws_wire.proofs.DutyTexts.{dealer_leaves}
-use Rattle.laws_wire.proofs.DutyTexts.{drops_on, each_made, each_mapped, expires, follows, hits}
-use Rattle.laws_wire.proofs.DutyTexts.{investor_leaves, opens, passes, unposts}
+use Rattle.laws_wire.proofs.DutyTexts.{each_mapped, investor_leaves}
+use Rattle.laws_wire.proofs.MessageFields.{AskGiven}
 
 module _ (D : ℕ → Type 0) (of_day : (n : ℕ) → n < A_DAY → D n) (config : Configuration)
     (named : AreNamed config) (facts : List Fact) where
@@ -70,12 +74,12 @@ module _ (D : ℕ → Type 0) (of_day : (n : ℕ) → n < A_DAY → D n) (config
   when false effect given = nothing_given
 
   rooms : (at : RoomRef) (added : List RoomFact) → Every (FactGiven D) (map (InRoom at) added)
-  rooms at added = each_made (FactGiven D) (InRoom at) (λ fact. tt) added
+  rooms at added = every_map (FactGiven D) (InRoom at) (λ fact. tt) added
 
   market_given : (market : InvestorMarket) (event : InvestorEvent) (duties : List Duty)
       → Every (DutyGiven D) duties → EffectGiven D (at_market facts market event duties)
   market_given market event duties given = record {
-    facts = each_made (FactGiven D) (AtInvestor market.firm) (λ entry. tt) _;
+    facts = every_map (FactGiven D) (AtInvestor market.firm) (λ entry. tt) _;
     duties = given;
   }
 
@@ -121,8 +125,8 @@ module _ (D : ℕ → Type 0) (of_day : (n : ℕ) → n < A_DAY → D n) (config
             (map dealer_trail.ShownIn shown)
             (each_mapped (EntryGiven D) dealer_trail.AtDesk happened
             (event_adds D of_day config.date row (book_by trail) event given))
-            (each_made (EntryGiven D) dealer_trail.ShownIn (λ at. tt) shown))
-            (each_made (EntryGiven D) dealer_trail.Sent (λ bytes. tt) sent));
+            (every_map (EntryGiven D) dealer_trail.ShownIn (λ at. tt) shown))
+            (every_map (EntryGiven D) dealer_trail.Sent (λ bytes. tt) sent));
         duties = left;
       }
 
@@ -168,40 +172,50 @@ module _ (D : ℕ → Type 0) (of_day : (n : ℕ) → n < A_DAY → D n) (config
         hit_given at response word moment (settlement_found config facts at word moment) given;
   }
 
+  in_each : (dealer : ℕ) (does : RoomRef → Duty) → ((at : RoomRef) → DutyGiven D (does at))
+      → InRooms (DutyGiven D) config facts dealer does
+  in_each dealer does given =
+      every_all (λ (at : RoomRef). DutyGiven D (does at)) given (rooms_by (of_dealer dealer facts))
+
   at_dealers : (by : Actor) (left : Duty) → DutyGiven D left → DealerMay DealerGiven config facts by left
   at_dealers by (duty.Show dealer at ask moment) given = λ row found none. (given, tt)
   at_dealers by (duty.Tell dealer at close moment) given =
       λ row found request there may. (given, tt)
-  at_dealers (actor.Firm number) (duty.Drop last moment) given = λ row found.
-      let own = of_dealer number facts in (
-        given,
-        every_both (DutyGiven D)
-            (option_to_list (unpost_dropped (rooms_by own) moment (answer_to_drop own last)
-            (quote_to_drop (book_by own) last)))
-            (option_to_list (further_drop
-            (book_by (own ++ entries_of config.date row own (drop_at own last moment))) last moment))
-            (unposts D (rooms_by own) moment (answer_to_drop own last)
-            (quote_to_drop (book_by own) last) given)
-            (drops_on D _ last moment given),
-      )
+  at_dealers (actor.Firm number) (duty.Drop last moment) given = λ row found. (
+    given,
+    drop_each (DutyGiven D) config facts number last moment row (
+      λ quote. in_each number (λ at. duty.Unpost at quote moment) (λ at. given),
+      given,
+    ),
+  )
   at_dealers by other given = tt
+
+  told : (at : RoomRef) (moment : ℕ) → D moment → AreTold (DutyGiven D) config facts at moment
+  told at moment day =
+      every_all (λ (dealer : ℕ). (close : Close) → D moment) (λ dealer close. day)
+      (dealers_of (request_of (of_room at facts)))
 
   in_rooms : (by : Actor) (left : Duty) → DutyGiven D left → RoomMay RoomGiven config facts by left
   in_rooms by (duty.Open at ask dealers moment) given =
-      opens D (of_room at facts) at ask dealers moment given.0 given.1
+      if_each (DutyGiven D) (is_vacant (of_room at facts)) (shown_then_ready at ask dealers moment)
+      (shown_each (DutyGiven D) config facts at moment (λ dealer. duty.Show dealer at ask moment) dealers
+      (every_all (λ (dealer : ℕ). AskGiven D ask × D moment) (λ dealer. given) dealers, given.1))
   in_rooms (actor.Firm number) (duty.Post at quote price valid_until moment) given = λ row found.
-      let offer = offer_of config (dealer_of number row) quote price valid_until in
-      follows D _ (duty.Relay at offer moment) ((named.dealers number row found, given.0), given.1)
-  in_rooms (actor.Firm number) (duty.Unpost at quote moment) given = λ row found.
-      follows D _ (duty.Gone at (word_for config (dealer_of number row) quote) moment) given
+      follows (DutyGiven D) _ _ ((named.dealers number row found, given.0), given.1)
+  in_rooms (actor.Firm number) (duty.Unpost at quote moment) given =
+      λ row found. follows (DutyGiven D) _ _ given
   in_rooms (actor.Firm number) (duty.Decline at moment) given =
-      λ row found. follows D _ (duty.Declined at moment) given
-  in_rooms by (duty.Hit at response word moment) given =
-      hits D (of_room at facts) at response moment
-      (hit_outcome (of_room at facts) word moment (settlement_found config facts at word moment))
-      given.0 given.1
-  in_rooms by (duty.Pass at response moment) given =
-      passes D (of_room at facts) at response moment given.0 given.1
+      λ row found. follows (DutyGiven D) _ _ given
+  in_rooms by (duty.Hit at response word moment) given = (
+    given,
+    outcome_each (DutyGiven D) config facts at moment (told at moment given.1)
+        (hit_outcome (of_room at facts) word moment (settlement_found config facts at word moment)),
+  )
+  in_rooms by (duty.Pass at response moment) given = (
+    given,
+    if_each (DutyGiven D) (is_open (of_room at facts)) (told_in (of_room at facts) at room.passed moment)
+        (told_each (DutyGiven D) config facts at room.passed moment (told at moment given.1)),
+  )
   in_rooms by other given = tt
 
   pub duty_given : (by : Actor) (left : Duty) → DutyGiven D left
@@ -215,9 +229,22 @@ module _ (D : ℕ → Type 0) (of_day : (n : ℕ) → n < A_DAY → D n) (config
       → EffectGiven D (sweep_effect config facts at moment)
   sweep_given at moment day =
       sweep_walks DealerGiven AnyInvestor RoomGiven config facts (EffectGiven D) walks at moment
-      (expires D (of_room at facts) at moment day)
+      (if_each (DutyGiven D) (room.may_expire (of_room at facts) moment)
+      (duty.Close at moment ∷ told_in (of_room at facts) at room.expired moment)
+      (day, told_each (DutyGiven D) config facts at room.expired moment (told at moment day)))
 
   -- A message.
+
+  verdict_leaves : (number moment : ℕ) (v : DealerVerdict) → dealer.VerdictGiven D v → D moment
+      → MaySay (DutyGiven D) config facts number moment v
+  verdict_leaves number moment (verdict.QuoteAccepted request id quote replaced) given day =
+      in_each number (post_of quote) (λ at. (given.3, given.4))
+  verdict_leaves number moment (verdict.CancelAccepted id quote request) given day =
+      in_each number (λ at. duty.Unpost at quote moment) (λ at. day)
+  verdict_leaves number moment (verdict.DropsFollow last) given day = day
+  verdict_leaves number moment (verdict.DeclineAccepted request quote) given day =
+      in_each number (λ at. duty.Decline at moment) (λ at. day)
+  verdict_leaves number moment other given day = tt
 
   dealer_says : (moment : ℕ) (bytes : List ℕ) (number : ℕ) (row : DealerRow) → D moment
       → EffectGiven D (received_by_dealer config facts moment bytes (dealer_of number row))
@@ -228,8 +255,8 @@ module _ (D : ℕ → Type 0) (of_day : (n : ℕ) → n < A_DAY → D n) (config
       when _ (at_dealer config facts (dealer_of number row)
       (at_desk.Received moment bytes settlement) (left_by own moment v))
       (desk_given number row (at_desk.Received moment bytes settlement) (left_by own moment v) day
-      (dealer_leaves D (rooms_by own) moment v settlement
-      (dealer.verdict_given D of_day config.date row (book_by own) moment bytes day) day))
+      (verdict_each (DutyGiven D) config facts number moment v settlement (verdict_leaves number moment v
+      (dealer.verdict_given D of_day config.date row (book_by own) moment bytes day) day)))
 
   investor_says : (moment : ℕ) (bytes : List ℕ) (number : ℕ) (row : InvestorRow)
       → investor_numbered config number ≡ Some row → D moment

@@ -80,12 +80,10 @@ module _ (D : ℕ → Type 0) (of_day : (n : ℕ) → n < A_DAY → D n) (market
   )
 
   moment_given : (more : InvestorEvent) → EventGiven D more → D (moment_of more)
-  moment_given (event.Received moment bytes) given = given
   moment_given (event.QuoteCame request offer moment) given = given.1
-  moment_given (event.QuoteGone request word moment) given = given
   moment_given (event.DealerDeclined request dealer moment) given = given.1
   moment_given (event.Answered request response reply moment) given = given.1
-  moment_given (event.Closed request moment) given = given
+  moment_given other given = given
 
   events_said : (events : List InvestorEvent) (desk : DeskState)
       (notes : List (Option InvestorNote)) → Every (FactGiven D) desk.facts
@@ -144,16 +142,8 @@ module _ (D : ℕ → Type 0) (of_day : (n : ℕ) → n < A_DAY → D n) (market
   brought : (desk : DeskEvents) (what : ForInvestor) → DeskGiven desk → BroughtGiven D what
       → DeskGiven (investor_with desk what)
   unfolding investor_with
-  brought desk (to_investor.Relay request offer moment) is given =
-      where_with _ desk (event.QuoteCame request offer moment) is given
-  brought desk (to_investor.Gone request word moment) is given =
-      where_with _ desk (event.QuoteGone request word moment) is given
-  brought desk (to_investor.Declined request dealer moment) is given =
-      where_with _ desk (event.DealerDeclined request dealer moment) is given
-  brought desk (to_investor.Answer request response reply moment) is given =
-      where_with _ desk (event.Answered request response reply moment) is given
-  brought desk (to_investor.Close request moment) is given =
-      where_with _ desk (event.Closed request moment) is given
+  brought desk (to_investor.Relay request offer moment) is given = where_with _ desk _ is given
+  brought desk other is given = where_with _ desk _ is given
 
   came : (desk : DeskEvents) (coming : Coming) → DeskGiven desk → ComingGiven D coming
       → DeskGiven (after_coming desk coming)
@@ -165,17 +155,7 @@ module _ (D : ℕ → Type 0) (of_day : (n : ℕ) → n < A_DAY → D n) (market
       → DeskGiven (after_due desk item)
   unfolding after_due coming_by
   due_given desk (due.Own moment message) is given = came desk (Own moment message) is given
-  due_given desk (due.Offered request dealer price valid_until moment) is given =
-      came desk (coming_by (book_at desk) (due.Offered request dealer price valid_until moment)) is
-      given
-  due_given desk (due.Gone request quote moment) is given =
-      came desk (For (to_investor.Gone request quote moment)) is given
-  due_given desk (due.Declined request dealer moment) is given =
-      came desk (For (to_investor.Declined request dealer moment)) is given
-  due_given desk (due.Answered request response reply moment) is given =
-      came desk (For (to_investor.Answer request response reply moment)) is given
-  due_given desk (due.Expired request moment) is given =
-      came desk (For (to_investor.Close request moment)) is given
+  due_given desk other is given = came desk (coming_by (book_at desk) other) is given
 
   dues_given : (dues : List InvestorDue) (desk : DeskEvents) → DeskGiven desk
       → Every (DueGiven D) dues → DeskGiven (fold after_due desk dues)

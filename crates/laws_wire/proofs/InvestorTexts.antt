@@ -22,55 +22,52 @@ use Rattle.quote_messages.specs.declared.requests.QuoteRequest.{QuoteRequest}
 use Rattle.quote_messages.specs.declared.requests.RequestPass.{RequestPass}
 use Rattle.venue_rows.specs.Texts.{same_text}
 use Rattle.venue_rows.specs.declared.bond_rows.BondRow.{BondRow}
-use Rattle.investor_desk.specs.InvestorFacts.{Asked, Came, Closed, Gone, InvestorBook, InvestorFact}
-use Rattle.investor_desk.specs.InvestorFacts.{Offered, StandingRequest, book_of, expected_number}
+use Rattle.investor_desk.specs.InvestorFacts.{Asked, InvestorBook, InvestorFact}
+use Rattle.investor_desk.specs.InvestorFacts.{StandingRequest, book_of, expected_number}
 use Rattle.investor_desk.specs.InvestorFacts.{offer_named, offer_of_dealer}
-use Rattle.investor_desk.specs.InvestorFacts.{offer_with_word, open_request, request_numbered}
+use Rattle.investor_desk.specs.InvestorFacts.{open_request, request_numbered}
 use Rattle.investor_desk.specs.InvestorFacts.{request_with_id, requests_of, while_open}
-use Rattle.investor_desk.specs.InvestorOutput.{answer_facts, answer_messages, answer_note}
+use Rattle.investor_desk.specs.InvestorOutput.{answer_messages, answer_note}
 use Rattle.investor_desk.specs.InvestorOutput.{award_note}
-use Rattle.investor_desk.specs.InvestorOutput.{close_by_answer, closed_facts}
-use Rattle.investor_desk.specs.InvestorOutput.{decline_messages}
+use Rattle.investor_desk.specs.InvestorOutput.{close_by_answer}
 use Rattle.investor_desk.specs.InvestorOutput.{event_facts, event_messages, event_note}
-use Rattle.investor_desk.specs.InvestorOutput.{expiry_facts}
-use Rattle.investor_desk.specs.InvestorOutput.{expiry_messages, gone_facts, gone_message}
-use Rattle.investor_desk.specs.InvestorOutput.{next_offer}
-use Rattle.investor_desk.specs.InvestorOutput.{offer_facts, offer_message, offer_messages}
+use Rattle.investor_desk.specs.InvestorOutput.{gone_message}
+use Rattle.investor_desk.specs.InvestorOutput.{moment_of, next_offer}
+use Rattle.investor_desk.specs.InvestorOutput.{offer_message, offer_messages}
 use Rattle.investor_desk.specs.InvestorOutput.{refusal_of}
 use Rattle.investor_desk.specs.InvestorOutput.{response_message, verdict_facts, verdict_message}
-use Rattle.investor_desk.specs.InvestorOutput.{verdict_note, withdrawal_facts, withdrawal_messages}
+use Rattle.investor_desk.specs.InvestorOutput.{verdict_note}
 use Rattle.investor_desk.specs.InvestorRules.{InvestorMarket, arrival_verdict, bond_with_id, hit_of}
 use Rattle.investor_desk.specs.InvestorRules.{hit_verdict, investor_verdict, pass_of, pass_verdict}
 use Rattle.investor_desk.specs.InvestorRules.{request_answer, request_verdict}
 use Rattle.investor_desk.specs.declared.events.InvestorEvent.{InvestorEvent}
 use Rattle.investor_desk.specs.declared.events.InvestorEvent.TheVariants as event
 use Rattle.investor_desk.specs.declared.refusals.RequestRefusal.{RequestRefusal}
-use Rattle.investor_desk.specs.declared.standing.RequestClose.{RequestClose}
 use Rattle.investor_desk.specs.declared.standing.ShownOffer.{ShownOffer}
 use Rattle.investor_desk.specs.declared.verdicts.InvestorVerdict.{InvestorVerdict}
 use Rattle.investor_desk.specs.declared.verdicts.InvestorVerdict.TheVariants as verdict
 use Rattle.step_replay.specs.EachLemmas.{every_both}
 use Rattle.step_replay.specs.Lists.{Every}
+use Rattle.laws_days.proofs.NewsWalk.{gone_says, news_adds, news_says, offer_adds, reply_adds}
 use Rattle.laws_shown.proofs.ReadFields.{text_same}
 use Rattle.laws_wire.proofs.ArrivalTexts.{ArrivalGiven, InvestorSaid, investor_came}
 use Rattle.laws_wire.proofs.DealerTexts.{IfThere, found_there}
 use Rattle.laws_wire.proofs.FieldValues.{IsGiven}
-use Rattle.laws_wire.proofs.MessageFields.{AskGiven, IfMoment, MessageGiven, RejectGiven}
+use Rattle.laws_wire.proofs.MessageFields.{AskGiven, IfMoment, MessageGiven}
 use Rattle.laws_wire.proofs.MessageFields.{has_reason}
 
 -- Verdicts.
 
+-- what a message comes to: a request, or a response to one
+abbrev pub TakenGiven : (ℕ → Type 0) → InvestorVerdict → Type 0
+TakenGiven D (verdict.RequestAccepted id request) = IsGiven request.id × AskGiven D request.ask
+TakenGiven D (verdict.Hits request response word) = IsGiven response.id
+TakenGiven D (verdict.Passes request response) = IsGiven response.id
+TakenGiven D other = Unit {0}
+
+-- what answers it, if anything does, and what it comes to
 abbrev pub VerdictGiven : (ℕ → Type 0) → InvestorVerdict → Type 0
-VerdictGiven D verdict.Dropped = Unit {0}
-VerdictGiven D (verdict.OutOfSequence reject) = RejectGiven reject
-VerdictGiven D (verdict.Rejected reject) = RejectGiven reject
-VerdictGiven D (verdict.RequestRefused request bond refusal) = IsGiven request × IsGiven bond
-VerdictGiven D (verdict.HitUnknown id quote) = IsGiven id × IsGiven quote
-VerdictGiven D (verdict.PassUnknown id request) = IsGiven id × IsGiven request
-VerdictGiven D (verdict.RequestAccepted id request) =
-    IsGiven id × IsGiven request.id × AskGiven D request.ask
-VerdictGiven D (verdict.Hits request response word) = IsGiven response.id
-VerdictGiven D (verdict.Passes request response) = IsGiven response.id
+VerdictGiven D v = IfThere (MessageGiven D) (verdict_message v) × TakenGiven D v
 
 -- what is found passes the test
 passes : {A : Type 0} (test : A → Bool) (xs : List A) (x : A) → find test xs ≡ Some x
@@ -88,29 +85,29 @@ module _ (D : ℕ → Type 0) (of_day : (n : ℕ) → n < A_DAY → D n) (market
       → InvestorSaid D (message.Request request)
       → VerdictGiven D (request_answer market book moment request bond refusal)
   unfolding bond_with_id
-  request_given request bond (Some refused) found said = (said.0, said.1)
-  request_given request None None found said = (said.0, said.1)
+  request_given request bond (Some refused) found said = ((said.0, said.1), tt)
+  request_given request None None found said = ((said.0, said.1), tt)
   request_given request (Some bond) None found said =
       let same : bond.id ≡ request.bond = text_same bond.id request.bond
       (passes (λ (b : BondRow). same_text b.id request.bond) market.bonds bond found) in
-      (said.0, said.0, (subst IsGiven (sym same) said.1, named, said.2))
+      (said.0, (said.0, (subst IsGiven (sym same) said.1, named, said.2)))
 
   hit_given : (hit : QuoteHit) (shown : Option ShownOffer) → InvestorSaid D (message.Hit hit)
       → VerdictGiven D (hit_of hit shown)
-  hit_given hit None said = said
-  hit_given hit (Some shown) said = said.0
+  hit_given hit None said = (said, tt)
+  hit_given hit (Some shown) said = (tt, said.0)
 
   pass_given : (pass : RequestPass) (own : Option StandingRequest)
       → InvestorSaid D (message.Pass pass) → VerdictGiven D (pass_of pass own)
-  pass_given pass None said = said
-  pass_given pass (Some own) said = said.0
+  pass_given pass None said = (said, tt)
+  pass_given pass (Some own) said = (tt, said.0)
 
   came_given : (came : Arrival InvestorMessage) → ArrivalGiven (InvestorSaid D) came
       → VerdictGiven D (arrival_verdict market book moment came)
   unfolding request_verdict hit_verdict pass_verdict
-  came_given arrival.Dropped said = tt
-  came_given (arrival.OutOfSequence reject) said = said
-  came_given (arrival.Rejected reject) said = said
+  came_given arrival.Dropped said = (tt, tt)
+  came_given (arrival.OutOfSequence reject) said = (said, tt)
+  came_given (arrival.Rejected reject) said = (said, tt)
   came_given (arrival.Taken (message.Request request)) said =
       request_given request (bond_with_id market request.bond) _ refl said
   came_given (arrival.Taken (message.Hit hit)) said =
@@ -134,12 +131,10 @@ abbrev pub OfferGiven : (ℕ → Type 0) → Offer → Type 0
 OfferGiven D offer = IsGiven offer.dealer × IfMoment D offer.valid_until
 
 abbrev pub EventGiven : (ℕ → Type 0) → InvestorEvent → Type 0
-EventGiven D (event.Received moment bytes) = D moment
 EventGiven D (event.QuoteCame request offer moment) = OfferGiven D offer × D moment
-EventGiven D (event.QuoteGone request word moment) = D moment
 EventGiven D (event.DealerDeclined request dealer moment) = IsGiven dealer × D moment
 EventGiven D (event.Answered request response reply moment) = IsGiven response.id × D moment
-EventGiven D (event.Closed request moment) = D moment
+EventGiven D other = D (moment_of other)
 
 -- a message with what is noted beside it
 abbrev pub MaySend : (ℕ → Type 0) → Bool → OutMessage → Type 0
@@ -155,10 +150,7 @@ module _ (D : ℕ → Type 0) where
       → Every (OwnGiven D) (requests_of facts)
   requests_given [] every = tt
   requests_given (Asked request ∷ later) every = (every.0, requests_given later every.1)
-  requests_given (Came moment bytes used ∷ later) every = requests_given later every.1
-  requests_given (Offered shown ∷ later) every = requests_given later every.1
-  requests_given (Gone request quote ∷ later) every = requests_given later every.1
-  requests_given (Closed request close ∷ later) every = requests_given later every.1
+  requests_given (fact ∷ later) every = requests_given later every.1
 
   numbered_given : (facts : List InvestorFact) (number : ℕ) → Every (FactGiven D) facts
       → IfThere (OwnGiven D) (request_numbered (book_of facts) number)
@@ -172,70 +164,20 @@ module _ (D : ℕ → Type 0) where
   while_given (Some own) given =
       cond_both _ (Some own) None (IfThere (OwnGiven D)) (λ stands. given) (λ closed. tt)
 
-  -- What an event adds.
+  -- What a verdict adds.
 
   verdict_adds : (v : InvestorVerdict) → VerdictGiven D v → Every (FactGiven D) (verdict_facts v)
-  verdict_adds verdict.Dropped given = tt
-  verdict_adds (verdict.OutOfSequence reject) given = tt
-  verdict_adds (verdict.Rejected reject) given = tt
-  verdict_adds (verdict.RequestRefused request bond refusal) given = tt
-  verdict_adds (verdict.HitUnknown id quote) given = tt
-  verdict_adds (verdict.PassUnknown id request) given = tt
-  verdict_adds (verdict.RequestAccepted id request) given = ((given.1, given.2), tt)
-  verdict_adds (verdict.Hits request response word) given = tt
-  verdict_adds (verdict.Passes request response) given = tt
+  verdict_adds (verdict.RequestAccepted id request) given = (given.1, tt)
+  verdict_adds other given = tt
 
-  gone_adds : (number : ℕ) (shown : Option ShownOffer)
-      → Every (FactGiven D) (gone_facts number shown)
-  gone_adds number None = tt
-  gone_adds number (Some shown) = (tt, tt)
-
-  offer_adds : (book : InvestorBook) (number : ℕ) (offer : Offer) (own : Option StandingRequest)
-      → Every (FactGiven D) (offer_facts book number offer own)
-  offer_adds book number offer None = tt
-  offer_adds book number offer (Some own) =
-      every_both (FactGiven D) (gone_facts number (offer_of_dealer own offer.dealer)) _
-      (gone_adds number (offer_of_dealer own offer.dealer)) (tt, tt)
-
-  withdrawal_adds : (number word : ℕ) (own : Option StandingRequest)
-      → Every (FactGiven D) (withdrawal_facts number word own)
-  withdrawal_adds number word None = tt
-  withdrawal_adds number word (Some own) = gone_adds number (offer_with_word own word)
-
-  closed_adds : (number : ℕ) (close : Option RequestClose)
-      → Every (FactGiven D) (closed_facts number close)
-  closed_adds number None = tt
-  closed_adds number (Some close) = (tt, tt)
-
-  answer_adds : (book : InvestorBook) (number : ℕ) (response : ResponseRef) (said : Reply)
-      (own : Option StandingRequest) → Every (FactGiven D)
-      (answer_facts book number response said own)
-  answer_adds book number response said None = tt
-  answer_adds book number response said (Some own) = closed_adds number _
-
-  expiry_adds : (number : ℕ) (own : Option StandingRequest)
-      → Every (FactGiven D) (expiry_facts number own)
-  expiry_adds number None = tt
-  expiry_adds number (Some own) = (tt, tt)
-
-  -- What it sends.
+  -- What an event sends.
 
   verdict_sends : (v : InvestorVerdict) → VerdictGiven D v
       → Every (MaySend D (is_some (verdict_note v))) (option_to_list (verdict_message v))
   verdict_sends verdict.Dropped given = tt
-  verdict_sends (verdict.OutOfSequence reject) given = ((given, λ noted. refl), tt)
-  verdict_sends (verdict.Rejected reject) given = ((given, λ noted. refl), tt)
-  verdict_sends (verdict.RequestRefused request bond refusal) given = ((given, λ noted. refl), tt)
-  verdict_sends (verdict.HitUnknown id quote) given = ((given, λ noted. refl), tt)
-  verdict_sends (verdict.PassUnknown id request) given = ((given, λ noted. refl), tt)
-  verdict_sends (verdict.RequestAccepted id request) given = ((given.0, λ noted. refl), tt)
   verdict_sends (verdict.Hits request response word) given = tt
   verdict_sends (verdict.Passes request response) given = tt
-
-  gone_sends : (own : StandingRequest) (shown : Option ShownOffer) → OwnGiven D own
-      → Every (MaySend D false) (option_to_list (option_map (gone_message own) shown))
-  gone_sends own None given = tt
-  gone_sends own (Some shown) given = ((given.0, λ noted. refl), tt)
+  verdict_sends other given = ((given.0, λ noted. refl), tt)
 
   offer_sends : (book : InvestorBook) (number : ℕ) (offer : Offer) (own : Option StandingRequest)
       → OfferGiven D offer → IfThere (OwnGiven D) own
@@ -245,23 +187,9 @@ module _ (D : ℕ → Type 0) where
       every_both (MaySend D false)
       (option_to_list (option_map (gone_message own) (offer_of_dealer own offer.dealer)))
       (offer_message own (next_offer book number offer) ∷ [])
-      (gone_sends own (offer_of_dealer own offer.dealer) given)
+      (gone_says (MaySend D false) own (λ shown. (given.0, λ noted. refl))
+      (offer_of_dealer own offer.dealer))
       (((given.0, given.1.0, came.0, came.1), λ noted. refl), tt)
-
-  withdrawal_sends : (word : ℕ) (own : Option StandingRequest) → IfThere (OwnGiven D) own
-      → Every (MaySend D false) (withdrawal_messages word own)
-  withdrawal_sends word None given = tt
-  withdrawal_sends word (Some own) given = gone_sends own (offer_with_word own word) given
-
-  decline_sends : (dealer : List ℕ) (own : Option StandingRequest) → IsGiven dealer
-      → IfThere (OwnGiven D) own → Every (MaySend D false) (decline_messages dealer own)
-  decline_sends dealer None named given = tt
-  decline_sends dealer (Some own) named given = (((given.0, named), λ noted. refl), tt)
-
-  expiry_sends : (own : Option StandingRequest) → IfThere (OwnGiven D) own
-      → Every (MaySend D false) (expiry_messages own)
-  expiry_sends None given = tt
-  expiry_sends (Some own) given = ((given.0, λ noted. refl), tt)
 
   -- a room's refusal is noted by nothing
   response_sends : (book : InvestorBook) (own : StandingRequest) (response : ResponseRef)
@@ -298,14 +226,11 @@ module _ (D : ℕ → Type 0) (of_day : (n : ℕ) → n < A_DAY → D n) (market
         (verdict_given D of_day market named book moment bytes),
   )
   event_adds book (event.QuoteCame request offer moment) =
-      offer_adds D book request offer (open_request book request)
-  event_adds book (event.QuoteGone request word moment) =
-      withdrawal_adds D request word (open_request book request)
-  event_adds book (event.DealerDeclined request dealer moment) = tt
+      offer_adds (FactGiven D) book request offer (λ quote. tt) tt (open_request book request)
   event_adds book (event.Answered request response said moment) =
-      answer_adds D book request response said (request_numbered book request)
-  event_adds book (event.Closed request moment) =
-      expiry_adds D request (request_numbered book request)
+      reply_adds (FactGiven D) book request response said (λ how. tt) (request_numbered book request)
+  event_adds book other =
+      news_adds (FactGiven D) market book other tt (λ request word moment at quote. tt) (λ request. tt)
 
   pub event_sends : (facts : List InvestorFact) → Every (FactGiven D) facts
       → (more : InvestorEvent) → EventGiven D more
@@ -319,17 +244,14 @@ module _ (D : ℕ → Type 0) (of_day : (n : ℕ) → n < A_DAY → D n) (market
       offer_sends D (book_of facts) request offer (open_request (book_of facts) request) given.0
       (while_given D (request_numbered (book_of facts) request)
       (numbered_given D facts request every))
-  event_sends facts every (event.QuoteGone request word moment) given =
-      withdrawal_sends D word (open_request (book_of facts) request)
-      (while_given D (request_numbered (book_of facts) request)
-      (numbered_given D facts request every))
-  event_sends facts every (event.DealerDeclined request dealer moment) given =
-      decline_sends D dealer (open_request (book_of facts) request) given.0
-      (while_given D (request_numbered (book_of facts) request)
-      (numbered_given D facts request every))
   event_sends facts every (event.Answered request response said moment) given =
       answer_sends D (book_of facts) response said (request_numbered (book_of facts) request)
       (numbered_given D facts request every) given.0
-  event_sends facts every (event.Closed request moment) given =
-      expiry_sends D (request_numbered (book_of facts) request)
-      (numbered_given D facts request every)
+  event_sends facts every other given =
+      news_says (MaySend D false) market (book_of facts) other tt (λ request own stands.
+      let asked = subst (IfThere (OwnGiven D)) stands (numbered_given D facts request every) in
+      record {
+        gone = λ its word moment at shown. (asked.0, λ noted. refl);
+        declined = λ its dealer moment at. ((asked.0, (subst (EventGiven D) at given).0), λ noted. refl);
+        expired = (asked.0, λ noted. refl);
+      })
