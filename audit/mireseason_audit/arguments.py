@@ -143,8 +143,12 @@ def seconds(text: str) -> float:
 
 
 def source_of(words: argparse.Namespace, venue: Venue, folder: Path) -> Source:
-    """The log that the arguments name, up to where they say."""
+    """The log that the arguments name, up to where they say, as it is now. One that is followed is taken
+    anew each time.
+    """
     source = whole_source_of(words, venue, folder)
+    if not getattr(words, "follow", False):
+        source = source.taken(folder)
     if words.until is None and words.at is None:
         return source
     return UntilSource(source, place_until(source, words.until, words.at))

@@ -61,10 +61,10 @@ class Checker:
         return results
 
     def check_end(self, verdict: Verdict) -> None:
-        """Whether the log still ends where it ended: each job opens it for itself, and what they
-        say of logs of different lengths does not agree.
+        """Whether the log still ends where it ended: in one that goes on, what the venue gave for the
+        last entries may have come after the log was taken.
         """
-        with self.source.open() as log:
+        with self.source.current() as log:
             last, numbers = log.last_place(), last_numbers_of(log, verdict.day)
         if (last, numbers) != (verdict.last_place, verdict.last_numbers):
             text = "%s goes on while it is read, from entry %d to %d: wait until its day is over"

@@ -14,7 +14,6 @@ from .outside import KeptCheckpoint, read_outside
 from .progress import Progress
 from .report import report
 from .seal import Sealed, read_seal
-from .sqlite_log import SqliteSource
 from .tables import Form
 from .venue import Venue
 from .verdict import Verdict
@@ -53,12 +52,7 @@ def is_good(verdict: Verdict) -> bool:
 
 def seal_path(work: Work, named: Path | None) -> Path:
     """Where a seal is, or is to be: the named file, else beside the log."""
-    source = work.source
-    if named is not None:
-        return named
-    if isinstance(source, SqliteSource):
-        return source.path.with_name(source.path.name + ".seal")
-    return Path(source.name + ".seal")
+    return work.source.seal_path if named is None else named
 
 
 def evidence_of(work: Work) -> Evidence:

@@ -24,8 +24,9 @@ CREATE TABLE entry (place INTEGER PRIMARY KEY, term INTEGER, moment TEXT, firm T
     line BLOB, before BLOB, hash BLOB);
 CREATE TABLE sent (firm TEXT, number INTEGER, place INTEGER, bytes BLOB,
     PRIMARY KEY (firm, number));
-CREATE TABLE outgoing (firm TEXT, number INTEGER, sent INTEGER, bytes BLOB);
-CREATE TABLE session (firm TEXT, target INTEGER, logged_on INTEGER);
+CREATE TABLE outgoing (firm TEXT, number INTEGER, sent INTEGER, bytes BLOB,
+    PRIMARY KEY (firm, number));
+CREATE TABLE session (firm TEXT PRIMARY KEY, target INTEGER, logged_on INTEGER);
 """
 
 

@@ -93,18 +93,22 @@ class Follower:
         """The last entry now. It is built at the next look: until then its answers have come. So
         has, behind the end of the day, what the sessions sent of themselves.
         """
-        with self.source.open() as log:
+        with self.source.current() as log:
             last = log.last_place()
             is_ended = last == self.built.last and has_ended(log, last)
             return Stand(last, is_ended)
 
     def _build(self, stand: Stand) -> None:
+        """Of the log as it is taken now: by that it says whether the day has ended, too."""
         folder = self.folder / BUILDS / str(self.number + 1)
         before = None
         if self.number:
             before = Before(self.folder / BUILDS / str(self.number), self.built.last)
         with tempfile.TemporaryDirectory(dir=self.scratch) as scratch:
-            source = self.source if stand.is_ended else UntilSource(self.source, stand.last)
+            source = self.source.taken(Path(scratch))
+            stand = stand._replace(is_ended=stand.is_ended and is_ended_at(source, stand.last))
+            if not stand.is_ended:
+                source = UntilSource(source, stand.last)
             pager = self.pager_of(source, folder, Path(scratch), before)
             verdict, summary = pager.check()
             obstacle = pager.obstacle(verdict, summary)
@@ -153,6 +157,11 @@ class Follower:
     def _forget(self) -> None:
         """Removes the build that nobody is at any more."""
         shutil.rmtree(self.folder / BUILDS / str(self.number - KEPT), ignore_errors=True)
+
+
+def is_ended_at(source: Source, last: int) -> bool:
+    with source.open() as log:
+        return has_ended(log, last)
 
 
 def has_ended(log: Log, last: int) -> bool:

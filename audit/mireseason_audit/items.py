@@ -18,8 +18,9 @@ CHECKS = (
     ),
     (
         TABLES,
-        "the file or schema has the tables and columns of the log's form and nothing else, such as "
-        "a trigger, a view or row security, which may change what is written or read",
+        "the file or schema has the tables and columns of the log's form, a file also their keys, "
+        "and nothing else, such as a trigger, a view, an index or row security, which may change "
+        "what is written or read",
     ),
     (
         SEALS,

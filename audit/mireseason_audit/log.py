@@ -3,6 +3,7 @@
 import itertools
 from abc import ABC, abstractmethod
 from collections.abc import Iterator, Sequence
+from pathlib import Path
 
 from .closing import Closing
 from .faults import Wrong
@@ -173,7 +174,24 @@ class Source(ABC):
 
     @abstractmethod
     def open(self) -> Log:
-        """Opens it; Unreadable where that can't be done."""
+        """Opens it; Unreadable where that can't be done. One that somebody else has made is taken for that
+        (taken.py).
+        """
+
+    def taken(self, folder: Path) -> "Source":
+        """The log as it is now, taken into this folder: all that is opened from then on has the same rows."""
+        return self
+
+    def current(self) -> Log:
+        """The log as it stands now, wherever that is, for who asks whether it goes on: what it answers is
+        nothing that a verdict may rest on.
+        """
+        return self.open()
+
+    @property
+    def seal_path(self) -> Path:
+        """Where its seal is, unless another file is named."""
+        return Path(self.name + ".seal")
 
     @property
     @abstractmethod

@@ -42,6 +42,16 @@ FORMS: Mapping[int, Mapping[str, str]] = {
     5: WITH_EPOCHS,
     6: WITH_ENDS,
 }
+# What each row of a table is found by.
+KEYS: Mapping[str, str] = {
+    "entry": "place",
+    "connection": "place",
+    "seal": "number",
+    "checkpoint": "number",
+    "sent": "firm number",
+    "outgoing": "firm epoch number",
+    "session": "firm",
+}
 # In PostgreSQL alone (terms.sql): who speaks.
 TERMS = {"speaker": "one term gateway backend began seen"}
 # Its functions, and the SHA-256 of each one's body.
@@ -77,6 +87,12 @@ def strange_tables(form: int, tables: Tables, has_terms: bool) -> Iterator[str]:
         for column in columns:
             if column not in known:
                 yield "column %s of %s" % (short(column), name)
+
+
+def key_of(form: int, table: str) -> list[str]:
+    """The columns of a table's key, in their order."""
+    columns = FORMS[form][table].split()
+    return [column for column in KEYS.get(table, "").split() if column in columns]
 
 
 def is_plain(definition: str) -> bool:

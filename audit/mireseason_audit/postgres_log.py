@@ -1,17 +1,24 @@
-"""Reads a log in a schema of PostgreSQL, in one transaction, by cursors that the server keeps."""
+"""Reads a log in a schema of PostgreSQL, in one transaction, by cursors that the server keeps, and takes it into a file
+of SQLite.
+"""
 
 import itertools
+import sqlite3
 from collections.abc import Iterator
+from contextlib import closing
 from dataclasses import dataclass
+from pathlib import Path
 from typing import Any
 
 import psycopg2
 from psycopg2 import sql
 
 from .faults import Unreadable
-from .log import Log, Source
-from .log_form import FUNCTIONS, TRIGGER, TRIGGERED, short, strange_tables
+from .log import Log
+from .log_form import FORMS, FUNCTIONS, TRIGGER, TRIGGERED, short, strange_tables
 from .sql_log import Rows, SqlLog, form_of
+from .sqlite_log import Given
+from .taken import Table, attach, cause_of, put_form, put_rows
 
 OLD_FORM = 2  # of the tables: without connections
 ROWS_AT_A_TIME = 1024  # each time the server is asked
@@ -22,6 +29,21 @@ COLUMNS = (
     ORDER BY relname, attnum"""
     % PLACE
 )
+# The tables of a log of which, or of whose children, the server would carry out for whoever reads them, with that one's
+# rights, what their owner thought of: a view does, and so does the server's planner with a function in the condition or
+# in the columns of an index, or in statistics.
+CARRIED_OUT = """WITH RECURSIVE own AS (
+        SELECT oid, relname FROM pg_class WHERE relnamespace = PLACE AND relname = ANY (?)
+        UNION SELECT inhrelid, own.relname FROM pg_inherits JOIN own ON inhparent = own.oid)
+    SELECT DISTINCT own.relname FROM own JOIN pg_class ON pg_class.oid = own.oid WHERE relkind <> 'r'
+    OR EXISTS (SELECT FROM pg_index WHERE indrelid = own.oid AND (indpred IS NOT NULL OR indexprs IS NOT NULL))
+    OR EXISTS (SELECT FROM pg_statistic_ext WHERE stxrelid = own.oid AND stxexprs IS NOT NULL)
+    ORDER BY 1""".replace(
+    "PLACE", PLACE
+)
+# A policy of rows is not carried out, either: where one counts for who reads, that is an error. Nor are the constraints by
+# which the planner leaves a table out.
+PLAIN = "SET row_security = off; SET constraint_exclusion = off"
 # What is no plain table of the schema, or changes what is written to one or read of one.
 OTHERS = """WITH tables AS (SELECT oid, relname FROM pg_class WHERE relnamespace = PLACE AND relkind = 'r')
     SELECT CASE relkind WHEN 'v' THEN 'view' WHEN 'm' THEN 'materialized view' WHEN 'f' THEN 'foreign table'
@@ -58,18 +80,23 @@ OTHERS = """WITH tables AS (SELECT oid, relname FROM pg_class WHERE relnamespace
 
 
 @dataclass(frozen=True)
-class PostgresSource(Source):
+class PostgresSource(Given):
     """A connection string of libpq and the schema of the day."""
 
     connection: str
     schema: str
+    has_chain = True
 
     @property
     def name(self) -> str:
         return self.schema
 
-    def open(self) -> Log:
+    def current(self) -> Log:
         return PostgresLog(self)
+
+    def take(self, path: Path) -> None:
+        with PostgresLog(self) as log:
+            log.put_all(path)
 
 
 class PostgresLog(SqlLog):
@@ -82,6 +109,8 @@ class PostgresLog(SqlLog):
             self._connection = psycopg2.connect(source.connection)
             self._connection.set_session(isolation_level="REPEATABLE READ", readonly=True)
             with self._connection.cursor() as cursor:
+                cursor.execute(PLAIN)
+                check_tables(cursor, source.schema)
                 path = sql.SQL("SET search_path TO {}").format(sql.Identifier(source.schema))
                 cursor.execute(path)
                 cursor.execute("SELECT number FROM form")
@@ -112,9 +141,36 @@ class PostgresLog(SqlLog):
             words = " ".join(filter(None, (kind, short(name))))
             yield words + (" of %s" % short(table) if table else "")
 
+    def put_all(self, path: Path) -> None:
+        """Puts all rows into a new file, as one query of each table gives them."""
+        try:
+            with closing(sqlite3.connect("", isolation_level=None)) as file:
+                attach(file, path)
+                file.execute("BEGIN")
+                put_form(file, self.form, self.beyond_form())
+                put_rows(file, self.form, self._put)
+                file.execute("COMMIT")
+        except sqlite3.Error as fault:
+            raise Unreadable("%s: %s" % (self._name, cause_of(fault, path))) from None
+
+    def _put(self, file: sqlite3.Connection, table: Table) -> None:
+        """A value that is neither a number, a text nor bytes is none of a log: SQLite refuses it."""
+        into = "%s VALUES (%s)" % (table.put, ", ".join("?" * len(table.columns)))
+        for rows in self.blocks("%s %s" % (table.scan, table.name)):
+            file.executemany(into, rows)
+
     def close(self, failed: bool = False) -> None:
         super().close(failed)
         self._connection.close()
+
+
+def check_tables(cursor: Any, schema: str) -> None:
+    """Unreadable where to read a table of the log would carry out something: nothing of one was read before."""
+    names = sorted({name for tables in FORMS.values() for name in tables})
+    cursor.execute(CARRIED_OUT.replace("?", "%s"), (schema, names))
+    for (name,) in cursor.fetchall():
+        text = "%s: no log can be read: %s is no table, or has a function that is carried out"
+        raise Unreadable(text % (schema, name))
 
 
 def plain(value: object) -> object:

@@ -3,6 +3,7 @@
 import itertools
 from collections.abc import Iterator, Sequence
 from dataclasses import dataclass
+from pathlib import Path
 
 from .faults import Unreadable
 from .log import Log, Source
@@ -150,6 +151,12 @@ class UntilSource(Source):
 
     def open(self) -> Log:
         return UntilLog(self.source.open(), self.last)
+
+    def taken(self, folder: Path) -> Source:
+        return UntilSource(self.source.taken(folder), self.last)
+
+    def current(self) -> Log:
+        return UntilLog(self.source.current(), self.last)
 
     @property
     def name(self) -> str:

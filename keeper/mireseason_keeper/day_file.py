@@ -59,7 +59,8 @@ def first_line(path: Path) -> bytes | None:
     """Entry 0 of a copy; None where it has none."""
     try:
         with closing(hasty_reader_of(path)) as file:
-            query = "SELECT CAST(line AS BLOB) FROM entry WHERE place = 0 LIMIT 1"
+            # From the table, as the audit reads it: an index may say something else.
+            query = "SELECT CAST(line AS BLOB) FROM entry NOT INDEXED WHERE place = 0 LIMIT 1"
             row = file.execute(query).fetchone()
     except sqlite3.Error as fault:
         raise Fault("%s: %s" % (path.name, fault)) from None

@@ -26,9 +26,11 @@ LINE = re.compile(r"([0-9a-f]{64})  ([A-Za-z0-9][A-Za-z0-9._-]{0,99})")
 LONGEST_SUMS = 1 << 16  # bytes
 RESERVE = 256 << 20  # bytes that stay free on the disk of the keeper's own copies
 PIECE = 1 << 20
-# Views, triggers, virtual tables, and columns that are computed.
+# Views, triggers, virtual tables, columns that are computed, and each index that SQLite has not made for a key: it may say
+# something else than the rows.
 MORE_THAN_TABLES = """SELECT
-    (SELECT count(*) FROM sqlite_schema WHERE type NOT IN ('table', 'index') OR sql LIKE 'CREATE VIRTUAL%') +
+    (SELECT count(*) FROM sqlite_schema WHERE type <> 'table' AND (type <> 'index' OR sql IS NOT NULL)
+        OR sql LIKE 'CREATE VIRTUAL%') +
     (SELECT count(*) FROM sqlite_schema t, pragma_table_xinfo(t.name) c WHERE t.type = 'table' AND c.hidden > 0)"""
 
 

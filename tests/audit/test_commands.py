@@ -4,7 +4,6 @@ import base64
 import hashlib
 import os
 import re
-import resource
 import sqlite3
 import subprocess
 import unittest
@@ -16,6 +15,18 @@ from tests.audit.common import AUDIT, DAY, ROOT, LogCase, audit, keys, openssl, 
 from tests.audit.pages import read_page, rows_of, table_behind, walk
 from tests.audit.tamper import Tamperer, framed
 from tests.audit.witness import Witness
+
+
+# The audit, where a file may not have the last byte of a seal from when that is written.
+NO_ROOM = """import sys, resource
+sys.path[:0] = ["audit", "common"]
+from mireseason_audit import main, seal
+write = seal.write_new
+def write_in_less(path, data):
+    resource.setrlimit(resource.RLIMIT_FSIZE, (len(data) - 1, len(data)))
+    write(path, data)
+seal.write_new = write_in_less
+sys.exit(main.main(sys.argv[1:]))"""
 
 
 def day_text(path: Path) -> bytes:
@@ -209,14 +220,10 @@ class Commands(LogCase):
         private, _ = keys(self.place)
         whole, seal = self.place / "whole.seal", self.log.with_name("day.db.seal")
         self.assertEqual(audit("seal", self.log, "--key", private, "--out", whole).status, 0)
-        soft, hard = resource.getrlimit(resource.RLIMIT_FSIZE)
-        resource.setrlimit(resource.RLIMIT_FSIZE, (whole.stat().st_size - 1, hard))
-        try:
-            ran = audit("seal", self.log, "--key", private)
-        finally:
-            resource.setrlimit(resource.RLIMIT_FSIZE, (soft, hard))
-        self.assertEqual((ran.status, ran.out, seal.exists()), (2, "", False))
-        self.assertIn("the seal can't be written", ran.err)
+        words = ["/usr/bin/python3", "-c", NO_ROOM, "seal", str(self.log), "--key", str(private)]
+        ran = subprocess.run(words, cwd=ROOT, capture_output=True, text=True, check=False)
+        self.assertEqual((ran.returncode, ran.stdout, seal.exists()), (2, "", False))
+        self.assertIn("the seal can't be written", ran.stderr)
         self.assertEqual(audit("seal", self.log, "--key", private).status, 0)
         self.assertEqual(seal.read_bytes(), whole.read_bytes())
 

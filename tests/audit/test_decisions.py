@@ -396,27 +396,24 @@ def look(verdict: Verdict, name: str) -> Look:
 
 
 # What a verdict has, the item, and its kind, words and what it leaves open in the verdict's sentence.
-LOOKS: dict[str, tuple[dict[str, object], str, tuple[str, str, str]]] = {
+LookCase = tuple[dict[str, object], str, tuple[str, str, str]]
+
+
+def reaching(entry: int, kind: str, unchecked: str) -> LookCase:
+    """Of a checkpoint from outside that signs up to this entry."""
+    words = "up to entry %d" % entry
+    return {"reach": entry, "uncut": words}, "cut-off end", (kind, words, unchecked)
+
+
+LOOKS: dict[str, LookCase] = {
     "no checkpoint from outside": (
         {},
         "cut-off end",
         ("not checked", "without --checkpoint the end may have been cut off", "cut-off end"),
     ),
-    "one that reaches the end": (
-        {"reach": 9, "uncut": "up to entry 9"},
-        "cut-off end",
-        ("checked", "up to entry 9", ""),
-    ),
-    "one that reaches to the entry before": (
-        {"reach": 8, "uncut": "up to entry 8"},
-        "cut-off end",
-        ("in part", "up to entry 8", "cut-off end after entry 8"),
-    ),
-    "one of entry 0": (
-        {"reach": 0, "uncut": "up to entry 0"},
-        "cut-off end",
-        ("in part", "up to entry 0", "cut-off end after entry 0"),
-    ),
+    "one that reaches the end": reaching(9, "checked", ""),
+    "one that reaches to the entry before": reaching(8, "in part", "cut-off end after entry 8"),
+    "one of entry 0": reaching(0, "in part", "cut-off end after entry 0"),
     "no seal": (
         {"findings": [WRONG_ENTRY]},
         "supervisor's seal",
@@ -621,6 +618,8 @@ def test_which_version_this_is(tmp_path: Path) -> None:
         subprocess.run([*git, *words], check=True)
     commit = commit_of(tmp_path)
     assert re.fullmatch("[0-9a-f]{12}", commit)
+    subprocess.run([*git, "tag", "-a", "-m", "x", "v1"], check=True)
+    assert commit_of(tmp_path) == commit, "a release has the name of its tag"
     (tmp_path / "file").write_text("2")
     assert commit_of(tmp_path) == commit + "+"
     (tmp_path / "COMMIT").write_text("0123456789ab\nmore\n")

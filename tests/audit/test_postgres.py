@@ -13,12 +13,15 @@ from pathlib import Path
 from typing import Any
 
 import psycopg2
+from mireseason_audit.faults import Unreadable
 from mireseason_audit.postgres_log import PostgresSource
+from mireseason_audit.sqlite_log import SqliteSource
 
 from tests.audit.common import DAY, ROOT, Folder, audit, folder, venue_words
 from tests.audit.ledger import OLD_SENT, OLD_SESSIONS
 from tests.audit.ledger import public_key
 from tests.audit.tamper import ENTRIES, hash_of
+from tests.audit.test_until import ASKED
 from tests.gateway.wait import LONG, until
 
 SERVERS = sorted(Path("/usr/lib/postgresql").glob("*/bin/initdb"))
@@ -87,6 +90,21 @@ BEYOND: list[tuple[str, list[str]]] = [
     ("ALTER FUNCTION speak(INTEGER) SECURITY DEFINER", ["function speak"]),
     ("CREATE FUNCTION speak(mine TEXT) RETURNS VOID LANGUAGE SQL AS ''", ["function speak"]),
 ]
+# What a server would carry out, with the auditor's rights, for who reads a table of the log; and which table that is.
+RAISES = """CREATE FUNCTION raises(%s) RETURNS %s IMMUTABLE LANGUAGE plpgsql AS 'BEGIN
+    IF current_setting(''transaction_read_only'') = ''on'' THEN RAISE EXCEPTION ''carried out''; END IF;
+    RETURN %s; END'; """
+CARRIED_OUT = {
+    "form": RAISES % ("", "INTEGER", "6")
+    + "DROP TABLE form; CREATE VIEW form AS SELECT raises() AS number",
+    "entry": RAISES % ("", "BOOLEAN", "true")
+    + "CREATE TABLE more () INHERITS (entry); CREATE INDEX i ON more (term) WHERE raises()",
+    "connection": RAISES % ("", "BOOLEAN", "true")
+    + "CREATE INDEX i ON connection (term) WHERE raises()",
+    "sent": RAISES % ("x INTEGER", "INTEGER", "x") + "CREATE INDEX i ON sent ((place + raises(1)))",
+    "seal": RAISES % ("x INTEGER", "INTEGER", "x")
+    + "CREATE STATISTICS s ON (place + raises(1)), term FROM seal",
+}
 # A server ends with the test that started it, however that ends.
 AS_USER = "setpriv --reuid=postgres --regid=postgres --clear-groups --pdeathsig=QUIT --".split()
 
@@ -147,13 +165,38 @@ class Postgres(unittest.TestCase):
             self.assertEqual((status, text), (0, audit("check", day).text))
 
     def test_a_log_that_was_read_holds_no_session(self) -> None:
-        """A day that is followed is opened every few seconds."""
+        """A day that is followed is looked at every few seconds."""
         count = "SELECT count(*) FROM pg_stat_activity WHERE state LIKE 'idle in transaction%'"
-        with PostgresSource(self.connection, SCHEMA).open() as log:
+        with PostgresSource(self.connection, SCHEMA).current() as log:
             self.assertGreater(log.last_place(), 0)
             self.assertEqual(rows(self.connection, count), [(1,)])
         until("its session ends", LONG, lambda: rows(self.connection, count) == [(0,)])
         self.assertIsNotNone(log)
+
+    def test_a_log_is_taken_once(self) -> None:
+        """Each question is answered as of the file with the same rows, and by the rows that were taken, whatever
+        the server says afterwards.
+        """
+        schema = "taken"
+        make_tables(self.connection, schema)
+        fill(self.connection, schema, self.day)
+        with SqliteSource(self.day).open() as log:
+            before = {asked: ask(log) for asked, ask in ASKED.items()}
+        source = PostgresSource(self.connection, schema).taken(self.place)
+        for change in ("DELETE FROM %s.entry WHERE place > 5", "DROP SCHEMA %s CASCADE"):
+            with source.open() as log:
+                self.assertEqual({asked: ask(log) for asked, ask in ASKED.items()}, before)
+            execute(self.connection, change % schema)
+        with self.assertRaises(Unreadable):
+            source.current()
+
+    def test_a_value_that_no_log_has(self) -> None:
+        """Of a type for which SQLite has none: nothing is made of it."""
+        schema = "typed"
+        make_tables(self.connection, schema, "ALTER TABLE sent ALTER number TYPE NUMERIC(40)")
+        execute(self.connection, "INSERT INTO %s.sent VALUES ('ALPHA', 1, 0, '', NULL)" % schema)
+        with self.assertRaisesRegex(Unreadable, "^typed: "):
+            PostgresSource(self.connection, schema).open()
 
     def test_a_change_and_its_place(self) -> None:
         self.change("UPDATE sent SET place = place + 1 WHERE firm = 'ALPHA' AND number = 1")
@@ -188,6 +231,21 @@ class Postgres(unittest.TestCase):
                 make_tables(self.connection, schema, script)
                 with PostgresSource(self.connection, schema).open() as log:
                     self.assertEqual(list(log.beyond_form()), told)
+
+    def test_nothing_is_carried_out(self) -> None:
+        """Whoever owns the schema may have left a program there, for who reads it with other rights."""
+        for number, (table, script) in enumerate(CARRIED_OUT.items()):
+            with self.subTest(table):
+                schema = "carried_out_%d" % number
+                make_tables(self.connection, schema, script)
+                told = "^%s: no log can be read: %s is no table, or has a function" % (
+                    schema,
+                    table,
+                )
+                with self.assertRaisesRegex(Unreadable, told):
+                    PostgresSource(self.connection, schema).open()
+                with self.assertRaisesRegex(Unreadable, told):
+                    PostgresSource(self.connection, schema).current()
 
     def test_what_the_form_does_not_have_is_a_finding(self) -> None:
         self.change("CREATE RULE r AS ON DELETE TO sent DO INSTEAD NOTHING")

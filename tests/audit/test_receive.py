@@ -134,6 +134,22 @@ def test_a_flood_of_other_lines(host: Host) -> None:
     assert len(host.told) == 1 << 20
 
 
+def test_a_file_of_what_was_wrong_that_is_full(tmp_path: Path) -> None:
+    """Up to 64 MiB of what an operator has to know, and up to 1 MiB of lines that are not kept."""
+    told, teller = tmp_path / "told", Teller(tmp_path)
+    limits: list[tuple[int, Callable[[str], None]]] = [
+        (64 << 20, teller.tell),
+        (1 << 20, teller.refuse),
+    ]
+    for full, tell in limits:
+        for size, is_written in ((full - 1, True), (full, False)):
+            told.write_bytes(b"")
+            os.truncate(told, size)
+            teller.told_at = None
+            tell("x")
+            assert (told.stat().st_size > size) is is_written, (full, size)
+
+
 def test_a_log_that_was_made_anew(host: Host) -> None:
     """Whoever has the real keys signs another checkpoint of the same number, or one that follows on
     another: both are kept, and it is told at once.

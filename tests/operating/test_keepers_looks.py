@@ -639,6 +639,30 @@ def test_an_entry_that_takes_without_end(copied: Copied, monkeypatch: pytest.Mon
         day_file.first_line(log)
 
 
+def test_entry_0_is_that_of_the_table(tmp_path: Path) -> None:
+    """As the audit reads it: the index of the key may lead to another row."""
+    log = tmp_path / "day.db"
+    keyed = "CREATE TABLE entry (place BIGINT NOT NULL, line BYTEA NOT NULL, PRIMARY KEY (place))"
+    index = "SELECT type, name, tbl_name, rootpage, sql FROM sqlite_schema WHERE type = 'index'"
+    with closing(sqlite3.connect(log, isolation_level=None)) as file:
+        file.execute(keyed)
+        file.execute("INSERT INTO entry VALUES (0, x'61'), (1, x'62')")
+        (row,) = file.execute(index).fetchall()
+        file.execute("PRAGMA writable_schema = ON")
+        file.execute("DELETE FROM sqlite_schema WHERE type = 'index'")
+        bare = keyed.replace("PRIMARY KEY (place)", "CHECK (1)")
+        file.execute("UPDATE sqlite_schema SET sql = ?", (bare,))
+    with closing(sqlite3.connect(log, isolation_level=None)) as file:
+        file.execute("PRAGMA writable_schema = ON")
+        file.execute("UPDATE entry SET place = 1 - place")
+        file.execute("UPDATE sqlite_schema SET sql = ?", (keyed,))
+        file.execute("INSERT INTO sqlite_schema VALUES (?, ?, ?, ?, ?)", row)
+    with closing(sqlite3.connect(log)) as file:
+        query = "SELECT line FROM entry WHERE place = 0"
+        assert file.execute(query).fetchall() == [(b"a",)]
+    assert day_file.first_line(log) == b"b"
+
+
 def test_the_parts_of_entry_0() -> None:
     """A word a line, and after them the configuration; no more than 64 KiB of words are taken for any."""
     assert copying.parts_of(b"venue north\nprogram a b\n%%\nx = 1\n%%\n") == (

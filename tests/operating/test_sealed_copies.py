@@ -254,6 +254,17 @@ def with_a_table_of_a_module(kept: Place) -> None:
     )
 
 
+def with_index(kept: Place) -> None:
+    """It may say something else than the rows, and have the name of one that SQLite makes."""
+    told_to_sqlite(
+        kept,
+        "CREATE INDEX by_place ON entry (place, line)",
+        "PRAGMA writable_schema = ON",
+        "UPDATE sqlite_schema SET name = 'sqlite_autoindex_entry_1',"
+        " sql = replace(sql, 'by_place', 'sqlite_autoindex_entry_1') WHERE name = 'by_place'",
+    )
+
+
 def without_entries(kept: Place) -> None:
     told_to_sqlite(kept, "DELETE FROM entry")
 
@@ -307,6 +318,7 @@ REFUSED: list[tuple[Change, str]] = [
     (with_computed_column, "has more than tables"),
     (with_stored_column, "has more than tables"),
     (with_a_table_of_a_module, "has more than tables"),
+    (with_index, "has more than tables"),
     (without_entries, "it has no entry 0"),
     (with_brackets, "of another day or venue"),
     (with_dots, "of another day or venue"),
