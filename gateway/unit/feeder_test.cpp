@@ -1,10 +1,11 @@
 // Tests what feeds the venue: the log from its begin, entries as they are committed, a process that
-// reads nothing for a while, a broken chain, what somebody has written into the database, how much
-// is kept, and how a process ends.
+// reads nothing for a while, a broken chain, what somebody has written into the database, also
+// while no process was fed, how much is kept, and how a process ends.
 #define DOCTEST_CONFIG_IMPLEMENT_WITH_MAIN
 #include <doctest/doctest.h>
 
 #include "check.h"
+#include "log/sqlite_statement.h"
 #include "venue/feeder.h"
 
 #include <chrono>
@@ -41,7 +42,7 @@ Entry forged(Entry entry) {
 class Source {
   public:
     explicit Source(const std::string &file, bool is_last_forged = false)
-        : database_(open_sqlite(file)), entry_feed_(old) {
+        : file_(file), database_(open_sqlite(file)), entry_feed_(old) {
         last_.line = "day";
         last_.hash = hash_of(last_);
         first_hash_ = last_.hash;
@@ -56,12 +57,34 @@ class Source {
         database_->writer()->commit(batch);
     }
 
-    void put(std::uint32_t count) {
-        std::vector<LoggedEntry> entries;
-        for (std::uint32_t each = 0; each < count; ++each) {
-            entries.push_back({next(), {}});
+    void put(std::uint32_t count) { entry_feed_.put(next_ones(count)); }
+    // The same of entries that the database has, too.
+    void put_stored(std::uint32_t count) {
+        const std::vector<LoggedEntry> entries = next_ones(count);
+        Batch batch;
+        for (const LoggedEntry &logged : entries) {
+            batch.entries.push_back(logged.entry);
         }
+        database_->writer()->commit(batch);
         entry_feed_.put(entries);
+    }
+    // Somebody changes an entry in the database, and makes all hashes behind it right.
+    void change(std::uint32_t place) {
+        Batch batch;
+        batch.entries = database_->reader()->entries(place, last_.place);
+        batch.entries[0] = forged(batch.entries[0]);
+        Digest before = batch.entries[0].before;
+        for (Entry &entry : batch.entries) {
+            entry.before = before;
+            entry.hash = before = hash_of(entry);
+        }
+        cut(place);
+        database_->writer()->commit(batch);
+    }
+    // Somebody takes out all from a place on.
+    void cut(std::uint32_t place) {
+        sqlite::execute(sqlite::connect(file_, SQLITE_OPEN_READWRITE).get(),
+                        fmt::format("DELETE FROM entry WHERE place >= {}", place).c_str());
     }
     // In the database alone.
     void forge_next() {
@@ -78,15 +101,26 @@ class Source {
 
     Feeder::Log log() { return {*database_, entry_feed_, first_hash_}; }
     const std::string &text() const { return text_; }
+    std::string text_up_to(std::uint32_t place) const {
+        return text_.substr(0, text_.find(fmt::format("line {} ", place + 1)));
+    }
     std::uint32_t last_place() const { return last_.place; }
 
   private:
+    std::vector<LoggedEntry> next_ones(std::uint32_t count) {
+        std::vector<LoggedEntry> entries;
+        for (std::uint32_t each = 0; each < count; ++each) {
+            entries.push_back({next(), {}});
+        }
+        return entries;
+    }
     Entry next() {
         last_ = behind(last_);
         text_ += last_.line + "\n";
         return last_;
     }
 
+    const std::string file_;
     std::unique_ptr<Database> database_;
     EntryFeed entry_feed_;
     Entry last_;
@@ -102,6 +136,28 @@ std::string read_some(Process &process, std::size_t size) {
         text += bytes;
     }
     return text;
+}
+
+std::string read_all(Process &process) {
+    std::string came;
+    for (std::string some = process.read_output(); !some.empty(); some = process.read_output()) {
+        came += some;
+    }
+    return came;
+}
+
+// A process is fed no more than the log up to this place, and its feeder ends with these words.
+void fed_up_to(Source &source, std::uint32_t place, const std::string &words) {
+    const std::string expected = source.text_up_to(place);
+    Process process({"cat"});
+    Feeder feeder(process, source.log(), "head\n", [](const std::vector<LoggedEntry> &) {});
+    std::string came = read_some(process, expected.size());
+    if (came == expected) {
+        came += process.read_output();
+    }
+    process.kill(); // it may be fed without end
+    check(came == expected, "the process was given something else");
+    same<std::string>(words, feeder.end(), "its end");
 }
 
 void fed_as_it_comes(const std::string &file) {
@@ -158,13 +214,36 @@ void an_entry_put_in_front(const std::string &file) {
     source.put(3);
     Process process({"cat"});
     Feeder feeder(process, source.log(), "head\n", [](const std::vector<LoggedEntry> &) {});
-    std::string came;
-    for (std::string some = process.read_output(); !some.empty(); some = process.read_output()) {
-        came += some;
-    }
-    check(came.find("fake") == std::string::npos, "an entry was fed that the log has not");
+    check(read_all(process).find("fake") == std::string::npos,
+          "an entry was fed that the log has not");
     const std::string fault = feeder.end();
     check(fault.find(fmt::format("entry {}", old + 1)) != std::string::npos, "told: " + fault);
+}
+
+// A log of which this gateway has read each piece, for a process that has ended.
+void feed_once(Source &source) {
+    Process process({"cat"});
+    Feeder feeder(process, source.log(), "head\n", [](const std::vector<LoggedEntry> &) {});
+    read_some(process, source.text().size());
+    same<std::string>("", feeder.end(), "a fault");
+}
+
+// A piece ends at each 256th place, and nothing of it is fed where it ends otherwise than before.
+void a_piece_changed_since_it_was_read(const std::string &file) {
+    Source source(file);
+    feed_once(source);
+    source.change(700);
+    fed_up_to(source, 512, "entry 769 does not follow on entry 768 as it is now");
+    source.cut(600);
+    fed_up_to(source, 512, "the log has no entry 600");
+}
+
+// Of those that were put none was read yet; the last 8,192 are kept.
+void a_piece_changed_since_it_was_put(const std::string &file) {
+    Source source(file);
+    source.put_stored(9000);
+    source.change(old + 100);
+    fed_up_to(source, 2048, "entry 2305 does not follow on entry 2304 as it is now");
 }
 
 // Of long lines few are kept: a slower venue reads them from the database.
@@ -222,6 +301,16 @@ TEST_CASE("an entry put behind") {
 TEST_CASE("an entry put in front") {
     const Scratch folder("feeder");
     an_entry_put_in_front(folder.path() / "day.db");
+}
+
+TEST_CASE("a piece changed since it was read") {
+    const Scratch folder("feeder");
+    a_piece_changed_since_it_was_read(folder.path() / "day.db");
+}
+
+TEST_CASE("a piece changed since it was put") {
+    const Scratch folder("feeder");
+    a_piece_changed_since_it_was_put(folder.path() / "day.db");
 }
 
 } // namespace

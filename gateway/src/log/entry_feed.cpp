@@ -1,5 +1,7 @@
 #include "log/entry_feed.h"
 
+#include <algorithm>
+
 namespace gateway {
 
 namespace {
@@ -8,6 +10,9 @@ namespace {
 // database.
 constexpr std::size_t kept = 8192;
 constexpr std::size_t kept_bytes = 4 << 20;
+
+// Entries of a piece, which ends at a multiple of it.
+constexpr std::uint32_t piece = 256;
 
 std::size_t bytes_of(const LoggedEntry &logged) {
     return logged.entry.line.size();
@@ -41,6 +46,21 @@ void EntryFeed::put_ahead(const std::vector<LoggedEntry> &entries) {
 void EntryFeed::keep(const LoggedEntry &logged) {
     recent_.push_back(logged);
     recent_bytes_ += bytes_of(logged);
+    keep_hash(logged.entry);
+}
+
+void EntryFeed::keep_hash(const Entry &entry) {
+    if (entry.place % piece == 0) {
+        const std::size_t at = entry.place / piece;
+        hashes_.resize(std::max(hashes_.size(), at + 1));
+        hashes_[at] = entry.hash;
+    }
+}
+
+std::optional<Digest> EntryFeed::kept_hash(std::uint32_t place) const {
+    const std::size_t at = place / piece;
+    const bool is_kept = place % piece == 0 && at < hashes_.size() && hashes_[at] != Digest{};
+    return is_kept ? std::optional(hashes_[at]) : std::nullopt;
 }
 
 void EntryFeed::are_stored() {
@@ -86,13 +106,19 @@ std::optional<std::vector<LoggedEntry>> EntryFeed::from(std::uint32_t place) {
     return std::vector<LoggedEntry>(first, recent_.end());
 }
 
-EntryFeed::End EntryFeed::end_of_others() {
+EntryFeed::Piece EntryFeed::piece_from(std::uint32_t place) {
     const std::lock_guard lock(mutex_);
-    if (recent_.empty()) {
-        return {last_place_, std::nullopt};
-    }
-    const Entry &first = recent_.front().entry;
-    return {first.place - 1, first.before};
+    const Entry *const first = recent_.empty() ? nullptr : &recent_.front().entry;
+    const std::uint32_t others = first == nullptr ? last_place_ : first->place - 1;
+    const std::uint32_t last = std::min(others, place + (piece - place % piece) % piece);
+    // The first one that is kept follows on it.
+    const bool is_front = first != nullptr && last == others;
+    return {last, is_front ? std::optional(first->before) : kept_hash(last)};
+}
+
+void EntryFeed::was_read(const Entry &last) {
+    const std::lock_guard lock(mutex_);
+    keep_hash(last);
 }
 
 std::uint32_t EntryFeed::last_place() {

@@ -19,7 +19,11 @@ struct LoggedEntry {
 };
 
 // The entries that the venue is given: whoever commits them, or sees that another gateway did, puts
-// them here. The latest ones are kept, and older ones are read from the database.
+// them here. The latest ones are kept. Older ones are read from the database in pieces, and each
+// has to end with the hash that it had when it was put here, or read first: so nobody who writes to
+// the database changes what a venue is fed again. These hashes are all that grows with the day, and
+// not without end: they are 32 bytes for 256 entries, whose lines are many times as long, and
+// `day_bytes` limits those of each firm.
 //
 // A venue may be given an entry while that is being committed: what it answers is held back until
 // the commit is done (SessionHost::is_entry_stored), and where the commit fails this gateway ends,
@@ -55,20 +59,23 @@ class EntryFeed {
     // The entries from a place on: none where they are still to come, nothing where they are in the
     // database alone.
     std::optional<std::vector<LoggedEntry>> from(std::uint32_t place);
-    // How far the database alone has them: up to the place in front of the first that is kept, or
-    // the last one where none is. The hash there, where one is kept behind it: what else stands in
-    // the database is no entry of this log.
-    struct End {
-        std::uint32_t place = 0;
+    // Entries that the database alone has, from a place on: up to this one, whose hash is known
+    // where they were put here, or read before. What ends otherwise is no piece of this log.
+    struct Piece {
+        std::uint32_t last = 0;
         std::optional<Digest> hash{};
     };
-    End end_of_others();
+    Piece piece_from(std::uint32_t place);
+    // A piece was read up to this entry, whose hash was computed, as those in front of it were.
+    void was_read(const Entry &last);
     std::uint32_t last_place();
     bool is_closed();
 
   private:
     // The lock is held.
     void keep(const LoggedEntry &logged);
+    void keep_hash(const Entry &entry);
+    std::optional<Digest> kept_hash(std::uint32_t place) const;
     void drop_old();
 
     std::mutex telling_mutex_; // over the calls of the reader; taken before the other
@@ -79,6 +86,7 @@ class EntryFeed {
     std::uint32_t stored_place_;
     std::deque<LoggedEntry> recent_;
     std::size_t recent_bytes_ = 0; // of their lines
+    std::vector<Digest> hashes_;   // of the last entry of each piece; zeros where it is not known
     bool closed_ = false;
 };
 

@@ -1,19 +1,11 @@
 #include "venue/feeder.h"
 
-#include <algorithm>
 #include <stdexcept>
 #include <utility>
 
 #include <fmt/format.h>
 
 namespace gateway {
-
-namespace {
-
-// Entries that are read from the database at once.
-constexpr std::uint32_t chunk = 256;
-
-} // namespace
 
 Feeder::Feeder(Process &process, const Log &log, std::string head, Feeding feeding)
     : process_(process), database_(log.database), entry_feed_(log.feed), head_(std::move(head)),
@@ -62,8 +54,14 @@ bool Feeder::wait_for_entries(const std::stop_token &stop) {
 }
 
 std::vector<LoggedEntry> Feeder::next_entries(ReconnectingReader &reader) {
-    auto recent = entry_feed_.from(next_);
-    std::vector<LoggedEntry> entries = recent ? std::move(*recent) : read_entries(reader);
+    if (auto recent = entry_feed_.from(next_)) {
+        check_chain(*recent);
+        return std::move(*recent);
+    }
+    return read_entries(reader);
+}
+
+void Feeder::check_chain(const std::vector<LoggedEntry> &entries) const {
     if (entries.empty()) {
         throw std::runtime_error(fmt::format("the log has no entry {}", next_));
     }
@@ -73,23 +71,27 @@ std::vector<LoggedEntry> Feeder::next_entries(ReconnectingReader &reader) {
         check_link(logged.entry, place++, before);
         before = logged.entry.hash;
     }
-    return entries;
 }
 
-// Of the database, and no entry of those that are kept: somebody may have written there. The last
-// piece has to end with the hash that these follow on, before anything of it is fed.
+// Of the database, and no entry of those that are kept: somebody may have written there. A piece
+// has to be whole, and to end with the hash that is known of it, before anything of it is fed.
 std::vector<LoggedEntry> Feeder::read_entries(ReconnectingReader &reader) {
-    const EntryFeed::End end = entry_feed_.end_of_others();
-    const std::uint32_t most = std::min(chunk, end.place + 1 - next_);
+    const EntryFeed::Piece piece = entry_feed_.piece_from(next_);
+    const std::uint32_t count = piece.last + 1 - next_;
     std::vector<LoggedEntry> entries;
-    for (Entry &entry : reader.ask([&](LogReader &log) { return log.entries(next_, most); })) {
+    for (Entry &entry : reader.ask([&](LogReader &log) { return log.entries(next_, count); })) {
         entries.push_back({std::move(entry), std::chrono::steady_clock::now()});
     }
-    const Entry *const last = entries.empty() ? nullptr : &entries.back().entry;
-    if (end.hash && last != nullptr && last->place == end.place && last->hash != *end.hash) {
-        throw std::runtime_error(fmt::format("entry {} does not follow on entry {} as it is now",
-                                             end.place + 1, end.place));
+    check_chain(entries);
+    const Entry &last = entries.back().entry;
+    if (last.place != piece.last) {
+        throw std::runtime_error(fmt::format("the log has no entry {}", last.place + 1));
     }
+    if (piece.hash && last.hash != *piece.hash) {
+        throw std::runtime_error(fmt::format("entry {} does not follow on entry {} as it is now",
+                                             last.place + 1, last.place));
+    }
+    entry_feed_.was_read(last);
     return entries;
 }
 

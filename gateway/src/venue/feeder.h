@@ -48,6 +48,8 @@ class Feeder final : private EntryFeed::Reader {
     bool wait_for_entries(const std::stop_token &stop);
     std::vector<LoggedEntry> next_entries(ReconnectingReader &reader);
     std::vector<LoggedEntry> read_entries(ReconnectingReader &reader);
+    // Throws where there are none, or they do not follow one on the other and on what was fed last.
+    void check_chain(const std::vector<LoggedEntry> &entries) const;
     // The lines of the entries, which are fed from now on.
     std::string lines_of(std::vector<LoggedEntry> entries);
 
