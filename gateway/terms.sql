@@ -1,5 +1,8 @@
 -- Beside schema.sql, in PostgreSQL alone: which gateway speaks. Several gateways may have the log open. One writes it,
 -- in a term of its own, and the others follow. A gateway whose term is over can write nothing there.
+--
+-- A gateway holds its tables against this text at each start, and the audit does so, too: a function has to be the same up to
+-- the comments within it. So whoever changes what is made here gives the tables another form (schema.sql).
 
 -- One row. backend and began are the connection of the gateway that speaks, as pg_stat_activity has them, and seen is
 -- when it last said that it is there.

@@ -50,7 +50,7 @@ std::uint64_t rows_of(const fs::path &log) {
         sqlite::connect(log.string(), SQLITE_OPEN_READWRITE).release());
     sqlite::Statement count(connection.get(), "SELECT count(*) FROM form");
     REQUIRE(count.step());
-    return count.long_number(0);
+    return count.number(0);
 }
 
 struct Copied {

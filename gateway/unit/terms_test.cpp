@@ -1,5 +1,5 @@
-// Two gateways on one log in PostgreSQL: which may write, and that the other can't; and a commit
-// that the server did not make safe.
+// Two gateways on one log in PostgreSQL: which may write, and that the other can't; tables that
+// somebody has changed; and a commit that the server did not make safe.
 #define DOCTEST_CONFIG_IMPLEMENT_WITH_MAIN
 #include <doctest/doctest.h>
 
@@ -13,6 +13,8 @@
 #include <iostream>
 #include <memory>
 #include <optional>
+#include <string>
+#include <vector>
 
 #include <fmt/format.h>
 #include <pqxx/pqxx>
@@ -130,6 +132,121 @@ void another_form(Schema &schema) {
     check(told.find("has tables of form 2, and this gateway's are of form 6: no day spans") !=
               std::string::npos,
           "told of another form: " + told);
+}
+
+// What the owner of a day's tables may have done to them, and how a gateway names it.
+struct Changed {
+    std::string statement;
+    std::string told;
+};
+
+const std::vector<Changed> &changes() {
+    static const std::vector<Changed> all{
+        {"CREATE OR REPLACE FUNCTION speak(mine INTEGER) RETURNS VOID LANGUAGE plpgsql AS $$ BEGIN "
+         "END $$",
+         "function speak(mine integer) is another: RETURNS void LANGUAGE plpgsql AS  BEGIN END"},
+        {"ALTER FUNCTION speak SET search_path TO public",
+         "function speak(mine integer) is another: RETURNS void LANGUAGE plpgsql "
+         "search_path=public AS"},
+        {"ALTER FUNCTION speak SECURITY DEFINER",
+         "function speak(mine integer) is another: RETURNS void LANGUAGE plpgsql SECURITY DEFINER"},
+        {"CREATE FUNCTION speak(mine BIGINT) RETURNS VOID LANGUAGE SQL AS ''",
+         "function speak(mine bigint) is none of a gateway's"},
+        {"DROP FUNCTION take_over; CREATE FUNCTION take_over(name TEXT) RETURNS TABLE (new_term "
+         "INTEGER, old_backend INTEGER, old_began TIMESTAMPTZ) LANGUAGE SQL AS 'SELECT 1, 0, "
+         "now()'",
+         "function take_over(name text) is another: RETURNS TABLE(new_term integer, old_backend "
+         "integer, old_began timestamp with time zone) LANGUAGE sql AS SELECT 1, 0, now()"},
+        {"DROP TRIGGER one_term ON entry", "trigger one_term of entry is not there"},
+        {"ALTER TABLE seal DISABLE TRIGGER one_term",
+         "trigger one_term of seal is another: not enabled (D): CREATE TRIGGER"},
+        {"CREATE FUNCTION other() RETURNS TRIGGER LANGUAGE plpgsql AS 'BEGIN NEW.told = NULL; "
+         "RETURN NEW; END'; CREATE TRIGGER other BEFORE INSERT ON sent FOR EACH ROW EXECUTE "
+         "FUNCTION "
+         "other()",
+         "function other() is none of a gateway's; trigger other of sent is none of a gateway's"},
+        {"CREATE RULE other AS ON INSERT TO sent DO INSTEAD NOTHING",
+         "rule other of sent is none of a gateway's"},
+        {"ALTER TABLE entry DROP CONSTRAINT entry_pkey",
+         "constraint entry_pkey of entry is not there"},
+        {"ALTER TABLE speaker DROP CONSTRAINT speaker_one_check",
+         "constraint speaker_one_check of speaker is not there"},
+        {"ALTER TABLE sent ADD CHECK (place < 100)",
+         "constraint sent_place_check of sent is none of a gateway's"},
+        {"CREATE UNIQUE INDEX other ON sent (place)", "index other of sent is none of a gateway's"},
+        {"CREATE INDEX other ON sent (lower(firm))", "index other of sent is none of a gateway's"},
+        {"ALTER TABLE sent RENAME TO other; CREATE VIEW sent AS SELECT * FROM other",
+         "table sent is another: no table (v): firm text, number integer"},
+        {"CREATE TABLE other () INHERITS (speaker)",
+         "child other of speaker is none of a gateway's"},
+        {"ALTER TABLE entry SET UNLOGGED", "table entry is another: unlogged: place integer"},
+        {"ALTER TABLE sent ENABLE ROW LEVEL SECURITY",
+         "table sent is another: with row security: firm text"},
+        {"CREATE POLICY other ON sent", "policy other of sent is none of a gateway's"},
+        {"ALTER TABLE sent ALTER told SET DEFAULT 'x'",
+         "table sent is another: firm text NOT NULL, number integer NOT NULL, place integer NOT "
+         "NULL, bytes bytea NOT NULL, told text DEFAULT 'x'::text"},
+        {"ALTER TABLE form ADD COLUMN other INTEGER",
+         "table form is another: number integer NOT NULL, other integer"},
+        {"CREATE OPERATOR === (LEFTARG = TEXT, RIGHTARG = TEXT, FUNCTION = texteq)",
+         "operator === is none of a gateway's"},
+        {"CREATE FUNCTION \"one\ntwo\"() RETURNS VOID LANGUAGE SQL AS ''",
+         "function one?two() is none of a gateway's"},
+    };
+    return all;
+}
+
+// Each on a log of its own, by a gateway that starts; one that is as gateways make it is taken.
+void changed_tables(const std::string &connection) {
+    for (const Changed &changed : changes()) {
+        Schema schema(connection);
+        same<std::string>("", thrown_by([&] { schema.open("made")->take_over(); }), "a new log");
+        same<std::string>("", thrown_by([&] { schema.open("again")->take_over(); }), "the same");
+        schema.run(changed.statement);
+        const std::string told = thrown_by([&] { schema.open("next")->take_over(); });
+        check(told.find(schema.name() + " is not as gateways make it: ") == 0 &&
+                  told.find(changed.told) != std::string::npos,
+              changed.statement + ": " + told);
+    }
+}
+
+// What changes no row, and what a gateway does not use.
+void other_tables(Schema &schema) {
+    schema.open("made")->take_over();
+    schema.run("CREATE TABLE other (place INTEGER PRIMARY KEY); CREATE VIEW read AS SELECT * FROM "
+               "entry; CREATE INDEX moments ON entry (moment)");
+    same<std::string>("", thrown_by([&] { schema.open("next")->take_over(); }), "more tables");
+}
+
+// The tables are made by a function of their owner, which leaves some of the same names, and
+// settings, in the gateway's own session.
+class OwnersFunction {
+  public:
+    explicit OwnersFunction(const Schema &schema) : connection_(schema.text()) {
+        run(fmt::format(
+            "CREATE SCHEMA mireseason; CREATE FUNCTION mireseason.make_log(name TEXT) RETURNS VOID "
+            "LANGUAGE plpgsql AS $make$ BEGIN EXECUTE format('CREATE SCHEMA %I', name); EXECUTE "
+            "format('SET LOCAL search_path TO %I', name); EXECUTE $tables${}$tables$; EXECUTE "
+            "$tables${}$tables$; CREATE TEMP TABLE entry (LIKE entry); SET synchronous_commit TO "
+            "off; END $make$",
+            schema_text(), terms_text()));
+    }
+    ~OwnersFunction() { run("DROP SCHEMA mireseason CASCADE"); }
+    OwnersFunction(const OwnersFunction &) = delete;
+    OwnersFunction &operator=(const OwnersFunction &) = delete;
+
+  private:
+    void run(const std::string &statement) { pqxx::nontransaction(connection_).exec(statement); }
+
+    pqxx::connection connection_;
+};
+
+void left_in_the_session(Schema &schema) {
+    const OwnersFunction owner(schema);
+    const auto database = schema.open("gateway");
+    const std::uint32_t term = database->take_over().value_or(0);
+    database->writer()->commit(batch_of(0, term));
+    same<std::size_t>(1, schema.run("SELECT FROM entry"), "entries of the log");
 }
 
 // A gateway that has looked at the row for a commit that does not come: the row is locked, and its
@@ -309,6 +426,92 @@ void waits_for_nobody(Schema &schema) {
     check(told.find("one machine alone") != std::string::npos, "told of it: " + told);
 }
 
+// Rows of each table, from a place and a number on: so few that they are put by single statements,
+// or copied.
+Batch rows_from(std::uint32_t first, std::uint32_t term, bool are_copied) {
+    Batch batch;
+    const std::uint32_t count = are_copied ? 6 : 2;
+    for (std::uint32_t place = first; place < first + count; ++place) {
+        batch.entries.push_back(batch_of(place, term).entries.front());
+        batch.sent.push_back({"F", place, place, "35=AI", {}});
+    }
+    batch.seal.emplace().at.seal = first;
+    batch.seal->at.term = term;
+    if (are_copied) {
+        batch.connections.emplace_back().place = first;
+        batch.connections.back().term = term;
+        batch.checkpoints.emplace_back().number = first;
+    }
+    return batch;
+}
+
+// As long as it lives the server takes no row of a table, and calls each INSERT done.
+class Muted {
+  public:
+    Muted(Schema &schema, const std::string &table) : schema_(schema), table_(table) {
+        schema_.run("CREATE FUNCTION mute() RETURNS TRIGGER LANGUAGE plpgsql AS 'BEGIN RETURN "
+                    "NULL; END'; CREATE TRIGGER mute BEFORE INSERT ON " +
+                    table_ + " FOR EACH ROW EXECUTE FUNCTION mute()");
+    }
+    ~Muted() { schema_.run("DROP TRIGGER mute ON " + table_ + "; DROP FUNCTION mute()"); }
+    Muted(const Muted &) = delete;
+    Muted &operator=(const Muted &) = delete;
+
+  private:
+    Schema &schema_;
+    const std::string table_;
+};
+
+// Nothing of such a transaction is there, and nobody takes it for committed.
+void drops_rows(Schema &schema) {
+    const auto database = schema.open("dropped");
+    const std::uint32_t term = database->take_over().value();
+    const auto writer = database->writer();
+    std::uint32_t next = 1;
+    const auto commit = [&](bool are_copied) {
+        return thrown_by([&] { writer->commit(rows_from(next, term, are_copied)); });
+    };
+    for (const bool are_copied : {false, true}) {
+        for (const std::string table : {"entry", "sent", "seal", "connection", "checkpoint"}) {
+            if (!are_copied && (table == "connection" || table == "checkpoint")) {
+                continue;
+            }
+            {
+                const Muted muted(schema, table);
+                const std::string fault = commit(are_copied);
+                check(fault.find(fmt::format("the table {} has fewer rows than were put there",
+                                             table)) != std::string::npos,
+                      fmt::format("rows of {} are dropped: '{}'", table, fault));
+            }
+            for (const char *each :
+                 {"entry WHERE place", "sent WHERE number", "seal WHERE number"}) {
+                same<std::size_t>(0, schema.run(fmt::format("SELECT FROM {} >= {}", each, next)),
+                                  table + ": rows that are there");
+            }
+            same<std::string>("", commit(are_copied), table + ": once no row is dropped");
+            next += 6;
+        }
+    }
+    Batch again;
+    again.sent = rows_from(1, term, false).sent;
+    again.is_repeated = true;
+    same<std::string>("", thrown_by([&] { writer->commit(again); }), "rows that were there");
+    schema.run("CREATE RULE mute AS ON INSERT TO entry DO INSTEAD NOTHING");
+    const std::string fault = commit(false);
+    check(fault.find("the table entry has fewer rows") != std::string::npos, "a rule: " + fault);
+}
+
+// Somebody may have changed the type of a column.
+void numbers_fit(Schema &schema) {
+    schema.run("ALTER TABLE checkpoint ALTER number TYPE BIGINT");
+    schema.run("UPDATE checkpoint SET number = 4294967297 WHERE number = (SELECT max(number) FROM "
+               "checkpoint)");
+    const auto reader = schema.open("reads")->reader();
+    const std::string fault = thrown_by([&] { reader->last_checkpoint(); });
+    check(fault.starts_with("PostgreSQL, the last checkpoint: column number has something else"),
+          "a number that does not fit: " + fault);
+}
+
 // Of the database that TEST_POSTGRES names.
 std::string connection() {
     const char *given = std::getenv("TEST_POSTGRES");
@@ -333,6 +536,33 @@ TEST_CASE("one gateway after the other speaks") {
 TEST_CASE("another form" * doctest::skip(std::getenv("TEST_POSTGRES_OWN") == nullptr)) {
     Schema schema(connection());
     another_form(schema);
+}
+
+// The same, as each owner may.
+TEST_CASE("tables that were changed" * doctest::skip(std::getenv("TEST_POSTGRES_OWN") == nullptr)) {
+    changed_tables(connection());
+}
+
+TEST_CASE("tables beside a log's" * doctest::skip(std::getenv("TEST_POSTGRES_OWN") == nullptr)) {
+    Schema schema(connection());
+    other_tables(schema);
+}
+
+TEST_CASE("left in the session" * doctest::skip(std::getenv("TEST_POSTGRES_OWN") == nullptr)) {
+    {
+        Schema schema(connection());
+        left_in_the_session(schema);
+    }
+    Schema schema(connection());
+    const OwnersFunction owner(schema);
+    waits_for_nobody(schema);
+}
+
+// The same, with triggers and types of its own.
+TEST_CASE("rows that are dropped" * doctest::skip(std::getenv("TEST_POSTGRES_OWN") == nullptr)) {
+    Schema schema(connection());
+    drops_rows(schema);
+    numbers_fit(schema);
 }
 
 // The same, which sets the standbys.

@@ -228,6 +228,20 @@ def test_limits_of_a_reader(written: Owned) -> None:
     assert limit.stdout.strip() == "5"
 
 
+def test_a_function_of_anothers(written: Owned, make_gateway: MakeGateway) -> None:
+    """Whoever may has replaced the function by which one gateway writes at a time: none starts."""
+    speak = "CREATE OR REPLACE FUNCTION %s.speak(mine INTEGER) RETURNS VOID LANGUAGE sql AS ''"
+    assert said(written.superuser, speak % written.schema).returncode == 0
+    door = make_gateway(
+        [DEALER, OTHER], [INVESTOR], log=PostgresLog(written.of("gateway"), written.schema)
+    )
+    door.write()
+    door.start()
+    assert door.wait_end() == 1
+    told = "%s is not as gateways make it: function speak(mine integer) is another" % written.schema
+    assert told in door.last_words(), door.last_words()
+
+
 def test_a_lock_that_is_held_keeps_no_day(owned: Owned, make_gateway: MakeGateway) -> None:
     """The lock that gateways once took, held by the superuser himself: the day begins all the same."""
     words = ["psql", "-X", "-q", "-A", "-t", "-d", owned.superuser]

@@ -12,12 +12,15 @@ from pathlib import Path
 
 import pytest
 
+from tests.audit.more_forgeries import REWORDED
+from tests.audit.two_answers import behind_its_index, without_key
 from tests.gateway.door import Door
 from tests.gateway.market import moment_in
-from tests.gateway.stage import Stage, check
+from tests.gateway.stage import DEALER, Stage, check
 from tests.gateway.test_log import ended_day, goes_on, nothing_sent
 from tests.gateway.wait import LONG, until
 from tests.harness.budget import Budget, seconds_of
+from tests.limits.flood import cancel, logged_on
 from tests.model.frames import write_frame
 
 ROOT = Path(__file__).resolve().parent.parent.parent
@@ -142,6 +145,52 @@ def audited(stage: Stage, *words: str) -> subprocess.CompletedProcess[str]:
     return audit_of(stage.door, *words)
 
 
+def mute(intruder: Intruder) -> None:
+    """From now on the table of entries takes no row, and the database calls each INSERT done."""
+    if intruder.door.postgres is not None:
+        body = "LANGUAGE plpgsql AS 'BEGIN RETURN NULL; END'"
+        intruder.rows(
+            "CREATE FUNCTION mute() RETURNS TRIGGER %s; CREATE TRIGGER mute BEFORE INSERT ON entry "
+            "FOR EACH ROW EXECUTE FUNCTION mute()" % body
+        )
+        return
+    connection = sqlite3.connect(intruder.door.database, isolation_level=None, timeout=LONG)
+    ((version,),) = connection.execute("PRAGMA schema_version")
+    ((text,),) = connection.execute("SELECT sql FROM sqlite_schema WHERE name = 'entry'")
+    connection.execute("PRAGMA writable_schema = ON")
+    never = "z INTEGER NOT NULL ON CONFLICT IGNORE"
+    muted = text[: text.rindex(")")] + ", %s)" % never
+    connection.execute("UPDATE sqlite_schema SET sql = ? WHERE name = 'entry'", (muted,))
+    connection.execute("PRAGMA schema_version = %d" % (version + 1))
+    connection.close()
+
+
+@pytest.mark.parametrize("runs", [True, False], ids=["while it runs", "between two starts"])
+def test_a_table_that_drops_rows(stage_of_log: Stage, runs: bool) -> None:
+    """The firm is answered nothing that is not in the log: the gateway ends at the commit, or does not start."""
+    stage = stage_of_log
+    stage.open()
+    with logged_on(stage, DEALER) as wire:
+        if not runs:
+            check(stage.door.stop() == 0, "the gateway does not end well")
+        mute(Intruder(stage.door))
+        entries = len(stage.door.ledger().entries)
+        if runs:
+            assert wire.raw(cancel(wire, wire.number))
+        else:
+            stage.door.start()
+        check(stage.door.wait_end() == 1, "it goes on: %s" % stage.door.last_words())
+        answered = wire.read_kind(b"AI", 1) if runs else None
+        check(answered is None, "it is answered %r" % answered)
+    causes = (
+        "NOT NULL constraint failed: entry.z",
+        "the table entry has fewer rows than were put there",
+    )
+    told = stage.door.last_words()
+    check(not runs or any(cause in told for cause in causes), told)
+    check(len(stage.door.ledger().entries) == entries, "there are more entries")
+
+
 @pytest.mark.parametrize("with_seal", [False, True], ids=["without a seal", "with a seal"])
 def test_an_entry_that_is_put_in(stage_of_log: Stage, with_seal: bool) -> None:
     """A hit in an investor's name, put in while no gateway runs: no start takes it, and the audit finds it."""
@@ -162,6 +211,28 @@ def test_an_entry_that_is_put_in(stage_of_log: Stage, with_seal: bool) -> None:
     check(
         found.returncode == 1
         and "entry %d: 1 entry follows the last checkpoint" % place in found.stdout,
+        found.stdout,
+    )
+
+
+# Whichever of a start's queries the index answers: one of what it reads does not fit the rest.
+OTHER_ROWS = (
+    r"entry \d+ (?:was changed|does not follow|is not sealed|was in the log, and is not any more)"
+)
+
+
+def test_an_index_that_says_what_stood_there(stage: Stage) -> None:
+    """The seals are right by the index, and the rows are others: no start takes them, and the audit finds it."""
+    asked_and_quoted(stage)
+    key = str(stage.door.keys / "gateway.pub")
+    without_key(stage.door.database, "entry")
+    index = "entry (place, hash) WHERE place IS NOT NULL"
+    change = REWORDED % ("50=V1", "50=V2", "INV1")
+    behind_its_index(stage.door.database, index, "sqlite_autoindex_entry_1", change)
+    nothing_sent(stage, lambda: stage.refused(OTHER_ROWS))
+    found = audited(stage, "--gateway-key", key)
+    check(
+        found.returncode == 1 and "is signed by none of the keys" in found.stdout,
         found.stdout,
     )
 

@@ -5,7 +5,7 @@ from tests.lab.run import Fault
 from tests.replicas.book import primary
 
 # Tables as they would be without terms: whoever comes may write, as many as there are, and each
-# counts for itself.
+# counts for itself. The gateways that run go on with them; one that is started refuses them.
 WITHOUT_TERMS = """
 SET search_path TO {schema};
 DROP TRIGGER one_term ON entry;

@@ -48,6 +48,13 @@ struct ConnectionState {
 
 // Reads through a connection of its own; one thread at a time. Every call throws
 // std::runtime_error, or what is derived of it, with the database's words.
+//
+// What one call says another need not say: an index of a file of SQLite may have other rows than
+// its table, and a server may answer each query as it likes. No start believes it all the same.
+// Each entry that the venue is fed is held against the one before it as it is read, and so is each
+// row of `connection`; the last of both has to have the hash that a seal covers. That seal is made
+// with the gateways' secret, whichever query its hashes came from. Session notes stand in the row
+// of their seal.
 class LogReader {
   public:
     virtual ~LogReader() = default;

@@ -1,6 +1,7 @@
 // Writes the log into a schema of PostgreSQL. A commit returns when the server says that it is
 // safe, by its synchronous_commit and its synchronous_standby_names.
 #include "log/postgres.h"
+#include "log/postgres_form.h"
 #include "log/postgres_rows.h"
 
 #include <algorithm>
@@ -87,6 +88,7 @@ class WritingConnection {
                                row.at.event, row.at.seal, static_cast<int>(row.is_end),
                                bytea(row.signature));
         }
+        rest.require(batch);
         end_with_words(rest, batch);
         rest.run();
         commit(work);
@@ -104,6 +106,7 @@ class WritingConnection {
             all.add(first);
         }
         all.put(batch);
+        all.require(batch);
         end_with_words(all, batch);
         all.add("COMMIT");
         warnings_.listen();
@@ -151,25 +154,31 @@ class WritingConnection {
     void begin(const PostgresPlace &place) {
         const std::string &schema = place.schema;
         pqxx::nontransaction work(*connection_);
+        make_tables(work, schema);
+        // Behind what another's function may have set, or left in this session's own schema.
         work.exec(
             fmt::format("SET synchronous_commit TO {}", work.quote(place.synchronous_commit)));
         work.exec("SET client_min_messages TO warning");
         // Else the server warns of each text with a backslash, as bytes have one.
         work.exec("SET standard_conforming_strings TO on");
-        make_tables(work, schema);
-        work.exec(fmt::format("SET search_path TO {}", work.quote_name(schema)));
+        work.exec(fmt::format("SET search_path TO {}, pg_temp", work.quote_name(schema)));
         const pqxx::result form = work.exec("SELECT number FROM form");
         if (form.size() != 1 || number_of(form[0][0]) != form_of_log) {
             throw std::runtime_error(
                 another_form(schema, form.empty() ? 0 : number_of(form[0][0])));
         }
+        check_form_of_tables(work, schema);
         prepare_rows(work, *connection_);
-        connection_->prepare("checkpoint",
-                             "INSERT INTO checkpoint (number, term, place, event, seal, is_end, "
-                             "signature) VALUES ($1, $2, $3, $4, $5, $6, $7)");
-        work.exec("PREPARE seal_and_speak AS WITH sealed AS (INSERT INTO seal (number, term, "
-                  "place, event, notes, hash, mac) VALUES ($2, $3, $4, $5, $6, $7, $8)) SELECT "
-                  "speak($1)");
+        connection_->prepare(
+            "checkpoint",
+            fmt::format("WITH put AS (INSERT INTO checkpoint (number, term, place, event, seal, "
+                        "is_end, signature) VALUES ($1, $2, $3, $4, $5, $6, $7) RETURNING number) "
+                        "SELECT {} FROM put",
+                        required("checkpoint", "count(*) = 1")));
+        work.exec(fmt::format("PREPARE seal_and_speak AS WITH sealed AS (INSERT INTO seal (number, "
+                              "term, place, event, notes, hash, mac) VALUES ($2, $3, $4, $5, $6, "
+                              "$7, $8) RETURNING number) SELECT speak($1), {} FROM sealed",
+                              required("seal", "count(*) = 1")));
         work.exec("PREPARE speak AS SELECT speak($1)");
     }
 

@@ -4,6 +4,8 @@
 
 #include "log/database.h"
 
+#include <cstdint>
+#include <limits>
 #include <memory>
 #include <string>
 #include <string_view>
@@ -19,11 +21,24 @@ template <typename Work> auto told(std::string_view what, Work work) {
         return work();
     } catch (const pqxx::failure &fault) {
         throw DatabaseAway(fmt::format("PostgreSQL, {}: {}", what, fault.what()));
+    } catch (const pqxx::conversion_error &fault) {
+        throw std::runtime_error(fmt::format("PostgreSQL, {}: {}", what, fault.what()));
     }
 }
 
-inline std::uint32_t number_of(const pqxx::field &field) {
-    return field.as<std::uint32_t>();
+// Throws pqxx::conversion_error that names the column where something else stands there. (libpqxx
+// cuts what does not fit into its type.)
+inline std::uint32_t number_of(const pqxx::field &field, std::int64_t least = 0,
+                               std::int64_t most = std::numeric_limits<std::uint32_t>::max()) {
+    try {
+        const auto number = field.as<std::int64_t>();
+        if (number >= least && number <= most) {
+            return static_cast<std::uint32_t>(number);
+        }
+    } catch (const pqxx::conversion_error &) {
+    }
+    throw pqxx::conversion_error(fmt::format(
+        "column {} has something else than a number from {} to {}", field.name(), least, most));
 }
 
 // A connection whose tables are those of the schema.

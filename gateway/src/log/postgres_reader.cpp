@@ -60,11 +60,15 @@ ConnectionEvent read_connection(const pqxx::row &row) {
     return event;
 }
 
+// What column_of_place() made of a place.
+std::uint32_t place_of(const pqxx::field &field) {
+    return number_of(field, column_of_place(before_day), std::int64_t{before_day} - 1);
+}
+
 // Of what select_seal and select_checkpoint give.
 Position read_position(const pqxx::row &row) {
-    return {number_of(row[0]), static_cast<std::uint32_t>(row[1].as<std::int32_t>()),
-            digest_of(row[2]), number_of(row[3]),
-            digest_of(row[4]), row[5].is_null() ? 0 : number_of(row[5]),
+    return {number_of(row[0]), place_of(row[1]),  digest_of(row[2]),
+            number_of(row[3]), digest_of(row[4]), row[5].is_null() ? 0 : number_of(row[5]),
             digest_of(row[6])};
 }
 

@@ -2,6 +2,9 @@
 
 #include "common/frame.h"
 
+#include <algorithm>
+#include <limits>
+#include <map>
 #include <tuple>
 #include <vector>
 
@@ -108,7 +111,26 @@ std::string bytea(std::string_view bytes) {
     return text;
 }
 
+// No statement of SQL fails with words of one's own, but for one that reads them as a number.
+std::string required(std::string_view table, std::string_view holds) {
+    return fmt::format("CAST(CASE WHEN {} THEN '1' ELSE 'the table {} has fewer rows than were put "
+                       "there: a trigger or a rule of it drops them' END AS INTEGER)",
+                       holds, table);
+}
+
 void prepare_rows(pqxx::nontransaction &work, pqxx::connection_base &connection) {
+    // What was put is looked for by its keys, also where a table is short at first.
+    work.exec("SET enable_seqscan TO off");
+    for (const char *table : {"entry", "connection"}) {
+        work.exec(fmt::format("PREPARE require_{0} (INTEGER, INTEGER, BIGINT) AS SELECT {1} FROM "
+                              "{0} WHERE place BETWEEN $1 AND $2",
+                              table, required(table, "count(*) = $3")));
+    }
+    work.exec(fmt::format("PREPARE require_sent (TEXT[], INTEGER[], INTEGER[], BIGINT[]) AS SELECT "
+                          "{} FROM unnest($1, $2, $3, $4) AS put (firm, first, last, rows), "
+                          "LATERAL (SELECT count(*) AS rows FROM sent WHERE sent.firm = put.firm "
+                          "AND sent.number BETWEEN put.first AND put.last) AS there",
+                          required("sent", "bool_and(there.rows >= put.rows)")));
     // By a statement of their own, so that a statement of SQL may name them.
     work.exec(fmt::format("PREPARE put_entry AS INSERT INTO entry ({}) VALUES ($1, $2, $3, $4, $5, "
                           "$6, $7, $8, $9, $10)",
@@ -136,6 +158,49 @@ void Statements::put(const Batch &batch) {
     }
     for (const Sent &row : batch.sent) {
         call("put_sent", row.firm, row.number, row.place, bytea(row.bytes), row.told);
+    }
+}
+
+void Statements::require(const Batch &batch) {
+    if (!batch.entries.empty()) {
+        call("require_entry", batch.entries.front().place, batch.entries.back().place,
+             batch.entries.size());
+    }
+    if (!batch.connections.empty()) {
+        call("require_connection", batch.connections.front().place, batch.connections.back().place,
+             batch.connections.size());
+    }
+    require_sent(batch.sent);
+}
+
+// Of each firm there is nothing between the numbers of a batch but what is in that batch.
+void Statements::require_sent(const std::vector<Sent> &sent) {
+    struct Numbers {
+        std::uint32_t first = std::numeric_limits<std::uint32_t>::max();
+        std::uint32_t last = 0;
+        std::size_t count = 0;
+    };
+    std::map<std::string, Numbers> put;
+    for (const Sent &row : sent) {
+        Numbers &numbers = put[row.firm];
+        numbers.first = std::min(numbers.first, row.number);
+        numbers.last = std::max(numbers.last, row.number);
+        ++numbers.count;
+    }
+    std::string firms;
+    std::string first;
+    std::string last;
+    std::string counts;
+    for (const auto &[firm, numbers] : put) {
+        const char *comma = firms.empty() ? "" : ", ";
+        firms.append(comma).append(value(firm));
+        first.append(comma).append(value(numbers.first));
+        last.append(comma).append(value(numbers.last));
+        counts.append(comma).append(value(numbers.count));
+    }
+    if (!sent.empty()) {
+        add(fmt::format("EXECUTE require_sent(ARRAY[{}], ARRAY[{}], ARRAY[{}], ARRAY[{}])", firms,
+                        first, last, counts));
     }
 }
 

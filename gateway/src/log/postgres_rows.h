@@ -21,6 +21,9 @@ template <std::size_t Size> std::string bytea(const std::array<unsigned char, Si
     return bytea({reinterpret_cast<const char *>(digest.data()), digest.size()});
 }
 
+// A column of a SELECT: fails where this does not hold of what was put into a table.
+std::string required(std::string_view table, std::string_view holds);
+
 // Once for each connection.
 void prepare_rows(pqxx::nontransaction &work, pqxx::connection_base &connection);
 // All but seals and checkpoints.
@@ -43,9 +46,14 @@ class Statements {
     static bool has_room_for(const Batch &batch);
     // What has_room_for() looked at.
     void put(const Batch &batch);
+    // Once all rows of a batch were put: fails, and the transaction with it, where one of them is
+    // not there, as where a trigger or a rule drops it. The server says no word of that.
+    void require(const Batch &batch);
     void run() { work_.exec(text_); }
 
   private:
+    void require_sent(const std::vector<Sent> &sent);
+
     template <typename First, typename... Rest>
     std::string row(const First &first, const Rest &...rest) {
         std::string text = "(" + value(first);

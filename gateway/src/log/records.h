@@ -68,8 +68,8 @@ struct Sent {
 constexpr std::uint32_t before_day = std::numeric_limits<std::uint32_t>::max();
 
 // In a column of the tables it is -1.
-constexpr std::int32_t column_of_place(std::uint32_t place) {
-    return static_cast<std::int32_t>(place);
+constexpr std::int64_t column_of_place(std::uint32_t place) {
+    return place == before_day ? -1 : std::int64_t{place};
 }
 
 // Up to where a log goes: its last entry, the last row of `connection`, place 0 where there is none

@@ -5,6 +5,7 @@
 #include "log/sqlite.h"
 #include "log/sqlite_statement.h"
 
+#include <algorithm>
 #include <array>
 #include <stdexcept>
 
@@ -61,19 +62,16 @@ class SqliteWriter final : public LogWriter {
     explicit SqliteWriter(const std::string &path)
         : connection_(connect_synchronised(path)), begin_(connection_.get(), "BEGIN IMMEDIATE"),
           commit_(connection_.get(), "COMMIT"),
-          entry_(connection_.get(), fmt::format("INSERT INTO entry ({}) VALUES (?, ?, ?, ?, ?, ?, "
-                                                "?, ?, ?, ?)",
-                                                entry_columns)),
-          event_(connection_.get(), fmt::format("INSERT INTO connection ({}) VALUES (?, ?, ?, ?, "
-                                                "?, ?, ?, ?, ?, ?, ?, ?, ?)",
-                                                connection_columns)),
-          sent_(connection_.get(), put_sent("INSERT")),
-          sent_again_(connection_.get(), put_sent("INSERT OR IGNORE")),
+          entry_(connection_.get(), put_into("entry", entry_columns)),
+          event_(connection_.get(), put_into("connection", connection_columns)),
+          sent_(connection_.get(), put_into("sent", sent_columns)),
+          sent_again_(connection_.get(),
+                      put_into("sent", sent_columns) + " ON CONFLICT (firm, number) DO NOTHING"),
           seal_(connection_.get(),
-                "INSERT INTO seal (number, term, place, event, notes, hash, mac) VALUES (?, ?, ?, "
-                "?, ?, ?, ?)"),
-          checkpoint_(connection_.get(), "INSERT INTO checkpoint (number, term, place, event, "
-                                         "seal, is_end, signature) VALUES (?, ?, ?, ?, ?, ?, ?)") {}
+                put_into("seal", "number, term, place, event, notes, hash, mac")),
+          checkpoint_(
+              connection_.get(),
+              put_into("checkpoint", "number, term, place, event, seal, is_end, signature")) {}
 
     void commit(const Batch &batch) override {
         begin_.run();
@@ -84,18 +82,19 @@ class SqliteWriter final : public LogWriter {
             put(entry);
         }
         for (const Sent &row : batch.sent) {
-            put(batch.is_repeated ? sent_again_ : sent_, row);
+            put(row, batch.is_repeated);
         }
         if (batch.seal) {
             put_place(seal_, batch.seal->at.seal, batch.seal->at);
             seal_.bind_bytes(batch.seal->notes).bind_bytes(batch.seal->at.notes);
-            seal_.bind_bytes(batch.seal->mac).run();
+            seal_.bind_bytes(batch.seal->mac).put_row();
         }
         for (const Checkpoint &row : batch.checkpoints) {
             put_place(checkpoint_, row.number, row.at);
             checkpoint_.bind(std::int64_t{row.at.seal}).bind(std::int64_t{row.is_end});
-            checkpoint_.bind_bytes(row.signature).run();
+            checkpoint_.bind_bytes(row.signature).put_row();
         }
+        look_at_definitions();
         commit_.run();
         ++commits_;
         is_synchronised_ = true;
@@ -129,27 +128,60 @@ class SqliteWriter final : public LogWriter {
   private:
     static void put_place(Statement &row, std::uint32_t number, const Position &at) {
         row.bind(std::int64_t{number}).bind(std::int64_t{at.term});
-        row.bind(std::int64_t{column_of_place(at.place)}).bind(std::int64_t{at.event});
+        row.bind(column_of_place(at.place)).bind(std::int64_t{at.event});
     }
-    // verb is INSERT, or what leaves the row that is there.
-    static std::string put_sent(std::string_view verb) {
-        return fmt::format("{} INTO sent ({}) VALUES (?, ?, ?, ?, ?)", verb, sent_columns);
+    // Throws where somebody has changed a definition since this began to write: by another one a row
+    // may stand where nobody finds it. An operator's VACUUM or ANALYZE changes none.
+    void look_at_definitions() {
+        bool may_differ = false;
+        for (Statement *each : {&entry_, &event_, &sent_, &sent_again_, &seal_, &checkpoint_}) {
+            may_differ = each->was_prepared_anew() || may_differ;
+        }
+        if (may_differ && definitions() != definitions_) {
+            throw std::runtime_error(
+                fmt::format("SQLite, {}: somebody has changed its definitions while this gateway "
+                            "writes there",
+                            sqlite::file_of(connection_.get())));
+        }
     }
-    static void put(Statement &statement, const Sent &row) {
+    // Those of all tables, but of what ANALYZE keeps.
+    std::string definitions() const {
+        Statement rows(connection_.get(), "SELECT type || ' ' || coalesce(sql, name) FROM "
+                                          "sqlite_schema WHERE name NOT GLOB 'sqlite_stat*' "
+                                          "ORDER BY name");
+        std::string all;
+        while (rows.step()) {
+            all += rows.bytes(0) + "\n";
+        }
+        return all;
+    }
+    // A table may say itself that a row which breaks a rule of it is left out, or takes the place
+    // of another: that does not count here.
+    static std::string put_into(std::string_view table, std::string_view columns) {
+        std::string values = "?";
+        for (auto left = std::ranges::count(columns, ','); left > 0; --left) {
+            values += ", ?";
+        }
+        return fmt::format("INSERT OR ABORT INTO {} ({}) VALUES ({})", table, columns, values);
+    }
+    // One that is there may be a repeated one.
+    void put(const Sent &row, bool is_repeated) {
+        Statement &statement = is_repeated ? sent_again_ : sent_;
         statement.bind(row.firm).bind(std::int64_t{row.number}).bind(std::int64_t{row.place});
-        statement.bind_bytes(row.bytes).bind(row.told).run();
+        statement.bind_bytes(row.bytes).bind(row.told);
+        is_repeated ? statement.run() : statement.put_row();
     }
     void put(const Entry &entry) {
         entry_.bind(std::int64_t{entry.place}).bind(std::int64_t{entry.term}).bind(entry.moment);
         entry_.bind(entry.received).bind(entry.firm).bind(entry.number).bind(entry.connection);
-        entry_.bind_bytes(entry.line).bind_bytes(entry.before).bind_bytes(entry.hash).run();
+        entry_.bind_bytes(entry.line).bind_bytes(entry.before).bind_bytes(entry.hash).put_row();
     }
     void put(const ConnectionEvent &event) {
         event_.bind(std::int64_t{event.place}).bind(std::int64_t{event.term}).bind(event.moment);
         event_.bind(event.event).bind(std::int64_t{event.entry}).bind(event.number);
         event_.bind(event.firm).bind(event.address).bind(event.certificate).bind(event.why);
         event_.bind(std::int64_t{event.left_out});
-        event_.bind_bytes(event.before).bind_bytes(event.hash).run();
+        event_.bind_bytes(event.before).bind_bytes(event.hash).put_row();
     }
 
     static ConnectionPointer connect_synchronised(const std::string &path) {
@@ -175,6 +207,7 @@ class SqliteWriter final : public LogWriter {
     Statement sent_again_;
     Statement seal_;
     Statement checkpoint_;
+    const std::string definitions_ = definitions();
 };
 
 // A lock on a file, for as long as it lives.

@@ -41,7 +41,7 @@ ConnectionEvent read_connection(const Statement &row) {
 
 // Of what select_seal and select_checkpoint give.
 Position read_position(const Statement &row) {
-    return {row.number(0), row.number(1), row.digest(2), row.number(3),
+    return {row.number(0), row.place(1),  row.digest(2), row.number(3),
             row.digest(4), row.number(5), row.digest(6)};
 }
 

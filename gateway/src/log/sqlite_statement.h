@@ -5,6 +5,7 @@
 #include "log/records.h"
 
 #include <cstring>
+#include <limits>
 #include <memory>
 #include <optional>
 #include <stdexcept>
@@ -25,11 +26,16 @@ struct FinalizeStatement {
     void operator()(sqlite3_stmt *statement) const { sqlite3_finalize(statement); }
 };
 
-// Throws std::runtime_error that names the file: of several venues each has its own.
-[[noreturn]] inline void fail(sqlite3 *connection, std::string_view what) {
+// Of several venues each has its own.
+inline std::string_view file_of(sqlite3 *connection) {
     const char *file = sqlite3_db_filename(connection, "main");
-    throw std::runtime_error(fmt::format("SQLite, {}: {}: {}", file == nullptr ? "" : file, what,
-                                         sqlite3_errmsg(connection)));
+    return file == nullptr ? "" : file;
+}
+
+// Throws std::runtime_error that names the file.
+[[noreturn]] inline void fail(sqlite3 *connection, std::string_view what) {
+    throw std::runtime_error(
+        fmt::format("SQLite, {}: {}: {}", file_of(connection), what, sqlite3_errmsg(connection)));
 }
 
 // A prepared statement: parameters are bound in order, columns read by place.
@@ -85,6 +91,19 @@ class Statement {
         while (step()) {
         }
     }
+    // The end of an INSERT of one row. Throws where SQLite has put none there, and calls that done.
+    void put_row() {
+        run();
+        if (sqlite3_changes(connection_) != 1) {
+            throw std::runtime_error(
+                fmt::format("SQLite, {}: no row was put there: {}", file_of(connection_), text_));
+        }
+    }
+    // Whether SQLite has prepared this anew since it was asked last. It does where a definition may
+    // have changed.
+    bool was_prepared_anew() {
+        return sqlite3_stmt_status(statement_.get(), SQLITE_STMTSTATUS_REPREPARE, 1) != 0;
+    }
     void reset() {
         sqlite3_reset(statement_.get());
         parameters_ = 0;
@@ -93,11 +112,13 @@ class Statement {
     bool is_null(int column) const {
         return sqlite3_column_type(statement_.get(), column) == SQLITE_NULL;
     }
+    // Throws std::runtime_error that names table and column where something else stands there.
     std::uint32_t number(int column) const {
-        return static_cast<std::uint32_t>(sqlite3_column_int64(statement_.get(), column));
+        return within(column, 0, std::numeric_limits<std::uint32_t>::max());
     }
-    std::uint64_t long_number(int column) const {
-        return static_cast<std::uint64_t>(sqlite3_column_int64(statement_.get(), column));
+    // What column_of_place() made of a place.
+    std::uint32_t place(int column) const {
+        return within(column, column_of_place(before_day), std::int64_t{before_day} - 1);
     }
     std::optional<std::uint32_t> number_or_null(int column) const {
         return is_null(column) ? std::nullopt : std::optional(number(column));
@@ -124,6 +145,18 @@ class Statement {
     }
 
   private:
+    std::uint32_t within(int column, std::int64_t least, std::int64_t most) const {
+        const bool is_number = sqlite3_column_type(statement_.get(), column) == SQLITE_INTEGER;
+        const std::int64_t value = sqlite3_column_int64(statement_.get(), column);
+        if (!is_number || value < least || value > most) {
+            const char *table = sqlite3_column_table_name(statement_.get(), column);
+            throw std::runtime_error(
+                fmt::format("SQLite, {}: {}.{} has something else than a number from {} to {}",
+                            file_of(connection_), table == nullptr ? "" : table,
+                            sqlite3_column_name(statement_.get(), column), least, most));
+        }
+        return static_cast<std::uint32_t>(value);
+    }
     Statement &bind_null() { return bound(sqlite3_bind_null(statement_.get(), ++parameters_)); }
     Statement &bound(int result) {
         if (result != SQLITE_OK) {
