@@ -101,6 +101,8 @@ TEST_CASE("days that are copied, and logs that go") {
         days.begin(date);
     }
     days.begin("20250314");
+    const fs::path early = days.config.checkpoints / "day-20250310.early";
+    std::ofstream(early) << "kept";
     CHECK(days.copy() == 0);
     CHECK(days.copied() == three);
     CHECK(days.logs() == Dates{"20250310", "20250311", "20250312", "20250314"});
@@ -111,9 +113,11 @@ TEST_CASE("days that are copied, and logs that go") {
     days.config.keep = 3;
     CHECK(days.copy() == 0);
     CHECK(days.logs().size() == 4);
+    CHECK(fs::exists(early));
     days.config.keep = 2;
     CHECK(days.copy() == 0);
     CHECK(days.logs() == Dates{"20250311", "20250312", "20250314"});
+    CHECK_FALSE(fs::exists(early));
     CHECK(days.is_told("log removed date=20250310"));
     days.config.keep = 0;
     CHECK(days.copy() == 0);

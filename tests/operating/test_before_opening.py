@@ -2,7 +2,9 @@
 number by it."""
 
 import socket
+import sqlite3
 import time
+from contextlib import closing
 from datetime import datetime, timedelta, timezone
 
 from tests.gateway.firm import Firm
@@ -80,6 +82,22 @@ def test_who_is_told(stage_of_log: Stage) -> None:
     assert refusals(stage) >= 3
     assert stage.counters()["mireseason_logons_total"] == 0
     assert 'refused what="closed" firm=DLR1' in words(stage)
+    assert stage.door.stop() == 0
+
+
+def test_a_logout_that_is_cut_off(stage: Stage) -> None:
+    """Somebody takes the last one out of the log while no gateway runs: nobody is sent its number a second time."""
+    text = closed(stage)
+    for number in (1, 2):
+        assert told(stage, NAME, PASSWORD) == logout(number, text)
+    assert stage.door.stop() == 0
+    file = stage.folder / ("day-%s.db" % tomorrow().strftime("%Y%m%d"))
+    with closing(sqlite3.connect(file)) as log, log:
+        log.execute("DELETE FROM seal WHERE number > 1")
+    stage.door.start()
+    stage.door.wait_open()
+    assert told(stage, NAME, PASSWORD) == []
+    assert "the log does not go on behind the Logouts that left here" in words(stage)
     assert stage.door.stop() == 0
 
 

@@ -45,7 +45,8 @@ bool read_place(std::optional<std::string_view> value, std::uint32_t &place, Dig
     if (space == std::string_view::npos) {
         return false;
     }
-    const auto number = number_in(value->substr(0, space));
+    const std::string_view text = value->substr(0, space);
+    const auto number = text == "-1" ? std::optional(before_day) : number_in(text);
     const auto digest = digest_of(value->substr(space + 1));
     place = number.value_or(0);
     hash = digest.value_or(Digest{});
@@ -105,6 +106,12 @@ CheckpointFile::CheckpointFile(const std::filesystem::path &folder, Sealer seale
     std::filesystem::create_directories(folder);
 }
 
+CheckpointFile CheckpointFile::before_opening(const std::filesystem::path &folder, Sealer sealer) {
+    CheckpointFile file(folder, std::move(sealer));
+    file.path_.replace_extension(early_ending);
+    return file;
+}
+
 std::optional<Checkpoint> CheckpointFile::read() const {
     if (!std::filesystem::exists(path_)) {
         return std::nullopt;
@@ -127,6 +134,10 @@ std::string CheckpointFile::text_of_file(const Checkpoint &checkpoint) const {
 
 void CheckpointFile::write(const Checkpoint &checkpoint) const {
     replace_file(path_, text_of_file(checkpoint));
+}
+
+void CheckpointFile::remove() const {
+    std::filesystem::remove(path_);
 }
 
 } // namespace gateway

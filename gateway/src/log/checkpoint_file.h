@@ -12,6 +12,9 @@
 
 namespace gateway {
 
+// In the place of `.checkpoint`, for what was sealed before the day opened.
+constexpr const char *early_ending = ".early";
+
 // The file of a day's checkpoint (eight digits), in the folder of all of them.
 std::filesystem::path checkpoint_path(const std::filesystem::path &folder, const std::string &venue,
                                       std::string_view date);
@@ -24,6 +27,9 @@ class CheckpointFile {
   public:
     // In a folder, named after the venue and the day.
     CheckpointFile(const std::filesystem::path &folder, Sealer sealer);
+    // Beside it, and of what was sealed before the day opened: that a day has begun is seen by the
+    // other file.
+    static CheckpointFile before_opening(const std::filesystem::path &folder, Sealer sealer);
 
     const std::filesystem::path &path() const { return path_; }
 
@@ -34,6 +40,8 @@ class CheckpointFile {
     std::string text_of_file(const Checkpoint &checkpoint) const;
     // Puts a checkpoint in the place of what stands there. On disk when it returns.
     void write(const Checkpoint &checkpoint) const;
+    // Takes it away, where there is one.
+    void remove() const;
 
   private:
     Sealer sealer_;

@@ -14,18 +14,19 @@ constexpr std::uint32_t chunk = 1024;
 // In the file before there is an entry: any log follows on it.
 const Digest nothing{};
 
-// Throws where an entry does not follow on the one before it.
-void check_chain(LogReader &log) {
+// The last entry. Throws where one does not follow on the one before it.
+Entry end_of_chain(LogReader &log) {
     std::vector<Entry> some;
     std::uint32_t place = 0;
-    Digest before{};
+    Entry last;
     do {
         some = log.entries(place, chunk);
-        for (const Entry &entry : some) {
-            check_link(entry, place++, before);
-            before = entry.hash;
+        for (Entry &entry : some) {
+            check_link(entry, place++, last.hash);
+            last = std::move(entry);
         }
     } while (some.size() == chunk);
+    return last;
 }
 
 bool has_entry(LogReader &log, std::uint32_t place, const Digest &hash) {
@@ -37,7 +38,8 @@ bool has_entry(LogReader &log, std::uint32_t place, const Digest &hash) {
 
 LogGuard::LogGuard(Sealer sealer, const std::filesystem::path &checkpoints,
                    std::shared_ptr<spdlog::logger> events, Notes notes)
-    : sealer_(std::move(sealer)), file_(checkpoints, sealer_), events_(std::move(events)),
+    : sealer_(std::move(sealer)), file_(checkpoints, sealer_),
+      early_file_(CheckpointFile::before_opening(checkpoints, sealer_)), events_(std::move(events)),
       notes_(std::move(notes)) {}
 
 Seal LogGuard::begin(LogReader &log, const Entry &last) {
@@ -47,11 +49,11 @@ Seal LogGuard::begin(LogReader &log, const Entry &last) {
             fmt::format("the log is empty, and had entry {} by the checkpoint in {}{}",
                         kept->at.place, file_.path().string(), way_out()));
     }
+    read_on(log);
     // So a start that comes after the first entry, and before the first signature, knows of it.
     if (was_kept_) {
         file_.write(sealer_.sign(Checkpoint{}));
     }
-    read_on(log);
     const Position &before = sealed_.at;
     sealed_ =
         sealer_.seal({last.term, last.place, last.hash, 0, {}, before.seal + 1, before.notes});
@@ -118,6 +120,9 @@ void LogGuard::not_accepted(const Checkpoint &kept, const std::string &what) con
 }
 
 void LogGuard::read_on(LogReader &log) {
+    if (was_kept_ && !early_) {
+        early_ = early_file_.read().value_or(Checkpoint{}).at;
+    }
     std::vector<Seal> seals;
     do {
         seals = log.seals(sealed_.at.seal + 1, chunk);
@@ -125,11 +130,25 @@ void LogGuard::read_on(LogReader &log) {
             if (!sealer_.follows(seal, sealed_.at)) {
                 tell_change(log, seal);
             }
+            if (early_ && seal.at.seal == early_->seal && seal.at.notes != early_->notes) {
+                not_early();
+            }
             notes_(seal.notes);
             sealed_ = seal;
         }
     } while (seals.size() == chunk);
+    if (early_ && sealed_.at.seal < early_->seal) {
+        not_early();
+    }
     keep_last(log);
+}
+
+// Else a firm would be sent a number a second time that a Logout has used up.
+void LogGuard::not_early() const {
+    throw LogNotAccepted(fmt::format(
+        "the log does not go on behind the Logouts that left here before the day opened, "
+        "the last of which is in {}: it was cut off, or is an old backup{}",
+        early_file_.path().string(), way_out()));
 }
 
 // The first entry that does not follow on the one before it, where there is one behind the last
@@ -145,9 +164,11 @@ void LogGuard::tell_change(LogReader &log, const Seal &wrong) {
         }
     }
     throw std::runtime_error(fmt::format(
-        "the log was changed at or before entry {}: seal {} is not that of this venue's "
-        "gateways, for this day, its configuration and what stands there",
-        column_of_place(wrong.at.place), wrong.at.seal));
+        "the log was changed {}: seal {} is not that of this venue's gateways, for this day, its "
+        "configuration and what stands there",
+        wrong.at.place == before_day ? "before the day opened"
+                                     : fmt::format("at or before entry {}", wrong.at.place),
+        wrong.at.seal));
 }
 
 // What the other gateway has signed since this one looked last.
@@ -215,9 +236,9 @@ std::unique_ptr<CheckpointSigner> LogGuard::signer(Log &log,
 }
 
 void LogGuard::sign_end(LogReader &log, LogWriter &writer, std::uint32_t term) {
-    check_chain(log);
+    const Entry last = end_of_chain(log);
     check_found(log);
-    check_end(log, log.last_entry().value_or(Entry{}));
+    check_end(log, last);
     Position end = sealed_.at;
     end.term = term;
     signed_ = sealer_.sign({signed_.number + 1, end, signed_.signature, true, {}});
@@ -230,6 +251,7 @@ void LogGuard::sign_end(LogReader &log, LogWriter &writer, std::uint32_t term) {
 std::string LogGuard::accept(LogReader &log, const std::function<void(const Entry &last)> &commit) {
     // What is kept stands until the act is committed: to read the log puts nothing there.
     signed_ = log.last_checkpoint().value_or(Checkpoint{});
+    was_kept_ = false;
     // A file that is none is given up, too.
     std::string had = "nothing that can be read";
     try {
@@ -242,11 +264,11 @@ std::string LogGuard::accept(LogReader &log, const std::function<void(const Entr
         check_sealed(log, *last);
     }
     check_signed(signed_);
-    was_kept_ = false;
     commit(last.value_or(Entry{}));
     read_on(log);
     was_kept_ = true;
     file_.write(sealer_.sign({0, sealed_.at, {}, false, {}}));
+    early_file_.remove();
     return fmt::format("{}: the log goes on after {}; the checkpoint that was kept had {}",
                        file_.path().string(),
                        last ? fmt::format("entry {}", last->place) : "nothing", had);

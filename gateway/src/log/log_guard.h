@@ -42,13 +42,14 @@ class LogGuard {
 
     // Before the first batch of the day: throws LogNotAccepted where there was one, which is not
     // given up just now. The seal is that of the batch, whose last entry this is; it follows on
-    // those of the session notes from before the day, which are verified.
+    // those of the session notes from before the day, which are verified. Throws as read_on() does.
     Seal begin(LogReader &log, const Entry &last);
     // Verifies all seals of the log that a start found, and holds it against the checkpoint that
     // was kept. Throws as read_on() and begin() do.
     void check_found(LogReader &log);
     // Verifies the seals behind those that were, and keeps what the gateway that speaks has signed.
-    // Throws std::runtime_error that names the entry whose seal is not right.
+    // Throws std::runtime_error that names the entry whose seal is not right, and LogNotAccepted
+    // where those from before the day do not have all that left here.
     void read_on(LogReader &log);
     // All is read, and nobody else writes: throws where the last entry is not sealed, and
     // LogNotAccepted where it is not known whether it is the last.
@@ -73,6 +74,7 @@ class LogGuard {
 
   private:
     [[noreturn]] void tell_change(LogReader &log, const Seal &wrong);
+    [[noreturn]] void not_early() const;
     void keep_last(LogReader &log);
     void check_signed(const Checkpoint &checkpoint) const;
     void check_sealed(LogReader &log, const Entry &last);
@@ -83,11 +85,13 @@ class LogGuard {
 
     Sealer sealer_;
     CheckpointFile file_;
+    CheckpointFile early_file_;
     std::shared_ptr<spdlog::logger> events_;
     Notes notes_;
-    Seal sealed_;          // the last one that was verified
-    Checkpoint signed_;    // the log's last one; of number 0 where it has none
-    bool was_kept_ = true; // a checkpoint that is not given up, or one came since
+    std::optional<Position> early_; // where it says that the seals from before the day were
+    Seal sealed_;                   // the last one that was verified
+    Checkpoint signed_;             // the log's last one; of number 0 where it has none
+    bool was_kept_ = true;          // a checkpoint that is not given up, or one came since
 };
 
 } // namespace gateway

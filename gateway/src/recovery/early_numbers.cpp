@@ -1,49 +1,15 @@
 #include "recovery/early_numbers.h"
 
 #include "config/log_location.h"
+#include "log/log_guard.h"
 #include "log/session_note_line.h"
 #include "recovery/recovered_numbers.h"
 
-#include <functional>
 #include <stdexcept>
 #include <string_view>
 #include <utility>
-#include <vector>
-
-#include <fmt/format.h>
 
 namespace gateway {
-
-namespace {
-
-// Seals that are read at once.
-constexpr std::uint32_t chunk = 1024;
-
-// Is given the session notes of each seal.
-using TakeNotes = std::function<void(std::string_view lines)>;
-
-// Where the log's seals end. Throws where one is not right.
-Position end_of_seals(LogReader &log, const Sealer &sealer, std::uint32_t term,
-                      const TakeNotes &take) {
-    Position end{term, before_day, {}, 0, {}, 0, {}};
-    std::vector<Seal> seals;
-    do {
-        seals = log.seals(end.seal + 1, chunk);
-        for (const Seal &seal : seals) {
-            if (!sealer.follows(seal, end)) {
-                throw std::runtime_error(fmt::format(
-                    "the day's log was changed: seal {} is not that of this venue's gateways",
-                    seal.at.seal));
-            }
-            end.seal = seal.at.seal;
-            end.notes = seal.at.notes;
-            take(seal.notes);
-        }
-    } while (seals.size() == chunk);
-    return end;
-}
-
-} // namespace
 
 // The lock is held.
 void EarlyNumbers::open() {
@@ -59,11 +25,13 @@ void EarlyNumbers::open() {
     if (!term) {
         throw std::runtime_error("another gateway has the day's log");
     }
-    const auto reader = database->reader();
     const Sealer sealer = sealer_of(config_);
-    const Position end =
-        end_of_seals(*reader, sealer, *term, [this](std::string_view lines) { take_notes(lines); });
-    chain_.emplace(end, sealer);
+    LogGuard guard(sealer, config_.checkpoints, nullptr,
+                   [this](std::string_view lines) { take_notes(lines); });
+    guard.read_on(*database->reader());
+    const Position &sealed = guard.sealed();
+    chain_.emplace(Position{*term, before_day, {}, 0, {}, sealed.seal, sealed.notes}, sealer);
+    sent_.emplace(CheckpointFile::before_opening(config_.checkpoints, sealer));
     writer_ = database->writer();
     database_ = std::move(database);
 }
@@ -102,6 +70,8 @@ void EarlyNumbers::put(const std::string &firm, const SessionEvent &event) {
         }
         chain_->seal(batch);
         writer_->commit(batch);
+        // Before it leaves: whoever cuts it off the log again is found out then.
+        sent_->write(sealer_of(config_).sign({0, chain_->end(), {}, false, {}}));
         take_notes(joined_lines(batch.notes));
     } catch (const std::exception &) {
         writer_.reset();

@@ -4,6 +4,7 @@
 
 #include "config/config.h"
 #include "log/chain.h"
+#include "log/checkpoint_file.h"
 #include "log/database.h"
 #include "recovery/session_recovery.h"
 #include "session/session_event.h"
@@ -19,8 +20,9 @@ namespace gateway {
 
 // A Logout that says when the day opens uses up a number of the session, and a stock engine counts
 // it: so the day has to go on behind it, whichever gateway opens it. The numbers stand in the log
-// of that day, which has no entry yet, and each is there before its Logout leaves. Any thread may
-// call it.
+// of that day, which has no entry yet, and each is there before its Logout leaves. A file outside
+// of the database says up to where: so this gateway takes no log from whose end one was cut off.
+// Any thread may call it.
 class EarlyNumbers {
   public:
     explicit EarlyNumbers(const Config &config) : config_(config) {}
@@ -42,7 +44,8 @@ class EarlyNumbers {
     // None until they are asked for, and again after a fault: then they are read anew.
     std::unique_ptr<Database> database_;
     std::unique_ptr<LogWriter> writer_;
-    std::optional<Chain> chain_; // of the log's seals, as they stand
+    std::optional<Chain> chain_;         // of the log's seals, as they stand
+    std::optional<CheckpointFile> sent_; // up to where they are of what has left
     std::map<std::string, Recovered> sessions_;
 };
 

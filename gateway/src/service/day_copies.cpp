@@ -234,6 +234,7 @@ void DayCopies::try_remove(const std::string &date, const std::stop_token &stop)
         fs::remove(log);
         fs::remove(log.string() + ".lock");
         fs::remove(checkpoint_of(date));
+        fs::remove(checkpoint_of(date).replace_extension(early_ending));
         synchronise_folder(log.parent_path());
         events_->info("log removed date={} copy={}", date, copy_of(date).string());
     } catch (const std::exception &fault) {
