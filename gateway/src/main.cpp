@@ -128,8 +128,8 @@ void check_files(const std::string &path, const std::string &day, std::optional<
             }
         }
     }
-    if (const auto doubt = gateway::doubt_about(configs.front())) {
-        std::cerr << "mireseason-gateway: in doubt: " << *doubt << '\n';
+    for (const std::string &doubt : gateway::doubts_about(configs.front())) {
+        std::cerr << "mireseason-gateway: in doubt: " << doubt << '\n';
     }
 }
 

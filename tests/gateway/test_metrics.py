@@ -24,6 +24,7 @@ IN_OTHER_FILES = {  # tests/limits: test_clock.py, test_renewal.py; tests/operat
     "mireseason_day_opens_timestamp_seconds",
     "mireseason_day_ends_timestamp_seconds",
     "mireseason_certificate_expiry_timestamp_seconds",
+    "mireseason_revoked_expiry_timestamp_seconds",
     "mireseason_venue_backlog_entries",
     "mireseason_log_backlog_messages",
     "mireseason_build_info",
@@ -185,6 +186,7 @@ def test_no_metric_is_unknown(stage: Stage) -> None:
     none = {
         "mireseason_dropped_total",
         "mireseason_certificate_expiry_timestamp_seconds",
+        "mireseason_revoked_expiry_timestamp_seconds",
     }
     # Some are told a second after the start.
     until("each but %s is told" % none, LONG, lambda: NAMES - told_names(stage) <= none)

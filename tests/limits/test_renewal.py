@@ -2,8 +2,10 @@
 
 import os
 import re
+import ssl
 import subprocess
 import time
+import urllib.request
 from datetime import datetime, timedelta, timezone
 from pathlib import Path
 
@@ -12,6 +14,7 @@ import pytest
 from tests.gateway.door import today
 from tests.gateway.stage import DEALER, Stage
 from tests.gateway.strangers import with_tls
+from tests.gateway.test_configuration import checked
 from tests.gateway.test_logon import context, refused_for
 from tests.gateway.wait import LONG, until
 from tests.gateway.wire import Wire
@@ -217,6 +220,73 @@ def revoked_list(folder: Path, *names: str) -> None:
     for name in names:
         openssl(folder, "ca", "-config", "ca.cnf", "-revoke", name + ".pem")
     openssl(folder, "ca", "-config", "ca.cnf", "-gencrl", "-out", "revoked.pem")
+
+
+def end_of_list(folder: Path) -> float:
+    """When the list ends, as openssl says it."""
+    words = ["openssl", "crl", "-in", str(folder / "revoked.pem"), "-noout", "-nextupdate"]
+    told = subprocess.run(words, capture_output=True, text=True, check=True).stdout.strip()
+    return ssl.cert_time_to_seconds(told.partition("=")[2])
+
+
+def list_until(stage: Stage, begins: timedelta, ends: timedelta) -> None:
+    """A list of the authority's, of this time, seen from now."""
+    now = datetime.now(timezone.utc)
+    revoked_list(stage.folder)
+    openssl(
+        stage.folder,
+        *("ca", "-config", "ca.cnf", "-gencrl", "-out", "revoked.pem"),
+        *("-crl_lastupdate", (now + begins).strftime("%Y%m%d%H%M%SZ")),
+        *("-crl_nextupdate", (now + ends).strftime("%Y%m%d%H%M%SZ")),
+    )
+
+
+def ready(stage: Stage) -> str:
+    """What /ready says."""
+    address = "http://127.0.0.1:%d/ready" % stage.door.metrics
+    with urllib.request.urlopen(address, timeout=LONG) as answer:
+        return str(answer.read().decode())
+
+
+def test_a_list_that_ends(stage: Stage) -> None:
+    """It is told days before; by one that is over, or has not begun, nobody is logged out who is on: it is not taken. Nor does a start
+    take it."""
+    hour, day = timedelta(hours=1), timedelta(days=1)
+    with_tls(stage, True)
+    list_until(stage, -hour, 4 * day)
+    stage.door.tls |= {"revoked": '"revoked.pem"'}
+    stage.open(*stage.firms)
+    number = 'mireseason_revoked_expiry_timestamp_seconds{file="%s"}' % (
+        stage.folder / "revoked.pem"
+    )
+    assert stage.counters()[number] == end_of_list(stage.folder)
+    assert "nobody can log on" not in ready(stage) + checked(stage).stderr
+    list_until(stage, -hour, 2 * day)
+    renew(stage)
+    assert stage.counters()[number] == end_of_list(stage.folder)
+    end = datetime.fromtimestamp(end_of_list(stage.folder), timezone.utc)
+    moment = end.strftime("%Y-%m-%dT%H:%M:%SZ")
+    assert "nobody can log on from %s on" % moment in ready(stage)
+    doubtful = checked(stage)
+    assert doubtful.returncode == 0, doubtful.stderr
+    assert 'revoked.pem" ends at %s, and then nobody can log on' % moment in doubtful.stderr
+    on = stage.dealer.times_on
+    for begins, ends, words in (
+        (-2 * hour, -hour, "is over: put a new one in its place"),
+        (hour, day, "has not begun"),
+    ):
+        list_until(stage, begins, ends)
+        refused = checked(stage)
+        assert refused.returncode == 1 and words in refused.stderr, refused.stderr
+        renew(stage, "stay as they were")
+        assert words in stage.door.last_words()
+        for dealer in (stage.dealer, stage.other):
+            stage.ping(dealer)
+    assert stage.dealer.times_on == on, "a firm's session was ended"
+    list_until(stage, -hour, 4 * day)
+    renew(stage)
+    assert "nobody can log on" not in ready(stage)
+    stage.auction()
 
 
 def test_a_certificate_that_is_taken_back(stage: Stage) -> None:

@@ -193,6 +193,7 @@ def test_rules_know_the_metrics(stage: Stage) -> None:
     keepers = set(re.findall(r"(?m)^mireseason_\w+", text_of(Counts(), datetime.now(timezone.utc))))
     of_tls = {
         "mireseason_certificate_expiry_timestamp_seconds",
+        "mireseason_revoked_expiry_timestamp_seconds",
         "mireseason_wrong_passwords_total",
     }  # not here
     text = "".join(line for line in RULES.read_text().splitlines(True) if "action" not in line)

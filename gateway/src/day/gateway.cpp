@@ -7,6 +7,8 @@
 #include <algorithm>
 #include <future>
 
+#include <fmt/chrono.h>
+
 namespace gateway {
 
 using namespace std::chrono_literals;
@@ -102,7 +104,7 @@ void Gateway::listen() {
     engine_.listen(std::move(port_));
     status_.is_now(Phase::ready);
     const EngineSettings &settings = configs_.front().engine;
-    count_certificates(settings, metrics_);
+    look_at_ends(settings);
     events_->info("ready address={}:{} tls={} firms={}", settings.address, settings.port,
                   !settings.certificate.empty(), engine_.sessions());
     open(true);
@@ -122,7 +124,7 @@ void Gateway::renew() {
             read.push_back(read_access(path_, config));
         }
         engine_.renew(read.front().engine);
-        count_certificates(read.front().engine, metrics_);
+        look_at_ends(read.front().engine);
         for (std::size_t at = 0; at < leaders_.size(); ++at) {
             leaders_[at]->renew(read[at].credentials);
         }
@@ -132,6 +134,11 @@ void Gateway::renew() {
         events_->error("credentials and certificates stay as they were cause=\"{}\"", fault.what());
         tell_renewed(fault.what());
     }
+}
+
+void Gateway::look_at_ends(const EngineSettings &settings) {
+    count_certificates(settings, metrics_);
+    list_end_ = end_of_lists(settings.revoked).value_or(std::chrono::sys_seconds::max());
 }
 
 void Gateway::tell_renewed(const std::string &fault) {
@@ -155,6 +162,13 @@ std::vector<std::string> Gateway::unknown_firms() const {
 
 std::vector<std::string> Gateway::halts() const {
     std::vector<std::string> lines;
+    const auto now = std::chrono::floor<std::chrono::seconds>(std::chrono::system_clock::now());
+    if (const std::chrono::sys_seconds end = list_end_; end - now <= notice_of_list) {
+        lines.push_back(fmt::format("nobody can log on from {:%Y-%m-%dT%H:%M:%SZ} on, when the "
+                                    "list of revoked certificates ends: put a new one in its "
+                                    "place, and mireseason-admin reload",
+                                    fmt::gmtime(end.time_since_epoch().count())));
+    }
     for (const auto &day : days_) {
         const std::string venue = day->config.venue.empty() ? "" : " of " + day->config.venue;
         if (const std::string words = day->halts.words(); words == "yes") {

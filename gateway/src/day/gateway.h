@@ -79,7 +79,8 @@ class Gateway final {
     // What it does now, and the part that has been silent longest; of any thread.
     Phase phase() const { return status_.phase(); }
     std::optional<Liveness::Silent> silent() { return status_.liveness().longest(); }
-    // What an operator has halted, or keeps halted with the clock, a line each; of any thread.
+    // What an operator has halted, or keeps halted with the clock, and who can't log on by the list
+    // of revoked certificates, now or soon: a line each; of any thread.
     std::vector<std::string> halts() const;
     // The same, and where the log's disk has no room: it asks the disk, which may keep it waiting.
     std::vector<std::string> not_taken() const;
@@ -99,6 +100,7 @@ class Gateway final {
     void close_port();
     void open(bool is_open);
     void renew();
+    void look_at_ends(const EngineSettings &settings);
     void tell_renewed(const std::string &fault);
 
     const std::filesystem::path path_;
@@ -112,6 +114,8 @@ class Gateway final {
     std::vector<std::unique_ptr<VenueDay>> days_;
     std::vector<std::unique_ptr<Leader>> leaders_; // of the days, once it has their terms
     std::atomic<bool> is_to_renew_{false};
+    // Of the list of revoked certificates that is in force.
+    std::atomic<std::chrono::sys_seconds> list_end_{std::chrono::sys_seconds::max()};
 
     std::mutex mutex_; // over the next five; no other is taken under it
     std::condition_variable renewed_;

@@ -27,7 +27,7 @@ struct Condition {
     Phase phase = Phase::closed;
     std::string day;                        // of today or the next one: its date, and when it opens
     std::optional<Liveness::Silent> silent; // the part that has been silent longest
-    std::vector<std::string> not_taken{};   // why business is not, a line each: firms may log on
+    std::vector<std::string> not_taken{};   // why business is not, now or soon, a line each
 
     // What is wrong, or nothing.
     std::optional<std::string> fault() const;

@@ -104,6 +104,8 @@ struct Metrics::Parts {
     Family<Gauge> &certificates =
         gauges(*registry, "mireseason_certificate_expiry_timestamp_seconds",
                "when a certificate ends that the gateway shows or asks for");
+    Family<Gauge> &lists = gauges(*registry, "mireseason_revoked_expiry_timestamp_seconds",
+                                  "when the list of revoked certificates ends");
     Family<Gauge> &unanswered = gauges(*registry, "mireseason_venue_backlog_entries",
                                        "entries of the log that the venue has not answered");
     Family<Gauge> &waiting = gauges(*registry, "mireseason_log_backlog_messages",
@@ -219,6 +221,10 @@ void Metrics::days_without_copy(std::size_t days) {
 
 void Metrics::certificate_ends(const std::string &file, std::chrono::sys_seconds moment) {
     parts_->certificates.Add({{"file", file}}).Set(in_seconds(moment));
+}
+
+void Metrics::list_ends(const std::string &file, std::chrono::sys_seconds moment) {
+    parts_->lists.Add({{"file", file}}).Set(in_seconds(moment));
 }
 
 void Metrics::handed_over(Duration since_given) {

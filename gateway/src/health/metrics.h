@@ -81,6 +81,8 @@ class Metrics {
     void days_without_copy(std::size_t days);
     // When a certificate ends that the gateway shows or asks for.
     void certificate_ends(const std::string &file, std::chrono::sys_seconds moment);
+    // When a list of certificates that were taken back ends.
+    void list_ends(const std::string &file, std::chrono::sys_seconds moment);
 
     // All of them, as Prometheus' text.
     std::string text() const;

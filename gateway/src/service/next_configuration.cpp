@@ -68,8 +68,8 @@ void NextConfiguration::try_files(const TradingDay &day) {
 }
 
 void NextConfiguration::tell_doubts(const Config &config) {
-    if (const auto doubt = doubt_about(config)) {
-        events_->warn("configuration in doubt: {}", *doubt);
+    for (const std::string &doubt : doubts_about(config)) {
+        events_->warn("configuration in doubt: {}", doubt);
     }
     // The unit gives a gateway the right to write there at its start.
     if (const auto fault = fault_of_copies(config)) {

@@ -60,8 +60,8 @@ Service::Service(std::filesystem::path path, ConfigFiles files, std::vector<Conf
       }),
       monitor_(first_.front().metrics_port, sources()),
       notifier_(std::move(systemd), [this] { return condition(); }) {
-    if (const auto doubt = doubt_about(first_.front())) {
-        events_->warn("configuration in doubt: {}", *doubt);
+    for (const std::string &doubt : doubts_about(first_.front())) {
+        events_->warn("configuration in doubt: {}", doubt);
     }
     open_operator_socket();
 }

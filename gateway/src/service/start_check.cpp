@@ -4,6 +4,7 @@
 #include "common/frame.h"
 #include "config/certified_firms.h"
 #include "config/log_location.h"
+#include "health/certificate_end.h"
 #include "health/disk_reserve.h"
 #include "operator/admin_peer.h"
 #include "operator/admin_socket.h"
@@ -13,6 +14,7 @@
 #include "venue/venue_trial.h"
 
 #include <cerrno>
+#include <chrono>
 #include <fstream>
 #include <stdexcept>
 #include <system_error>
@@ -208,13 +210,16 @@ void check_day(const Config &config, std::string_view day) {
     try_configuration(config);
 }
 
-// A gateway knows its own signatures all the same, so the day can go on. Who checks it can't.
-std::optional<std::string> doubt_about(const Config &config) {
-    if (config.keys->is_own_listed) {
-        return std::nullopt;
+std::vector<std::string> doubts_about(const Config &config) {
+    std::vector<std::string> doubts = ends_soon(
+        config.engine, std::chrono::floor<std::chrono::seconds>(std::chrono::system_clock::now()));
+    // A gateway knows its own signatures all the same, so the day can go on. Who checks it can't.
+    if (!config.keys->is_own_listed) {
+        doubts.emplace_back("[seal] gateways: none of them is the public key of signing_key. Add "
+                            "it: whoever checks a day by these keys accepts no signature of this "
+                            "gateway");
     }
-    return "[seal] gateways: none of them is the public key of signing_key. Add it: whoever checks "
-           "a day by these keys accepts no signature of this gateway";
+    return doubts;
 }
 
 std::vector<std::string> kept_out(const Config &config, std::string_view day) {

@@ -31,8 +31,8 @@ std::optional<CopiesFault> fault_of_copies(const Config &config);
 // operators' group, and ports that nobody has but the gateway of this configuration that runs, a
 // process.
 void check_start(const Config &config, std::string_view day, std::optional<int> running);
-// What is no fault of a configuration, and yet hardly meant; nothing where there is no such thing.
-std::optional<std::string> doubt_about(const Config &config);
+// What is no fault of a configuration now, and yet hardly meant or soon one, a sentence each.
+std::vector<std::string> doubts_about(const Config &config);
 // The firms that can't log on on this day, each with the reason, in words.
 std::vector<std::string> kept_out(const Config &config, std::string_view day);
 // The process of a gateway that runs with this configuration's file; nothing where none is seen.
