@@ -115,6 +115,40 @@ TEST_CASE("updates count in the rate of a firm") {
     same<std::size_t>(before + 1000, one.host.messages, "what was read of the firm");
 }
 
+// However few bytes a record brings, its read is work.
+TEST_CASE("records of single bytes count in the rate of a firm") {
+    Server given;
+    const TlsServer server(given.settings);
+    OneConnection one(given.settings, &server);
+    Peer peer(one.other());
+    check(peer.say(logon_now()), "no Logon");
+    peer.read_until("|35=1|");
+    const auto counted = [&](std::size_t messages) {
+        const auto latest = std::chrono::steady_clock::now() + longest_wait;
+        while (one.host.messages < messages && std::chrono::steady_clock::now() < latest) {
+            std::this_thread::sleep_for(1ms);
+        }
+        same<std::size_t>(messages, one.host.messages, "what was read of the firm");
+    };
+    counted(1); // the Logon
+    // A message that comes in eight is one.
+    constexpr int whole = 100;
+    for (int number = 2; number < 2 + whole; ++number) {
+        const std::string message = said_now("0", number, "");
+        for (std::size_t at = 0; at < 7; ++at) {
+            check(peer.say(message.substr(at, 1)), "a firm's connection has ended");
+        }
+        check(peer.say(message.substr(7)), "a firm's connection has ended");
+    }
+    counted(1 + whole);
+    // Of one that does not end each eight are one.
+    const std::string endless = with_soh("8=FIXT.1.1|9=3000|35=0|58=") + std::string(1600, 'x');
+    for (std::size_t at = 0; at < 1600; ++at) {
+        check(peer.say(endless.substr(at, 1)), "a firm's connection has ended");
+    }
+    counted(1 + whole + 200);
+}
+
 // Between two messages each time: the firm is not below its rate for that.
 TEST_CASE("updates end no flood") {
     Server given;

@@ -139,6 +139,24 @@ class CountingHost final : public SessionHost {
     std::string why_;
 };
 
+// Keeps why strangers were turned away, and what they had said.
+class Turned final : public NoEvents {
+  public:
+    void stranger(const ConnectionFacts &facts, const std::string &why,
+                  const std::string &text) override {
+        const std::lock_guard lock(mutex_);
+        told_ += fmt::format("{} {}: {}\n", facts.address, why, text);
+    }
+    std::string told() {
+        const std::lock_guard lock(mutex_);
+        return told_;
+    }
+
+  private:
+    std::mutex mutex_;
+    std::string told_;
+};
+
 // The connection, of 192.0.2.1, and the other end of it.
 struct OneConnection {
     // Without TLS where there is no server.
@@ -167,7 +185,7 @@ struct OneConnection {
 
     const std::string address = "192.0.2.1";
     const EngineSettings settings;
-    NoEvents events;
+    Turned events;
     CountingHost host;
     const Sessions sessions{{start_of(host)}, events};
     Strangers strangers{1, 1};

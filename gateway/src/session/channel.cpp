@@ -40,6 +40,26 @@ void require_files(const EngineSettings &settings) {
     }
 }
 
+// By a list that is over, or has not begun, each certificate is refused.
+void require_lists_of_now(X509_STORE *store, const std::string &file) {
+    STACK_OF(X509_OBJECT) *const all = X509_STORE_get0_objects(store);
+    for (int at = 0; at < sk_X509_OBJECT_num(all); ++at) {
+        X509_CRL *const list = X509_OBJECT_get0_X509_CRL(sk_X509_OBJECT_value(all, at));
+        if (list == nullptr) {
+            continue;
+        }
+        const ASN1_TIME *const end = X509_CRL_get0_nextUpdate(list);
+        if (end != nullptr && X509_cmp_current_time(end) <= 0) {
+            throw std::runtime_error(file + ": the time of this list of revoked certificates is "
+                                            "over: put a new one in its place");
+        }
+        if (X509_cmp_current_time(X509_CRL_get0_lastUpdate(list)) >= 0) {
+            throw std::runtime_error(
+                file + ": the time of this list of revoked certificates has not begun");
+        }
+    }
+}
+
 struct FreeCertificate {
     void operator()(X509 *certificate) const { X509_free(certificate); }
 };
@@ -104,6 +124,7 @@ void TlsServer::ask_for_certificates(const EngineSettings &settings) {
     require(files != nullptr &&
                 X509_load_crl_file(files, settings.revoked.c_str(), X509_FILETYPE_PEM) > 0,
             settings.revoked);
+    require_lists_of_now(store, settings.revoked);
     X509_STORE_set_flags(store, X509_V_FLAG_CRL_CHECK);
 }
 

@@ -15,6 +15,9 @@ constexpr std::size_t most_before_logon = std::size_t{2} * 4096;
 // What was taken is dropped when it is so much, and not with each message.
 constexpr std::size_t most_taken = 65536;
 
+// A message may come in so many reads. Each read is work, however few bytes it brings.
+constexpr int reads_of_a_message = 8;
+
 // What a firm is told that is logged out for it.
 constexpr const char *held_too_long =
     "more messages or bytes than the rate of a firm allows, for five seconds";
@@ -27,7 +30,13 @@ Conversation::Conversation(const Sessions &sessions, EngineEvents &events, Trans
 bool Conversation::hear(const char *bytes, std::size_t count, Received at) {
     stream_.append(bytes, count);
     at_ = at;
-    return go_on();
+    const bool has_taken = go_on();
+    unended_ = has_taken ? 0 : unended_ + 1;
+    if (unended_ == reads_of_a_message) {
+        unended_ = 0;
+        ++pieces_;
+    }
+    return has_taken;
 }
 
 void Conversation::look_again() {

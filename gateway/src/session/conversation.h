@@ -23,7 +23,8 @@ class Conversation {
     Conversation(const Conversation &) = delete;
     Conversation &operator=(const Conversation &) = delete;
 
-    // Bytes that were read at a moment. Whether a message has ended with them.
+    // Bytes that were read at a moment. Whether a message has ended with them. Many reads in a row
+    // in which none has count as a message does, in the rate.
     bool hear(const char *bytes, std::size_t count, Received at);
     // Something was read in which the peer says nothing: it counts as a message does, in the rate.
     void hear_nothing() { ++pieces_; }
@@ -71,6 +72,7 @@ class Conversation {
     bool waits_ = false;
     FirmSession::Work work_; // that serve() left
     std::size_t pieces_ = 0; // since may_hear_from()
+    int unended_ = 0;        // reads in a row in which no message has ended
     Received at_{};          // when the last bytes were read, or a Logon among them was answered
 };
 
