@@ -123,6 +123,8 @@ class Desk final : private FixListener {
         Tell tell;
     };
     void act_next();
+    // Null where one more has room among those that wait.
+    const char *why_no_room(const Trader &trader, const Command &command) const;
     // Has the sender do what waits for the disk; it says in words why it failed.
     void by_sender(std::function<std::string()> work);
     void sent(const std::string &why);

@@ -15,6 +15,7 @@ namespace {
 
 constexpr std::size_t most_orders = 1024; // commands that wait for the disk
 constexpr const char *too_many = "Too many wait to be sent: nothing was sent.";
+constexpr const char *waits_already = "Your cancel of all waits to be sent already.";
 constexpr const char *too_slow = "The desk's disk was too slow: nothing was sent.";
 constexpr const char *not_connected = "Not connected to the venue: nothing was sent.";
 
@@ -46,11 +47,28 @@ void Desk::act(const Trader &trader, const Command &command, Tell tell) {
     if (is_of(config_.role, command)) {
         stop_programs(trader, command);
     }
-    if (orders_.size() >= most_orders) {
-        return tell(too_many);
+    if (const char *why = why_no_room(trader, command)) {
+        return tell(why);
     }
     orders_.push_back(Order{&trader, command, now(), std::move(tell)});
     act_next();
+}
+
+// A cancel of all has room behind all else that waits, one for each trader: nothing else comes
+// behind it before there is room again.
+const char *Desk::why_no_room(const Trader &trader, const Command &command) const {
+    if (orders_.size() < most_orders) {
+        return nullptr;
+    }
+    if (!is_one_of<command::CancelAll>(command)) {
+        return too_many;
+    }
+    const auto last = std::find_if_not(orders_.rbegin(), orders_.rend(), [](const Order &order) {
+        return is_one_of<command::CancelAll>(order.command);
+    });
+    const bool has_one = std::any_of(orders_.rbegin(), last,
+                                     [&](const Order &order) { return order.trader == &trader; });
+    return has_one ? waits_already : nullptr;
 }
 
 // Each is judged when what was sent before it stands in the journal: no two use one limit.

@@ -138,10 +138,13 @@ web::Response DeskSite::logged_in(const Logins::Outcome &outcome) const {
 void DeskSite::log_out(const web::Request &request, web::Reply reply) {
     const json message = json::parse(request.body, nullptr, false);
     const std::string cookie = cookie_of(request);
-    if (!message.is_object() || !logins_.has_token(cookie, text_in(message, "token"))) {
+    // Its session may be over by the next look at the clock.
+    const Trader *trader = logins_.trader_of(cookie);
+    if (trader == nullptr || !message.is_object() ||
+        !logins_.has_token(cookie, text_in(message, "token"))) {
         return reply(refusal(403, "Not logged in."));
     }
-    events_.tell("Logout: " + logins_.trader_of(cookie)->login + " from " + request.address);
+    events_.tell("Logout: " + trader->login + " from " + request.address);
     logins_.log_out(cookie, [this, reply = std::move(reply)] {
         reply({200,
                "application/json",

@@ -1,5 +1,6 @@
 #include "events.h"
 
+#include "common/shown.h"
 #include "moment.h"
 
 #include <cstdio>
@@ -8,11 +9,8 @@ namespace desk {
 
 void Events::tell(std::string_view text) {
     constexpr std::size_t most_bytes = 400;
-    std::string line = fix_text(now()) + " " + firm_ + " ";
-    for (const char c : text.substr(0, most_bytes)) {
-        line += c == '\x01' ? '|' : static_cast<unsigned char>(c) < ' ' || c == 127 ? '?' : c;
-    }
-    line += '\n';
+    const std::string line =
+        fix_text(now()) + " " + firm_ + " " + gateway::shown(text.substr(0, most_bytes)) + "\n";
     const std::lock_guard lock(mutex_);
     std::fwrite(line.data(), 1, line.size(), stderr);
 }

@@ -62,6 +62,14 @@ void stop(AskedList &list, const std::string &why) {
     }
 }
 
+// What a journal says of a line that the list has not is of a later version of the desk.
+void refuse(AskedList &list, std::size_t line, const std::string &why) {
+    if (line < list.lines.size()) {
+        list.lines[line].state = ListLine::State::refused;
+        list.lines[line].why = why;
+    }
+}
+
 json terms_of(const ListLine &line) {
     return {{"bond", line.bond}, {"side", name_of(line.side)}, {"quantity", line.quantity}};
 }
@@ -84,10 +92,7 @@ void Lists::apply(const json &note, Moment at) {
     if (what == "stop list") {
         stop(*list, note.at("why"));
     } else if (what == "refuse line") {
-        ListLine &line =
-            list->lines.at(std::min(note.at("line").get<std::size_t>(), list->lines.size() - 1));
-        line.state = ListLine::State::refused;
-        line.why = note.at("why").get<std::string>();
+        refuse(*list, note.at("line"), note.at("why"));
     }
 }
 

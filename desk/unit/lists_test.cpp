@@ -99,6 +99,35 @@ TEST_CASE("a stop ends what waits, and a refusal its line") {
     CHECK(lists.all().size() == 1);
 }
 
+// Of a later version of the desk, or of a journal that somebody has written into: the desk starts.
+TEST_CASE("what a journal says of a line that its list has not") {
+    InvestorDay day;
+    const auto apply = [&day](json text) {
+        day.apply({Entry::Kind::note, at, note(std::move(text)).dump()});
+    };
+    const auto refuse = [&](const std::string &list, const json &line) {
+        apply({{"do", "refuse line"}, {"list", list}, {"line", line}, {"why", "no"}});
+    };
+    AskedList empty = two_lines();
+    empty.id = "L9";
+    empty.lines.clear();
+    apply(note_of(empty));
+    apply(note_of(two_lines()));
+    for (const json &line : {json(0), json(-1), json("x"), json()}) {
+        refuse("L9", line);
+    }
+    for (const json &line : {json(2), json(-1), json("x"), json()}) {
+        refuse("L1-2", line);
+    }
+    REQUIRE(day.lists().named("L9"));
+    CHECK(day.lists().named("L9")->lines.empty());
+    CHECK(view_of(*day.lists().named("L9"))["lines"] == json::array());
+    for (const ListLine &line : day.lists().named("L1-2")->lines) {
+        CHECK(line.state == State::waiting);
+    }
+    CHECK(day.lists().next({})->list->id == "L1-2");
+}
+
 TEST_CASE("a page is told all of a list, and of each line what it asks and why it was not asked") {
     Lists lists;
     lists.apply(note(note_of(two_lines())), at);

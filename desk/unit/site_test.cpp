@@ -1,7 +1,9 @@
 // What the desk's server serves: logins, pages, and programs, without a venue.
 #include <doctest/doctest.h>
 
+#include "file_store.h"
 #include "house.h"
+#include "late_clock.h"
 
 #include <nlohmann/json.hpp>
 
@@ -20,6 +22,14 @@ struct Dealer : House {
             post("/login", {{"login", login}, {"password", words}}, "", address);
         CHECK(answer.headers.empty());
         return {answer.status, json::parse(answer.body).at("why")};
+    }
+    // As it is kept for a restart.
+    Moment end_of_last_session() const {
+        std::int64_t last = 0;
+        for (const json &one : read_json(config.data + "/sessions.json")) {
+            last = std::max(last, one.at("until").get<std::int64_t>());
+        }
+        return Moment(std::chrono::milliseconds(last));
     }
     web::Response get(const std::string &path) {
         web::Request request;
@@ -129,6 +139,27 @@ TEST_CASE_FIXTURE(Dealer, "a logout ends the pages of its login, and nobody else
     CHECK(other.is_open());
     CHECK(told.count(" DLR1 Logout: tess from 192.0.2.1") == 1);
     CHECK_FALSE(enter(cookie).user);
+}
+
+// Whichever look at the clock is the first that finds its end.
+TEST_CASE_FIXTURE(Dealer, "a logout at the end of its session") {
+    for (int before = 0; before < 4; ++before) {
+        CAPTURE(before);
+        const auto [cookie, token] = log_in("tess");
+        web::Request request;
+        request.method = web::Method::post;
+        request.path = "/logout";
+        request.body = json{{"token", token}}.dump();
+        request.content_type = "application/json";
+        request.cookies["desk-DLR1-8443"] = cookie;
+        std::optional<web::Response> answer;
+        {
+            const LateClock clock(end_of_last_session() - std::chrono::milliseconds(before));
+            site->answer(request, [&](web::Response one) { answer = std::move(one); });
+        }
+        until([&] { return answer.has_value(); });
+        CHECK(answer->status == (before < 2 ? 403U : 200U));
+    }
 }
 
 TEST_CASE_FIXTURE(Dealer, "a page is told nothing before it has shown its token") {

@@ -56,14 +56,14 @@ TEST_CASE("an event is one line of limited length, whatever is told") {
     Events events("DLR1");
     {
         const desk_tests::Told told(path);
-        events.tell("one\ntwo\x1b three\x7f \x01 four \xc3\xa9");
+        events.tell("one\ntwo\x1b three\x7f \x01 four \xc3\xa9 \x9b \xc2\x9b five");
         events.tell(std::string(399, 'x') + "yz");
     }
     const std::string text = text_in(path);
     REQUIRE(std::count(text.begin(), text.end(), '\n') == 2);
     const std::string first = text.substr(0, text.find('\n'));
     CHECK(moment_of(first.substr(0, 21)));
-    CHECK(first.substr(21) == " DLR1 one?two? three? | four \xc3\xa9");
+    CHECK(first.substr(21) == " DLR1 one?two? three? | four \xc3\xa9 ? ?? five");
     CHECK(text.substr(first.size() + 1).substr(21) == " DLR1 " + std::string(399, 'x') + "y\n");
 }
 

@@ -74,6 +74,39 @@ void put(const std::string &path, const std::string &text) {
 
 } // namespace
 
+// Nothing leaves as long as nobody runs the desk: what waits is as much as at a disk that stalls.
+TEST_CASE("a cancel of all has room where nothing else has") {
+    House house(Role::dealer);
+    house.connect();
+    const Trader &tess = house.config.traders[0], &tom = house.config.traders[1];
+    std::vector<std::string> told;
+    const auto act = [&](const Trader &trader, const Command &command) {
+        const std::size_t before = told.size();
+        house.own->act(trader, command, [&](const std::string &why) { told.push_back(why); });
+        return told.size() > before ? told.back() : "waits";
+    };
+    const command::Decline decline{"R1"};
+    const command::CancelAll cancel;
+    CHECK(act(tess, cancel) == "waits"); // the sender has it
+    for (int count = 0; count < 1024; ++count) {
+        REQUIRE(act(tom, decline) == "waits");
+    }
+    const std::string too_many = "Too many wait to be sent: nothing was sent.";
+    CHECK(act(tom, decline) == too_many);
+    CHECK(act(tess, cancel) == "waits");
+    CHECK(act(tess, cancel) == "Your cancel of all waits to be sent already.");
+    CHECK(act(tom, cancel) == "waits");
+    CHECK(act(tess, cancel) == "Your cancel of all waits to be sent already.");
+    CHECK(act(tess, decline) == too_many);
+    house.until([&] { return told.size() == 1024 + 3 + 4; });
+    for (const char *name : {"T1", "T1", "T4"}) {
+        const Message sent = house.venue.hear();
+        CHECK(sent.type() == "Z");
+        CHECK(sent.get(tag::cancel_type) == "4");
+        CHECK(sent.get(tag::sender_sub_id) == name);
+    }
+}
+
 TEST_CASE("a dealer's traders: from the logon to each message, and what the page is told") {
     House house(Role::dealer);
     const Page page = house.open("tess");

@@ -10,7 +10,7 @@ import threading
 import time
 from collections.abc import Iterator
 from concurrent.futures import ThreadPoolExecutor
-from contextlib import contextmanager
+from contextlib import ExitStack, contextmanager
 
 import pytest
 
@@ -390,8 +390,20 @@ def test_a_page_of_another_host_in_the_same_browser(house: House) -> None:
     browser.until_says("#top", "Venue connected")
 
 
+@contextmanager
+def silent_strangers(desk: Desk, count: int) -> Iterator[list[socket.socket]]:
+    """So many connections from one address that never begin a handshake."""
+    place = ("127.0.0.1", desk.port.number)
+    with ExitStack() as stack:
+        yield [
+            stack.enter_context(socket.create_connection(place, timeout=LONG)) for _ in range(count)
+        ]
+
+
 def test_tls(house: House) -> None:
-    """With a certificate nobody is served in clear, and the cookie is one that no other port or plain page can set."""
+    """With a certificate nobody is served in clear, and the cookie is one that no other port or plain page can set. Whoever begins no
+    handshake keeps nobody out, and is closed.
+    """
     desk, folder = house.investor, house.folder
     names = ["-subj", "/CN=desk", "-addext", "subjectAltName=IP:127.0.0.1"]
     words = [
@@ -415,13 +427,16 @@ def test_tls(house: House) -> None:
     desk.trust = ssl.create_default_context(cafile=str(folder / "page.pem"))
     desk.write()
     desk.start()
-    link = http.client.HTTPSConnection(
-        "127.0.0.1", desk.port.number, timeout=LONG, context=desk.trust
-    )
-    link.request(
-        "POST", "/login", LOGIN, {"Origin": desk.origin, "Content-Type": "application/json"}
-    )
-    answer = link.getresponse()
+    with silent_strangers(desk, 200) as strangers:  # more than an address may have
+        link = http.client.HTTPSConnection(
+            "127.0.0.1", desk.port.number, timeout=LONG, context=desk.trust
+        )
+        link.request(
+            "POST", "/login", LOGIN, {"Origin": desk.origin, "Content-Type": "application/json"}
+        )
+        answer = link.getresponse()
+        for stranger in strangers:
+            assert stranger.recv(1) == b"", "a stranger is told something"
     cookie = answer.headers["Set-Cookie"]
     assert (
         answer.status == 200

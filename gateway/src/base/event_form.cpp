@@ -1,27 +1,20 @@
 #include "base/event_form.h"
 
+#include "common/shown.h"
+
 #include <spdlog/pattern_formatter.h>
 
 namespace gateway {
 
 namespace {
 
-char shown(char c) {
-    const auto byte = static_cast<unsigned char>(c);
-    if (byte == 1) {
-        return '|';
-    }
-    return byte >= ' ' && byte != 0x7f ? c : '?';
-}
-
 // The words of an event.
 class OneLine final : public spdlog::custom_flag_formatter {
   public:
     void format(const spdlog::details::log_msg &event, const std::tm &,
                 spdlog::memory_buf_t &line) override {
-        for (const char c : event.payload) {
-            line.push_back(shown(c));
-        }
+        const std::string words = shown({event.payload.data(), event.payload.size()});
+        line.append(words.data(), words.data() + words.size());
     }
     std::unique_ptr<custom_flag_formatter> clone() const override {
         return std::make_unique<OneLine>();

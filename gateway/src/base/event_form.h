@@ -9,7 +9,7 @@
 namespace gateway {
 
 // `2025-03-14T09:00:00.000Z LEVEL WORDS`, in UTC and in one line, whatever the words have of a
-// stranger's bytes: SOH is a bar, and any other control character a question mark.
+// stranger's bytes: shown().
 std::unique_ptr<spdlog::formatter> event_form();
 
 } // namespace gateway

@@ -203,12 +203,18 @@ void AdminSocket::take(Descriptor connection) {
         refuse(connection, peer->who, why);
         return;
     }
-    Visit &made = visits_.emplace_back(peer->user);
-    made.thread = std::jthread(
-        [this, &made, own = std::move(connection), who = *peer](const std::stop_token &stop) {
-            visit(stop, own, who);
+    Visit &made = visits_.emplace_back(peer->user, std::move(connection));
+    try {
+        made.thread = std::jthread([this, &made, who = *peer](const std::stop_token &stop) {
+            visit(stop, made.connection, who);
+            made.connection.close();
             made.is_over = true;
         });
+    } catch (const std::system_error &fault) {
+        refuse(made.connection, peer->who,
+               fmt::format("there is no thread for you: {}: try again in a moment", fault.what()));
+        visits_.pop_back();
+    }
 }
 
 std::string AdminSocket::too_many(uid_t user) {

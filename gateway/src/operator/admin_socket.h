@@ -16,6 +16,7 @@
 #include <string>
 #include <string_view>
 #include <thread>
+#include <utility>
 
 #include <spdlog/logger.h>
 #include <sys/un.h>
@@ -26,8 +27,9 @@ namespace gateway {
 constexpr std::size_t longest_socket_path = sizeof sockaddr_un{}.sun_path - 1;
 
 // A socket of the file system, of mode 0660, that belongs to a group where one is named. Whoever
-// may not is told so and closed. A connection brings one line, is answered, and is closed: it has a
-// thread, of which there are 16 at a time, and of one user 4.
+// may not is told so and closed, and so is one for whom the system has no thread. A connection
+// brings one line, is answered, and is closed: it has a thread, of which there are 16 at a time,
+// and of one user 4.
 class AdminSocket final {
   public:
     // What a line is answered; it may take some seconds, and throws nothing.
@@ -49,9 +51,10 @@ class AdminSocket final {
 
   private:
     struct Visit {
-        explicit Visit(uid_t who) : user(who) {}
+        Visit(uid_t who, Descriptor taken) : user(who), connection(std::move(taken)) {}
 
         uid_t user;
+        Descriptor connection; // of the thread, once it has begun
         std::atomic<bool> is_over{false};
         std::jthread thread;
     };

@@ -4,6 +4,7 @@
 #include <condition_variable>
 #include <mutex>
 #include <set>
+#include <system_error>
 #include <thread>
 #include <utility>
 
@@ -47,10 +48,15 @@ bool ends_soon(const std::string &name, std::function<void()> look) {
         return false;
     }
     const auto has_ended = std::make_shared<bool>(false);
-    std::thread([all = looks, has_ended, name, look = std::move(look)] {
-        look();
-        all->end(name, *has_ended);
-    }).detach();
+    try {
+        std::thread([all = looks, has_ended, name, look = std::move(look)] {
+            look();
+            all->end(name, *has_ended);
+        }).detach();
+    } catch (const std::system_error &) {
+        looks->end(name, *has_ended); // it has not begun
+        throw;
+    }
     return looks->ends_soon(*has_ended);
 }
 

@@ -13,7 +13,7 @@ namespace gateway {
 
 // Runs `look` on a thread of its own, one of a name at a time; false where it has not ended within
 // two seconds. It is left alone then, so it may use nothing but what it holds itself, and it throws
-// nothing.
+// nothing. Throws std::system_error where there is no thread for it.
 bool ends_soon(const std::string &name, std::function<void()> look);
 
 // What it finds, or throws; nothing where it has not ended by then.

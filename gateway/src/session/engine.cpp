@@ -64,11 +64,8 @@ void watch_peer(const Descriptor &socket) {
     set_option(socket, IPPROTO_TCP, TCP_USER_TIMEOUT, gone_milliseconds);
 }
 
-// Has the process open as many files as it may, and looks whether that is enough: each connection
-// takes two, strangers that make room have theirs until they have ended, and there is the rest.
-void allow_descriptors(std::size_t strangers, std::size_t sessions) {
-    constexpr std::size_t others = 64;
-    const std::size_t needed = 2 * (2 * strangers + sessions) + others;
+// Has the process open as many files as it may.
+rlimit allow_most_descriptors() {
     rlimit limit{};
     if (::getrlimit(RLIMIT_NOFILE, &limit) != 0) {
         throw fault_of("the limit of open files");
@@ -77,11 +74,26 @@ void allow_descriptors(std::size_t strangers, std::size_t sessions) {
     if (::setrlimit(RLIMIT_NOFILE, &limit) != 0) {
         throw fault_of("the limit of open files");
     }
+    return limit;
+}
+
+// Looks whether that is enough. Each connection takes two, and strangers that make room have theirs
+// until they have ended. Each session has two for what it may have to send again (log/spool.h),
+// each venue its log and its process; and there is the rest.
+void allow_descriptors(std::size_t strangers, const Sessions &sessions) {
+    constexpr std::size_t of_connection = 2;
+    constexpr std::size_t of_session = 2;
+    constexpr std::size_t of_venue = 32;
+    constexpr std::size_t others = 64;
+    const std::size_t needed = of_connection * (2 * strangers + sessions.count()) +
+                               of_session * sessions.count() + of_venue * sessions.venues() +
+                               others;
+    const rlimit limit = allow_most_descriptors();
     if (limit.rlim_cur < needed) {
         throw std::runtime_error("the process may open " + std::to_string(limit.rlim_cur) +
                                  " files, and needs " + std::to_string(needed) + " for " +
                                  std::to_string(strangers) + " strangers and " +
-                                 std::to_string(sessions) + " sessions");
+                                 std::to_string(sessions.count()) + " sessions");
     }
 }
 
@@ -98,11 +110,13 @@ class Engine::Parts {
         if (bell_.number() < 0) {
             throw fault_of("no event descriptor");
         }
+        // Before a day opens the files of its sessions.
+        allow_most_descriptors();
     }
     ~Parts() { stop(""); }
 
     void listen(ListeningPort port) {
-        allow_descriptors(settings_.strangers, sessions_.count());
+        allow_descriptors(settings_.strangers, sessions_);
         port_ = port.is_at(settings_) ? std::move(port) : ListeningPort();
         // Another one that was given is closed before.
         port = ListeningPort();

@@ -36,6 +36,7 @@ void Sessions::add(const std::vector<SessionStart> &starts) {
     for (const SessionStart &start : starts) {
         sessions_[session_name(start.venue, start.firm)] =
             std::make_unique<FirmSession>(start, events_);
+        venues_.insert(start.venue);
     }
 }
 

@@ -11,6 +11,7 @@
 #include <cstdint>
 #include <map>
 #include <memory>
+#include <set>
 #include <string>
 #include <vector>
 
@@ -38,6 +39,7 @@ class Sessions {
     // it names none.
     FirmSession *named_by(const std::string &firm, const std::string &venue) const;
     std::size_t count() const { return sessions_.size(); }
+    std::size_t venues() const { return venues_.size(); }
     // One of this venue, or of another where it is none; null where there is no session.
     FirmSession *any_of(const std::string &venue) const;
     // A number for a connection, which no other has.
@@ -59,6 +61,7 @@ class Sessions {
     mutable Turns turns_;
     mutable Turns handshakes_;
     std::map<std::string, std::unique_ptr<FirmSession>> sessions_; // by session_name()
+    std::set<std::string> venues_;                                 // theirs
 };
 
 } // namespace gateway
