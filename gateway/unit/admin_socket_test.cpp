@@ -1,10 +1,11 @@
-// The operator's socket: one line, and its whole answer; who has too many connections; and where no
-// socket can be.
+// The operator's socket: one line, and its whole answer; who has too many connections; one for whom
+// there is no thread; and where no socket can be.
 #define DOCTEST_CONFIG_IMPLEMENT_WITH_MAIN
 #include <doctest/doctest.h>
 
 #include "check.h"
 #include "common/descriptor.h"
+#include "no_threads.h"
 #include "operator/admin_peer.h"
 #include "operator/admin_socket.h"
 #include "operator/admin_words.h"
@@ -109,6 +110,20 @@ TEST_CASE("a user has four connections at a time") {
     // The first of them is answered all the same.
     CHECK(::send(waiting[0].number(), "a\n", 2, 0) == 2);
     CHECK(rest_of(waiting[0]) == who_is(::geteuid()) + " a");
+}
+
+// More often than a user may have connections: none of them is left.
+TEST_CASE("without a thread a connection is refused, and the next one is answered") {
+    const Asked asked;
+    {
+        const NoThreads none;
+        for (int count = 0; count < 6; ++count) {
+            const Descriptor connection = connected_to(asked.path);
+            CHECK(rest_of(connection) == "error\nthere is no thread for you: Resource temporarily "
+                                         "unavailable: try again in a moment\n");
+        }
+    }
+    CHECK(asked.says("a b\n") == who_is(::geteuid()) + " a b");
 }
 
 TEST_CASE("a socket has its mode, and goes with its gateway") {

@@ -47,6 +47,32 @@ struct Dealer {
     }
 };
 
+// Of each the first value; what is no field, and the first of all, is passed over.
+TEST_CASE("fields of a message that the venue gives") {
+    const std::string message =
+        with_soh("8=FIXT.1.1|35=S|34=7|48=BOND|52=09:00|117=q|131=r|297=0|300=99|453=2|693=p|"
+                 "35=x|34=x|48=x|52=x|117=x|131=x|297=x|300=x|453=x|693=x|");
+    const GivenFields fields(message);
+    CHECK(fields.type == "S");
+    CHECK(fields.number == "7");
+    CHECK(fields.bond == "BOND");
+    CHECK(fields.moment == "09:00");
+    CHECK(fields.quote == "q");
+    CHECK(fields.request == "r");
+    CHECK(fields.status == "0");
+    CHECK(fields.reason == "99");
+    CHECK(fields.dealers == "2");
+    CHECK(fields.response == "p");
+    const std::string other = with_soh("35=S|34|117==|131=|x=1|48x=2|453=");
+    const GivenFields odd(other);
+    CHECK(odd.type == "");
+    CHECK(odd.number == "");
+    CHECK(odd.quote == "=");
+    CHECK(odd.request == "");
+    CHECK(odd.bond == "");
+    CHECK(odd.dealers == "");
+}
+
 // By docs/FORMATS.md, "Written messages", to a dealer.
 TEST_CASE("a quote lives from its acceptance to its end") {
     Dealer dealer;

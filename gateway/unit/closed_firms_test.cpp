@@ -4,6 +4,8 @@
 
 #include "check.h"
 #include "common/password.h"
+#include "config/log_location.h"
+#include "log/log_guard.h"
 #include "log/sqlite_statement.h"
 #include "log_days.h"
 #include "service/closed_firms.h"
@@ -106,9 +108,126 @@ TEST_CASE("numbers that can't be known") {
     EarlyNumbers(config).put("F", logout(1, 2));
     CHECK(why() == "");
     execute(config, "UPDATE seal SET mac = zeroblob(32)");
-    CHECK(why() == "the day's log was changed: seal 1 is not that of this venue's gateways");
+    CHECK(why() == "the log was changed before the day opened: seal 1 is not that of this venue's "
+                   "gateways, for this day, its configuration and what stands there");
     begin_day(*open_sqlite(config.sqlite.string()));
     CHECK(why() == "the day has begun at another gateway");
+}
+
+// ---------------------------------------------------------------- a log that was cut off
+
+// Whoever may write to the database takes the last Logouts out, and each sum that is left is right.
+void cut(const Config &config, unsigned left) {
+    execute(config, fmt::format("DELETE FROM seal WHERE number > {}", left).c_str());
+}
+
+// Why a gateway does not begin the day with the log as it is; empty where it does.
+std::string why_not_begun(const Config &config) {
+    const auto database = open_sqlite(config.sqlite.string());
+    Entry first;
+    first.moment = "08:00:00.000";
+    first.line = line_of({"program 1", Digest{}, config.configuration, ""});
+    first.hash = hash_of(first);
+    LogGuard guard(sealer_of(config), config.checkpoints, nullptr);
+    try {
+        guard.begin(*database->reader(), first);
+    } catch (const LogNotAccepted &fault) {
+        return fault.what();
+    }
+    return "";
+}
+
+std::string why_not_known(const Config &config) {
+    try {
+        EarlyNumbers(config).of("F");
+    } catch (const LogNotAccepted &fault) {
+        return fault.what();
+    }
+    return "";
+}
+
+constexpr const char *not_behind =
+    "the log does not go on behind the Logouts that left here before the day opened";
+
+// A firm would be sent their numbers again, and its engine would take none of these messages.
+TEST_CASE("the last Logouts are cut off the log") {
+    for (const unsigned left : {0U, 1U}) {
+        CAPTURE(left);
+        const Scratch folder("closed_firms");
+        const Config config = config_of(folder.path());
+        EarlyNumbers(config).put("F", logout(1, 2));
+        EarlyNumbers(config).put("F", logout(2, 3));
+        CHECK(why_not_known(config) == "");
+        cut(config, left);
+        CHECK(why_not_known(config).starts_with(not_behind));
+        CHECK(why_not_begun(config).starts_with(not_behind));
+        CHECK_FALSE(std::filesystem::exists(config.checkpoints / "day-20250314.checkpoint"));
+    }
+}
+
+TEST_CASE("a day begins behind all Logouts") {
+    const Scratch folder("closed_firms");
+    const Config config = config_of(folder.path());
+    EarlyNumbers(config).put("F", logout(1, 2));
+    CHECK(why_not_begun(config) == "");
+    CHECK(std::filesystem::exists(config.checkpoints / "day-20250314.checkpoint"));
+}
+
+// An empty log in the place of theirs is not theirs; and another day has none.
+TEST_CASE("a day begins without Logouts of its own") {
+    const Scratch folder("closed_firms");
+    Config config = config_of(folder.path());
+    EarlyNumbers(config).put("F", logout(1, 2));
+    config.sqlite = folder.path() / "other.db";
+    CHECK(why_not_begun(config).starts_with(not_behind));
+    config.firms.date = "20250315";
+    CHECK(why_not_begun(config) == "");
+}
+
+// What another gateway has put in their place is no part of them, and a gateway with a folder of
+// its own knows only of what left there: nobody tells it.
+TEST_CASE("other Logouts in the place of those that were cut off") {
+    const Scratch folder("closed_firms");
+    const Config config = config_of(folder.path());
+    Config other = config;
+    other.checkpoints = folder.path() / "other";
+    EarlyNumbers(config).put("F", logout(1, 2));
+    EarlyNumbers(config).put("F", logout(2, 3));
+    cut(config, 1);
+    EarlyNumbers(other).put("G", logout(1, 2));
+    CHECK(why_not_known(other) == "");
+    CHECK(why_not_known(config).starts_with(not_behind));
+    EarlyNumbers(other).put("G", logout(2, 3));
+    CHECK(why_not_known(config).starts_with(not_behind));
+}
+
+// An operator accepts it, as each other loss.
+TEST_CASE("the loss of Logouts is accepted") {
+    const Scratch folder("closed_firms");
+    const Config config = config_of(folder.path());
+    EarlyNumbers(config).put("F", logout(1, 2));
+    cut(config, 0);
+    {
+        LogGuard guard(sealer_of(config), config.checkpoints, nullptr);
+        const auto database = open_sqlite(config.sqlite.string());
+        guard.accept(*database->reader(), [](const Entry &) {});
+    }
+    CHECK(why_not_known(config) == "");
+}
+
+// A Logout whose place can't be kept does not leave; its number is used up.
+TEST_CASE("numbers whose file can't be written") {
+    const Scratch folder("closed_firms");
+    const Config config = config_of(folder.path());
+    EarlyNumbers numbers(config);
+    numbers.put("F", logout(1, 2));
+    const std::filesystem::path file = config.checkpoints / "day-20250314.early";
+    std::filesystem::rename(file, folder.path() / "away");
+    std::filesystem::create_directory(file);
+    CHECK_THROWS_AS(numbers.put("F", logout(2, 3)), std::runtime_error);
+    std::filesystem::remove(file);
+    std::filesystem::rename(folder.path() / "away", file);
+    CHECK(numbers.of("F") == behind_two());
 }
 
 // ---------------------------------------------------------------- what they are told
@@ -169,6 +288,17 @@ TEST_CASE("no Logout without the log") {
     const std::string line(lines[0].payload.data(), lines[0].payload.size());
     CHECK_MESSAGE(line.find("no Logout") != std::string::npos, line);
     CHECK_MESSAGE(line.find("day.db") != std::string::npos, line);
+}
+
+TEST_CASE("no Logout behind one that was cut off") {
+    ClosedScene scene(true);
+    EarlyNumbers(scene.config).put("F", logout(1, 2));
+    cut(scene.config, 0);
+    CHECK_FALSE(has_logout(scene, "F"));
+    const auto lines = scene.lines->last_raw();
+    REQUIRE(lines.size() == 1);
+    const std::string line(lines[0].payload.data(), lines[0].payload.size());
+    CHECK_MESSAGE(line.find(not_behind) != std::string::npos, line);
 }
 
 // As on a day; and nobody logs on.

@@ -12,6 +12,7 @@
 #include <filesystem>
 #include <fstream>
 #include <functional>
+#include <set>
 #include <stdexcept>
 #include <string>
 #include <vector>
@@ -318,6 +319,118 @@ TEST_CASE("a time that is none is shown in forty bytes") {
     CHECK(files.fault(and_part("day", "ends = \"ask\""))
               .find("say here when a trading day opens and when it ends") != std::string::npos);
     CHECK(files.fault(and_part("day", "closes = \"ask\"")) != "");
+}
+
+TEST_CASE("hours that no day has") {
+    const Written files;
+    const auto fault = [&](const std::string &lines) {
+        return files.fault(and_part("day", lines));
+    };
+    const std::string opens = "opens = \"08:00\"\n", ends = "ends = \"16:00\"\n";
+    CHECK(fault(opens + ends) == "");
+    CHECK(
+        fault("opens = \"16:00\"\n" + ends) ==
+        "line 15: [day] ends = \"16:00\": a day opens before it ends, and this one opens at 16:00 "
+        "and ends at 16:00");
+    CHECK(
+        fault("opens = \"24:00\"\n") ==
+        "line 14: [day] opens = \"24:00\": a day opens before it ends, and this one opens at 24:00 "
+        "and ends at 24:00");
+    for (const char *time : {"08:00", "07:59", "16:01"}) {
+        CHECK(
+            fault(opens + ends + fmt::format("closes = \"{}\"", time)) ==
+            fmt::format("line 16: [day] closes = \"{}\": it has to be after opens, 08:00, and not "
+                        "after ends, 16:00",
+                        time));
+    }
+    CHECK(fault(opens + ends + "closes = \"08:01\"") == "");
+    CHECK(fault(opens + ends + "closes = \"16:00\"") == "");
+    CHECK(fault("closes = \"\"") ==
+          "line 14: [day] closes = \"\": it has to be a time of day as HH:MM, from 00:00 to 24:00");
+    CHECK(fault("weekdays = [\"Mon\", \"Mond\"]") ==
+          "line 14: [day] weekdays has something else than Mon, Tue, Wed, Thu, Fri, Sat, Sun");
+    CHECK(fault("weekdays = []") == "line 14: [day] weekdays is no list of words");
+    CHECK(fault("zone = \"Mars/Base\"") ==
+          "line 14: [day] zone = \"Mars/Base\": the tz database has no such zone");
+    CHECK(fault("other = 1") == "line 14: [day] other is no key");
+}
+
+// Each lies within one day of UTC: what can't is told of the key that says it.
+TEST_CASE("hours of a zone whose day is two days of UTC") {
+    const Written files;
+    const auto begins = [&](const std::string &lines, const std::string &begin) {
+        const std::string fault = files.fault(and_part("day", "zone = \"Asia/Tokyo\"\n" + lines));
+        CHECK_MESSAGE(fault.starts_with(begin), fault);
+    };
+    begins("", "line 14: [day] zone is at fault: from 00:00 to 24:00 in Asia/Tokyo: ");
+    begins("opens = \"08:00\"",
+           "line 15: [day] opens is at fault: from 08:00 to 24:00 in Asia/Tokyo: ");
+    begins("opens = \"08:00\"\nends = \"10:00\"",
+           "line 16: [day] ends is at fault: from 08:00 to 10:00 in Asia/Tokyo: ");
+    CHECK(files.fault(and_part("day", "zone = \"Asia/Tokyo\"\nopens = \"09:00\"\n")) == "");
+}
+
+TEST_CASE("holidays are read from a file of their own") {
+    const Written files;
+    const std::string text = and_part("day", "holidays = \"days.txt\"");
+    CHECK(files.fault(text) == fmt::format("line 14: [day] holidays = \"days.txt\": {}: can't be "
+                                           "read",
+                                           (files / "days.txt").string()));
+    std::ofstream(files / "days.txt") << "2026-12-25 # Christmas\n2026-12-26\n";
+    CHECK(files.read(text).days.holidays == std::set<std::string>{"2026-12-25", "2026-12-26"});
+    std::ofstream(files / "days.txt") << "2026-12-25\n26 December\n";
+    const std::string begin = (files / "days.txt").string() + ": ";
+    CHECK_MESSAGE(files.fault(text).starts_with(begin), files.fault(text));
+    CHECK(files.fault(text).find("2") != std::string::npos);
+}
+
+TEST_CASE("what sessions may have to send again is on a disk") {
+    const Written files;
+    CHECK(files.fault(with("[log]\n", "[log]\nspool = \"/dev/shm\"\n")) ==
+          "line 5: [log] spool is a folder in memory: it grows with the day, so it needs a disk");
+}
+
+// What may have changed since they were found right is no fault of them.
+TEST_CASE("files that were found right are read again") {
+    const Written files;
+    const std::string tls = and_part("tls", "certificate = \"c\"\nkey = \"k\"");
+    ConfigFiles read;
+    read.set(files / "gateway.toml", tls);
+    read.set(files / "venue.toml", venue);
+    read.set(files / "credentials.toml",
+             std::string(credentials) + "[NEW1]\nusername = \"n\"\npassword = \"$6$s$h\"\n");
+    CHECK_THROWS(read_configs(read, files / "gateway.toml", "20261130"));
+    const auto again =
+        read_configs(read, files / "gateway.toml", "20261130", UnknownFirms::count_for_nothing);
+    CHECK(again.at(0).engine.certificate == (files / "c").string());
+    CHECK(again.at(0).credentials.size() == 1);
+}
+
+// For a day that goes on: all the rest stays, whatever the files say by now.
+TEST_CASE("credentials and certificates alone are read anew") {
+    const Written files;
+    Config in_force = files.read(with("[log]\n", "[log]\nreserve = 7\n"));
+    for (const char *name : {"c", "k"}) {
+        std::ofstream(files / name) << "x";
+        fs::permissions(files / name, fs::perms::owner_read | fs::perms::owner_write);
+    }
+    std::ofstream(files / "gateway.toml")
+        << and_part("tls", "certificate = \"c\"\nkey = \"k\"\n[metrics]\nport = 9");
+    std::ofstream(files / "credentials.toml")
+        << "[INV1]\nusername = \"ivan\"\npassword = \"$6$salt$hash\"\n";
+    fs::permissions(files / "credentials.toml", fs::perms::owner_read | fs::perms::owner_write);
+    const Config now = read_access(files / "gateway.toml", in_force);
+    CHECK(now.reserve == 7);
+    CHECK(now.metrics_port == 0);
+    CHECK(now.engine.certificate == (files / "c").string());
+    CHECK(now.credentials.size() == 1);
+    CHECK(now.credentials.at("INV1").username == "ivan");
+    CHECK(now.firms.date == "20261130");
+    CHECK(unknown_firms(files / "gateway.toml", {in_force}) == Words{});
+    std::ofstream(files / "credentials.toml", std::ios::app)
+        << "[NEW1]\nusername = \"n\"\npassword = \"$6$salt$hash\"\n"
+           "[OLD1]\nusername = \"o\"\npassword = \"$6$salt$hash\"\nends = \"20261129\"\n";
+    CHECK(unknown_firms(files / "gateway.toml", {in_force}) == Words{"NEW1"});
 }
 
 TEST_CASE("several venues") {

@@ -204,6 +204,37 @@ TEST_CASE("rows of refused Logons and strangers") {
     CHECK(rows_of(market, "stranger", stranger_words::no_tls) == "1 0");
 }
 
+// Of what others have said the first 200 bytes.
+TEST_CASE("long texts in rows of connections, and long names") {
+    Market market;
+    SessionHost &host = market.host("DLR1");
+    for (const std::size_t size : {200, 201}) {
+        const std::uint32_t number = host.logon_accepted(
+            "DLR1", {fmt::format("192.0.2.1:{}", size), std::string(size, 'c'), true});
+        host.connection_ended("DLR1", number, std::string(size, 'w'));
+    }
+    CHECK(market.asks({"halt", "--because", "x"}).starts_with(ok));
+    for (const std::size_t size : {200, 201}) {
+        const Taken taken =
+            taken_of(market, "DLR1", "S",
+                     "117=" + std::string(size, 'q') + "|131=R1|48=BONDA0000001|22=4|133=99.5|");
+        CHECK(taken.verdict == Taken::Verdict::denied);
+        CHECK(taken.id == std::string(200, 'q'));
+    }
+    market.end();
+    Words rows;
+    for (const ConnectionEvent &row : read_log(market.config())->connection_events(1, 4)) {
+        rows.push_back(fmt::format("{} {} {} {} {}", row.event, row.address,
+                                   row.certificate.value_or("-"), row.why.value_or("-"),
+                                   row.number.value_or(0)));
+    }
+    const auto text = [](std::size_t count, char c) { return std::string(count, c); };
+    CHECK(rows == Words{"logon 192.0.2.1:200 " + text(200, 'c') + " - 1",
+                        "end 192.0.2.1:200 " + text(200, 'c') + " " + text(200, 'w') + " 1",
+                        "logon 192.0.2.1:201 " + text(197, 'c') + "... - 2",
+                        "end 192.0.2.1:201 " + text(197, 'c') + "... " + text(197, 'w') + "... 2"});
+}
+
 // ---------------------------------------------------------------- bytes of a day
 
 std::uint64_t bytes_of_lines(const Market &market, const std::string &firm) {

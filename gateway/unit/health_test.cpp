@@ -6,9 +6,11 @@
 #include "check.h"
 #include "health/certificate_end.h"
 #include "health/disk_reserve.h"
+#include "health/liveness.h"
 #include "health/metrics.h"
 #include "health/silence.h"
 #include "health/status.h"
+#include "revoked_list.h"
 #include "service/day_copying.h"
 
 #include <cstdio>
@@ -18,6 +20,7 @@
 #include <string>
 #include <vector>
 
+#include <fmt/chrono.h>
 #include <openssl/evp.h>
 #include <openssl/pem.h>
 #include <openssl/x509.h>
@@ -108,6 +111,28 @@ TEST_CASE("a log that keeps a commit waiting is told once, and once when it goes
     CHECK(events.told() == "info log answers again venue=north\n");
     stall.look(std::nullopt, start + 16s);
     CHECK(events.told() == "");
+}
+
+TEST_CASE("the part that has been silent longest") {
+    Liveness liveness;
+    CHECK_FALSE(liveness.longest());
+    const auto is = [&](const std::string &part, std::chrono::seconds time) {
+        const auto longest = liveness.longest();
+        REQUIRE(longest);
+        CHECK(longest->part == part);
+        CHECK(longest->time >= time);
+        CHECK(longest->time < time + 60s);
+    };
+    liveness.put("the venue", 200s);
+    is("the venue", 200s);
+    liveness.put("the log", 100s);
+    is("the venue", 200s);
+    liveness.put("the gateway", 300s);
+    is("the gateway", 300s);
+    liveness.put("the gateway");
+    is("the venue", 200s);
+    liveness.put("the venue");
+    is("the log", 100s);
 }
 
 TEST_CASE("of failures the first is told, and none of the end") {
@@ -230,6 +255,54 @@ TEST_CASE("when certificates end") {
     const auto pipe = folder.path() / "pipe";
     REQUIRE(::mkfifo(pipe.c_str(), 0600) == 0);
     CHECK_FALSE(end_of_certificates(pipe)); // it waits for nobody
+}
+
+// Of several lists the first to end.
+TEST_CASE("when lists of revoked certificates end") {
+    const Scratch folder("certificates");
+    const auto file = folder.path() / "revoked.pem";
+    const auto ends_in = [&file](std::chrono::seconds time) {
+        const auto end = end_of_lists(file);
+        REQUIRE(end);
+        const auto off = *end - (std::chrono::system_clock::now() + time);
+        return off < 60s && off > -60s;
+    };
+    CHECK_FALSE(end_of_lists(file));
+    add_list(file, -60s, std::nullopt);
+    CHECK_FALSE(end_of_lists(file));
+    add_list(file, -60s, 7200s);
+    CHECK(ends_in(7200s));
+    add_list(file, -60s, 3600s);
+    CHECK(ends_in(3600s));
+    CHECK_FALSE(end_of_lists(folder.path()));
+    CHECK_FALSE(end_of_lists(""));
+}
+
+TEST_CASE("what ends is told some days before") {
+    const Scratch folder("certificates");
+    EngineSettings settings;
+    const auto now = std::chrono::floor<std::chrono::seconds>(std::chrono::system_clock::now());
+    CHECK(ends_soon(settings, now).empty());
+    settings.certificate = folder.path() / "own.pem";
+    settings.authorities = folder.path() / "firms.pem";
+    settings.revoked = folder.path() / "revoked.pem";
+    add_certificate(settings.certificate, 15 * 86400);
+    add_certificate(settings.authorities, 20 * 86400);
+    add_list(settings.revoked, -60s, std::chrono::days(4));
+    CHECK(ends_soon(settings, now).empty());
+    const std::string moment =
+        fmt::format("{:%Y-%m-%dT%H:%M:%SZ}",
+                    fmt::gmtime(end_of_lists(settings.revoked).value().time_since_epoch().count()));
+    const auto told = ends_soon(settings, now + 24h + 60s);
+    REQUIRE(told.size() == 2);
+    CHECK(told[0].starts_with(
+        fmt::format("[tls] certificate = \"{}\" ends at 20", settings.certificate)));
+    CHECK(told[1] == fmt::format("[tls] revoked = \"{}\" ends at {}, and then nobody can log on",
+                                 settings.revoked, moment));
+    const auto later = ends_soon(settings, now + std::chrono::days(30));
+    REQUIRE(later.size() == 3);
+    CHECK(later[1].starts_with(
+        fmt::format("[tls] authorities = \"{}\" ends at 20", settings.authorities)));
 }
 
 // ---------------------------------------------------------------- numbers

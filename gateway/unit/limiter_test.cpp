@@ -86,6 +86,8 @@ TEST_CASE("many kinds") {
         told += time.limiter.ask(std::to_string(kind)).told ? 1 : 0;
     }
     check(told <= 64 * 10, fmt::format("{} are told of as many kinds", told));
+    // The first of 63 kinds, and ten of the others.
+    same(73U, told, "told of as many kinds");
 }
 
 TEST_CASE("texts") {

@@ -3,11 +3,13 @@
 #define GATEWAY_TESTS_OPEN_MARKET_H
 
 #include "check.h"
+#include "comes_true.h"
 #include "common/frame.h"
 #include "config/log_location.h"
 #include "log/checkpoint_file.h"
 #include "operator/admin_command.h"
 #include "operator/admin_words.h"
+#include "quiet_venue.h"
 #include "room_of_day.h"
 #include "test_keys.h"
 
@@ -33,20 +35,6 @@ namespace gateway::tests {
 
 namespace fs = std::filesystem;
 using Words = std::vector<std::string>;
-
-// A venue that says nothing but that it has read each line, and not even that while the file
-// `waits` is beside it.
-inline constexpr const char *venue_text = R"sh(
-lines=0 begun=
-while IFS= read -r line; do
-    lines=$((lines + 1))
-    while [ -e "${0%/*}/waits" ]; do sleep 0.01; done
-    case $begun$line in
-    %%) begun=+ ;;
-    +*) echo "done $lines" ;;
-    esac
-done
-)sh";
 
 inline constexpr const char *configuration = R"(version = 1
 [[bond]]
@@ -96,17 +84,6 @@ inline std::string line_without_moment(const Entry &entry) {
     std::string line = entry.line;
     const std::size_t at = line.find(entry.moment);
     return at == std::string::npos ? line : line.erase(at, entry.moment.size() + 1);
-}
-
-// Whether something becomes true within a minute: a machine may be busy.
-template <class Condition> bool comes_true(const Condition &condition) {
-    const auto latest = std::chrono::steady_clock::now() + std::chrono::minutes(1);
-    bool is_true = condition();
-    while (!is_true && std::chrono::steady_clock::now() < latest) {
-        std::this_thread::sleep_for(std::chrono::milliseconds(10));
-        is_true = condition();
-    }
-    return is_true;
 }
 
 // It runs until it is ended.

@@ -3,13 +3,20 @@
 #define DOCTEST_CONFIG_IMPLEMENT_WITH_MAIN
 #include <doctest/doctest.h>
 
+#include "health/disk_reserve.h"
 #include "open_market.h"
+#include "operator/admin_stream.h"
 #include "recovery/accept_loss.h"
 
+#include <algorithm>
+#include <fstream>
+#include <optional>
 #include <string>
+#include <string_view>
 
 #include <fmt/format.h>
 #include <fmt/ranges.h>
+#include <unistd.h>
 
 namespace gateway::tests {
 
@@ -490,6 +497,103 @@ TEST_CASE("of two venues one is named where it matters") {
     CHECK(has_line(market.lines(0), "# act ann(7) release DLR2"));
     CHECK(has_line(market.lines(1), "# act ann(7) release DLR2"));
     CHECK_FALSE(has_line(market.lines(0), " bust "));
+}
+
+// ---------------------------------------------------------------- a backup
+
+namespace {
+
+// What a user is given for these words; nothing where they are no stream's.
+std::optional<std::string> streamed(Market &market, const Words &words, uid_t user = ::geteuid()) {
+    std::string came;
+    const std::string line = line_of({false, words});
+    const bool is_stream = stream_backup(market, user, line.substr(0, line.size() - 1),
+                                         [&came](std::string_view bytes) { came += bytes; });
+    CHECK((is_stream || came.empty()));
+    return is_stream ? std::optional(came) : std::nullopt;
+}
+
+// The pieces of a whole stream, put together.
+std::string whole(std::string_view stream) {
+    check(stream.starts_with("stream\n"), std::string(stream.substr(0, 100)));
+    stream.remove_prefix(7);
+    std::string all;
+    for (std::size_t size = 1; size != 0;) {
+        check(stream.size() >= 8, "it has no end");
+        size = std::stoul(std::string(stream.substr(0, 8)), nullptr, 16);
+        check(size <= 65536 && stream.size() >= 8 + size, "a piece is not whole");
+        all += stream.substr(8, size);
+        stream.remove_prefix(8 + size);
+    }
+    check(stream.empty(), "something stands behind its end");
+    return all;
+}
+
+// Puts the files of an archive into a folder, and gives their names.
+Words unpacked(const std::string &archive, const fs::path &folder) {
+    Words names;
+    std::size_t at = 0;
+    while (archive.at(at) != '\0') {
+        const std::string name = archive.substr(at, 100).c_str();
+        const std::size_t size = std::stoul(archive.substr(at + 124, 11), nullptr, 8);
+        std::ofstream(folder / name, std::ios::binary) << archive.substr(at + 512, size);
+        names.push_back(name);
+        at += 512 + (size + 511) / 512 * 512;
+    }
+    CHECK(archive.substr(at) == std::string(1024, '\0'));
+    return names;
+}
+
+} // namespace
+
+TEST_CASE("a backup has each venue's log and its checkpoint") {
+    Market market({"north", "south"});
+    CHECK(market.asks({"halt", "--because", "x"}).starts_with(ok));
+    const std::string archive = whole(streamed(market, {"backup"}).value());
+    const Scratch copied("backup");
+    const std::string day = today();
+    CHECK(unpacked(archive, copied.path()) ==
+          Words{"north.db", "north.db-wal", fmt::format("north-{}.checkpoint", day), "south.db",
+                "south.db-wal", fmt::format("south-{}.checkpoint", day)});
+    for (const std::size_t venue : {0, 1}) {
+        Config config = market.config(venue);
+        config.sqlite = copied.path() / config.sqlite.filename();
+        const auto entries = read_log(config)->entries(1, 1000);
+        CHECK(std::ranges::any_of(entries, [](const Entry &entry) {
+            return entry.line.find(" halt because=\"x\"") != std::string::npos;
+        }));
+        const auto kept = CheckpointFile(copied.path(), sealer_of(config)).read();
+        REQUIRE(kept);
+        CHECK(kept->at.place <= entries.back().place);
+    }
+    market.end();
+}
+
+TEST_CASE("who is given a backup, and of what") {
+    Market market;
+    const std::string refused = "error\na backup has what every firm said: it is for root and the "
+                                "gateway's user\n";
+    CHECK(streamed(market, {"backup"}, 4242) == refused);
+    CHECK(streamed(market, {"backup"}, 0).value().starts_with("stream\n"));
+    CHECK_FALSE(streamed(market, {"status"}));
+    CHECK_FALSE(streamed(market, {"backup", "now"}));
+    CHECK(market.asks({"backup"}) == "error\nusage: backup\n");
+    market.close();
+    CHECK(streamed(market, {"backup"}) == "error\nno day is open: nothing\n");
+    CHECK(streamed(market, {"backup"}, 4242) == refused);
+}
+
+// Else the log would have no room for what firms say.
+TEST_CASE("a backup ends where the log's disk is nearly full") {
+    const auto change = [](Config &config) {
+        config.disk = config.sqlite.parent_path();
+        config.reserve = room_of(config.disk)->bytes + 1;
+    };
+    Market market({""}, change);
+    const std::string stream = streamed(market, {"backup"}).value();
+    CHECK(stream.starts_with("stream\n"));
+    CHECK(stream.ends_with("--------the log's disk is nearly full"));
+    market.end();
 }
 
 } // namespace gateway::tests

@@ -7,6 +7,7 @@
 #include "common/frame.h"
 #include "log/session_note_line.h"
 #include "recovery/firm_state.h"
+#include "recovery/recovered_numbers.h"
 #include "recovery/recovered_sessions.h"
 
 #include <functional>
@@ -209,6 +210,46 @@ TEST_CASE("what does not fit is refused, with the firm and the note") {
                       scene.feed(3);
                       scene.feed(3);
                   }},
+             Case{"its note 2: it is of another epoch",
+                  [](Scene &scene) {
+                      SessionNoteLine mark = scene.note('M', 0, 0);
+                      mark.epoch = 1;
+                      scene.put(mark);
+                  }},
+             Case{"its note 3: the firm had more before",
+                  [](Scene &scene) {
+                      SessionNoteLine mark = scene.note('M', 0, 0);
+                      mark.had = 1;
+                      scene.put(mark);
+                      mark.had = 0;
+                      scene.put(mark);
+                  }},
+             Case{"its note 3: another number was expected before",
+                  [](Scene &scene) {
+                      SessionNoteLine mark = scene.note('M', 0, 0);
+                      mark.expected = 3;
+                      scene.put(mark);
+                      mark.expected = 2;
+                      scene.put(mark);
+                  }},
+             Case{"its note 3: it speaks of other messages than the venue gives",
+                  [](Scene &scene) {
+                      scene.feed(2);
+                      scene.give();
+                      scene.put(scene.note('M', 0, 1));
+                      scene.put(scene.note('M', 0, 0));
+                  }},
+             Case{"its note 4: what it carries out was carried out before",
+                  [](Scene &scene) {
+                      scene.feed(0, "# act 09:00:00.000 ann(7) release DLR1");
+                      SessionNoteLine lock = scene.note('L', 0, 0);
+                      lock.said.is_locked = true;
+                      scene.put(lock);
+                      lock.said.is_locked = false;
+                      lock.said.act = 1;
+                      scene.put(lock);
+                      scene.put(lock);
+                  }},
              Case{"no operator has done what a note carries out, in entry 1",
                   [](Scene &scene) {
                       scene.feed(2);
@@ -224,6 +265,16 @@ TEST_CASE("what does not fit is refused, with the firm and the note") {
         check(told.starts_with("DLR1's session does not follow") &&
                   told.find(each.words) != std::string::npos,
               fmt::format("{}, and not: {}", told, each.words));
+    }
+}
+
+// In milliseconds of a calendar that begins before 1970.
+TEST_CASE("the midnight of a session's date") {
+    constexpr std::uint64_t milliseconds = 86'400'000;
+    for (const auto &[date, days] :
+         {std::pair("19700101", 719'528), std::pair("20000131", 730'515),
+          std::pair("20240229", 739'310), std::pair("20261130", 740'315)}) {
+        same(days * milliseconds, midnight_of_session(date), date);
     }
 }
 

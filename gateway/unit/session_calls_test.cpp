@@ -65,6 +65,10 @@ struct Calls {
         return with_bars({reinterpret_cast<const char *>(out.data()), told.first.len});
     }
     bool tick() { return call(fix_sessions_tick); }
+    bool tick_at(std::uint32_t at) {
+        moment = at;
+        return tick();
+    }
     bool ordered(std::uint32_t kind, std::uint64_t copies = 0) {
         return call(fix_sessions_ordered, kind, copies);
     }
@@ -163,6 +167,12 @@ void check_away(const SessionState &state) {
     CHECK(numbers_of(state.line) == numbers_of(Line{}));
     CHECK(state.connection == 0);
     CHECK(state.since == 0);
+}
+
+// What was said last ends this connection.
+void check_ends(const Told &told, std::uint64_t connection) {
+    CHECK(told.connection == connection);
+    CHECK(told.ending == 1);
 }
 
 void check_nobody_waits(const SessionState &state) {
@@ -442,13 +452,10 @@ TEST_CASE("what a session is while a Logout is waited for, and behind it") {
     CHECK(numbers_of(calls.state.line) == numbers_of(Line{}));
     CHECK(calls.state.connection == 1);
     CHECK(calls.state.since == nine + 500);
-    calls.moment = nine + 2'499;
-    REQUIRE(calls.tick());
+    REQUIRE(calls.tick_at(nine + 2'499));
     CHECK(calls.state.phase == 2);
-    calls.moment = nine + 2'500;
-    REQUIRE(calls.tick());
-    CHECK(calls.told.connection == 1);
-    CHECK(calls.told.ending == 1);
+    REQUIRE(calls.tick_at(nine + 2'500));
+    check_ends(calls.told, 1);
     check_away(calls.state);
 }
 
@@ -462,8 +469,7 @@ TEST_CASE("what a session is behind an operator's reset, with copies and without
         REQUIRE(calls.given(message("35=AI|117=a|")));
         REQUIRE(calls.came(firms("S", 2)));
         REQUIRE(calls.ordered(5, copies));
-        CHECK(calls.told.connection == 1);
-        CHECK(calls.told.ending == 1);
+        check_ends(calls.told, 1);
         CHECK(calls.told.drops_rejects);
         check_away(calls.state);
         const Day &day = calls.state.day;
@@ -514,10 +520,8 @@ TEST_CASE("who waits for a connection, and who does not any more") {
     check_nobody_waits(calls.state);
     REQUIRE(calls.came(firms("0", 3)));
     check_nobody_waits(calls.state);
-    in_vain.moment = nine + 2'001;
-    REQUIRE(in_vain.tick());
-    CHECK(in_vain.told.connection == 2);
-    CHECK(in_vain.told.ending == 1);
+    REQUIRE(in_vain.tick_at(nine + 2'001));
+    check_ends(in_vain.told, 2);
     check_nobody_waits(in_vain.state);
 }
 
@@ -538,8 +542,7 @@ TEST_CASE("what a session asks for, one after the other") {
     CHECK(calls.state.day.last_kept == 3);
     CHECK(wants(fresh, 3));
     Calls waiting = calls;
-    waiting.moment = nine + 10'000;
-    REQUIRE(waiting.tick());
+    REQUIRE(waiting.tick_at(nine + 10'000));
     CHECK(waiting.told.first.number == 0); // it overtakes what is held, and nothing else
     REQUIRE(calls.hands(reject, nine));
     CHECK(wants(nothing, 0));
@@ -547,8 +550,7 @@ TEST_CASE("what a session asks for, one after the other") {
     CHECK(calls.state.day.first_given == 4);
     CHECK(calls.state.day.last_given == 4);
     CHECK(calls.state.day.last_kept == 4);
-    calls.moment = nine + 10'000;
-    REQUIRE(calls.tick());
+    REQUIRE(calls.tick_at(nine + 10'000));
     CHECK(calls.state.line.overtook == 5);
     REQUIRE(calls.came(firms("0", 3, "112=5|")));
     CHECK(calls.state.line.is_settled);

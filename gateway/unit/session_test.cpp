@@ -704,6 +704,36 @@ TEST_CASE("why a connection has ended") {
     check(suspended.first.ends_with("an operator has suspended the firm"), suspended.first);
 }
 
+// A firm that has not answered its TestRequest may miss a message, so that it is closed without a
+// word; the operator reads what one that has answered would have been told.
+TEST_CASE("why a connection has ended that was told nothing") {
+    const auto ends_by = [](int heartbeat, const std::function<void(Talk &)> &happens) {
+        Scene scene;
+        Talk talk(scene);
+        talk.say(message_of("A", 1, fmt::format("98=0|108={}|553=F|554=x|1137=9|", heartbeat)));
+        check_calls({"1 A", "2 1"}, talk.ear.heard(), "what a Logon is answered");
+        happens(talk);
+        talk.serve();
+        for (const std::string &heard : talk.ear.heard()) {
+            check(!heard.ends_with(" 5"), "it is told " + heard);
+        }
+        check(talk.ear.ends, "it goes on");
+        talk.end();
+        same<std::size_t>(1, scene.book.ends.size(), "ends of its connection");
+        return scene.book.ends.at(0);
+    };
+    const std::string begin = "the session ended it: ";
+    const auto says = [&](const std::string &message) {
+        return ends_by(30, [&](Talk &talk) { talk.say(message); });
+    };
+    same(begin + "MsgSeqNum too low, expecting 2", says(message_of("S", 1, "")),
+         "of a number that is too low");
+    same(begin + "logged on already", says(logon_of(2)), "of a second Logon");
+    same(begin + "nothing came", ends_by(20, [](Talk &talk) { talk.wait(50); }), "of silence");
+    same(begin + "by the rules of the session, without a word",
+         ends_by(30, [](Talk &talk) { talk.wait(61); }), "of a TestRequest without an answer");
+}
+
 // ---------------------------------------------------------------- what the gateway does not take
 
 TEST_CASE("a message that is not taken") {

@@ -12,6 +12,7 @@
 #include "config/firm_row.h"
 #include "config/log_location.h"
 #include "config/start_configuration.h"
+#include "no_threads.h"
 #include "service/day_hours.h"
 #include "service/own_port.h"
 #include "service/patient_look.h"
@@ -20,6 +21,7 @@
 #include <future>
 #include <stdexcept>
 #include <string>
+#include <system_error>
 
 #include <netinet/in.h>
 #include <sys/socket.h>
@@ -340,6 +342,15 @@ TEST_CASE("a look that does not end is left alone") {
     CHECK(ends_soon("other", [] {}));
     may_end.set_value();
     CHECK(ends_soon("slow", [] {}));
+}
+
+// It keeps no later one of its name from its thread.
+TEST_CASE("a look for which there is no thread") {
+    {
+        const NoThreads none;
+        CHECK_THROWS_AS(ends_soon("without", [] {}), std::system_error);
+    }
+    CHECK(ends_soon("without", [] {}));
 }
 
 } // namespace gateway::tests

@@ -11,6 +11,7 @@
 #include <cstdint>
 #include <filesystem>
 #include <future>
+#include <iterator>
 #include <string>
 #include <vector>
 
@@ -319,6 +320,18 @@ TEST_CASE("nobody else finds the files") {
     const Scene scene;
     CHECK(std::filesystem::is_empty(scene.scratch.path()));
     CHECK_THROWS_AS(Spool(scene.scratch.path() / "nowhere", {}), std::system_error);
+}
+
+// The engine counts so many of each session (session/engine.cpp).
+TEST_CASE("two files of each firm, and one of all") {
+    namespace fs = std::filesystem;
+    const auto open = [] {
+        return std::distance(fs::directory_iterator("/proc/self/fd"), fs::directory_iterator());
+    };
+    const Scratch folder("spool");
+    const auto before = open();
+    const Spool spool(folder.path(), {"DLR1", "DLR2", "INV1"});
+    CHECK(open() - before == 7);
 }
 
 } // namespace gateway::tests

@@ -11,6 +11,11 @@
 #include <csignal>
 #include <filesystem>
 #include <future>
+#include <string>
+#include <utility>
+#include <vector>
+
+#include <fmt/ranges.h>
 
 namespace gateway::tests {
 
@@ -27,10 +32,18 @@ class Listener final : public VenueListener {
         return told.get();
     }
 
-    void venue_starts() override {}
-    void venue_gave(const AnsweredEntry &, std::string, std::string,
-                    std::optional<VenueNote>) override {}
-    void venue_answered(std::uint32_t, std::optional<Moment>) override {}
+    // What the venue has said, once its process has ended.
+    std::vector<std::string> calls;
+
+    void venue_starts() override { calls.emplace_back("starts"); }
+    void venue_gave(const AnsweredEntry &entry, std::string firm, std::string frame,
+                    std::optional<VenueNote> note) override {
+        calls.push_back(fmt::format("{} {} {} {} {} {}", entry.place, entry.number, entry.line,
+                                    firm, with_bars(frame), note ? note->name : "-"));
+    }
+    void venue_answered(std::uint32_t place, std::optional<Moment> deadline) override {
+        calls.push_back(fmt::format("answered {} {}", place, deadline ? text_of(*deadline) : "-"));
+    }
     void venue_pauses() override {}
     void venue_failed(const std::string &cause) override { failure_.set_value(cause); }
 
@@ -38,16 +51,41 @@ class Listener final : public VenueListener {
     std::promise<std::string> failure_;
 };
 
+// A venue that is this script of the shell, and what became of it. It is fed its configuration,
+// which has one line, and so many entries.
+struct Tried {
+    Tried(const std::filesystem::path &folder, const std::string &script, std::uint32_t entries = 0,
+          unsigned starts = 1) {
+        const auto database = open_sqlite(folder / "day.db");
+        EntryFeed feed(0);
+        Metrics metrics;
+        Listener listener;
+        Venue venue({{"sh", "-c", script}, "version = 1\n", starts}, *database, feed, Digest{},
+                    listener, metrics, std::make_shared<spdlog::logger>("none"));
+        Digest before{};
+        for (std::uint32_t place = 1; place <= entries; ++place) {
+            Entry entry;
+            entry.place = place;
+            entry.number = 10 + place;
+            entry.moment = "09:00:00.000";
+            entry.line = fmt::format("line {}", place);
+            entry.before = before;
+            entry.hash = before = hash_of(entry);
+            feed.put({{entry, std::chrono::steady_clock::now()}});
+        }
+        venue.start();
+        failure = listener.failure();
+        venue.stop();
+        calls = std::move(listener.calls);
+    }
+
+    std::string failure;
+    std::vector<std::string> calls;
+};
+
 // Why a venue is no more that is this script of the shell, and is started once.
 std::string failure_of(const std::string &file, const std::string &script) {
-    const auto database = open_sqlite(file);
-    EntryFeed feed(0);
-    Metrics metrics;
-    Listener listener;
-    Venue venue({{"sh", "-c", script}, "version = 1\n", 1}, *database, feed, Digest{}, listener,
-                metrics, std::make_shared<spdlog::logger>("none"));
-    venue.start();
-    return listener.failure();
+    return Tried(std::filesystem::path(file).parent_path(), script).failure;
 }
 
 void tried(const std::string &file, const std::string &script, const std::string &cause) {
@@ -60,6 +98,19 @@ TEST_CASE("a line without end") {
     std::signal(SIGPIPE, SIG_IGN);
     const Scratch folder("venue");
     tried(folder.path() / "day.db", "head -c 1000000 /dev/zero; exec sleep 200",
+          "a line of more than 65536 bytes");
+}
+
+// One of 65,536 bytes is a line as any other.
+TEST_CASE("the longest line") {
+    std::signal(SIGPIPE, SIG_IGN);
+    const Scratch folder("venue");
+    const std::string says = "head -c {} /dev/zero | tr '\\0' x; ";
+    tried(folder.path() / "day.db",
+          fmt::format(fmt::runtime(says), 65536) + "echo; echo done 2; exec sleep 200",
+          "a message for no entry");
+    const Scratch other("venue");
+    tried(other.path() / "day.db", fmt::format(fmt::runtime(says), 65537) + "exec sleep 200",
           "a line of more than 65536 bytes");
 }
 
@@ -83,6 +134,77 @@ TEST_CASE("a note behind another of its message") {
     tried(folder.path() / "day.db",
           "echo DLR1 8=x; echo why DLR1 1 Closed; echo trade DLR1 1 x; exec sleep 200",
           "a note of no message");
+}
+
+// It has read its configuration, `%%` and `#`, so that the mark of line 3 comes first.
+TEST_CASE("marks that are not due") {
+    std::signal(SIGPIPE, SIG_IGN);
+    struct Case {
+        std::uint32_t entries;
+        const char *says;
+        const char *failure;
+    };
+    const std::string reads = "read a; read b; read c; ";
+    for (const Case &each : {
+             Case{0, "echo done 2",
+                  "the venue gave the mark `done 2` where that of line 3 was due"},
+             Case{0, "echo done 4",
+                  "the venue gave the mark `done 4` where that of line 3 was due"},
+             Case{0, "echo done x",
+                  "the venue gave the mark `done x` where that of line 3 was due"},
+             Case{0, "echo 'done '",
+                  "the venue gave the mark `done ` where that of line 3 was due"},
+             Case{0, "echo done 3; echo done 3",
+                  "the venue gave the mark `done 3` where that of line 4 was due"},
+             Case{0, "echo done 3; echo done 4", "the venue gave the mark `done 4` for no entry"},
+             Case{1, "read d; echo done 3; echo done 4 25:00",
+                  "the venue gave the mark `done 4 25:00`"},
+             Case{0, "echo fault 3 no such bond", "the venue refuses entry 0: no such bond"},
+             Case{1, "read d; echo done 3; echo fault 4 no such form",
+                  "the venue refuses entry 1: no such form"},
+             Case{0, "echo 'DLR1 8=x'; echo done 3",
+                  "the venue gave DLR1 a message for no entry: 8=x"},
+             Case{0, "echo done 3; echo 'DLR1 8=x'; echo done 4",
+                  "the venue gave DLR1 a message for no entry: 8=x"},
+         }) {
+        const Scratch folder("venue");
+        const Tried venue(folder.path(), reads + each.says + "; exec sleep 200", each.entries);
+        same<std::string>(each.failure, venue.failure, each.says);
+    }
+}
+
+TEST_CASE("what a venue says of an entry") {
+    std::signal(SIGPIPE, SIG_IGN);
+    const Scratch folder("venue");
+    const Tried venue(
+        folder.path(),
+        "read a; read b; read c; echo done 3; read d; read e\n"
+        "echo 'DLR1 8=FIX|35=AI|'; echo 'why DLR1 1 Closed'; echo 'INV1 8=FIX|35=S|'\n"
+        "echo done 4 09:00:01.000; echo done 5\nexit 3",
+        2);
+    const std::vector<std::string> wanted = {"starts",
+                                             "answered 0 -",
+                                             "1 11 line 1 DLR1 8=FIX|35=AI| Closed",
+                                             "1 11 line 1 INV1 8=FIX|35=S| -",
+                                             "answered 1 09:00:01.000",
+                                             "answered 2 -"};
+    check(venue.calls == wanted, fmt::format("{}", fmt::join(venue.calls, "\n")));
+    same<std::string>("the venue ended with status 3 again and again; its last words: none",
+                      venue.failure, "why it is no more");
+}
+
+TEST_CASE("so many starts within a minute, and the last words") {
+    std::signal(SIGPIPE, SIG_IGN);
+    const Scratch folder("venue");
+    const Tried venue(folder.path(), "echo one >&2; printf two >&2; exit 4", 0, 3);
+    check(venue.calls == std::vector<std::string>(3, "starts"), "it is started otherwise");
+    same<std::string>("the venue ended with status 4 again and again; its last words: one / two",
+                      venue.failure, "why it is no more");
+    const Scratch other("venue");
+    const Tried talks(other.path(), "printf '%2040s\\n' x >&2; echo abcdef >&2; exit 4");
+    const std::string begin = "the venue ended with status 4 again and again; its last words: ";
+    same<std::size_t>(begin.size() + 2048, talks.failure.size(), "bytes of its last words");
+    check(talks.failure.ends_with("   x / abcdef"), talks.failure);
 }
 
 TEST_CASE("a note of no form") {

@@ -63,7 +63,9 @@ TEST_CASE("any bytes are ASCII") {
 }
 
 // What a stranger sent ends no line, and moves no cursor of a terminal: the first and the last
-// control character, those beside a bar, and DEL. All else is as it came.
+// control character, those beside a bar, DEL, and those from 0x80 to 0x9f, as one byte or in UTF-8.
+// Nor has it bytes that are no UTF-8, of which the journal would show nothing. All else is as it
+// came.
 TEST_CASE("an event is one line of what can be shown") {
     using namespace std::chrono_literals;
     const auto at = std::chrono::sys_days{std::chrono::year{2025} / 3 / 14} + 9h + 7ms;
@@ -77,6 +79,25 @@ TEST_CASE("an event is one line of what can be shown") {
                         "35=A\x01") == head + "8=FIX|35=A|\n");
     CHECK(line_of_words({"\0\2\t\n\r\x1b[2K\x1f\x7f", 11}) == head + "??????[2K??\n");
     CHECK(line_of_words(" !~\xc3\xa9") == head + " !~\xc3\xa9\n");
+    // Those that have bytes from 0x80 to 0x9f, and the first and the last of each length.
+    for (const char *whole :
+         {"\xc2\xa0", "\xc3\x9f", "\xdf\xbf", "\xe0\xa0\x80", "\xe2\x82\xac", "\xed\x9f\xbf",
+          "\xee\x80\x80", "\xef\xbf\xbf", "\xf0\x90\x80\x80", "\xf4\x8f\xbf\xbf"}) {
+        CHECK(line_of_words(whole) == head + whole + "\n");
+    }
+    for (const char *none :
+         {"\x80", "\x9b", "\x9f", "\xa0", "\xc0", "\xff", "\xf8", "\xc3", "\xe2"}) {
+        CHECK(line_of_words(none + std::string("A")) == head + "?A\n");
+    }
+    for (const char *none : {"\xc2\x80", "\xc2\x9b", "\xc2\x9f", "\xc1\xbf", "\xe2\x82"}) {
+        CHECK(line_of_words(none + std::string("[2K")) == head + "??[2K\n");
+    }
+    for (const char *none : {"\xe0\x9f\xbf", "\xed\xa0\x80", "\xed\xbf\xbf"}) {
+        CHECK(line_of_words(none) == head + "???\n");
+    }
+    for (const char *none : {"\xf0\x8f\xbf\xbf", "\xf4\x90\x80\x80"}) {
+        CHECK(line_of_words(none) == head + "????\n");
+    }
     const auto form = event_form()->clone();
     spdlog::memory_buf_t line;
     form->format({at, {}, "gateway", spdlog::level::info, "a\nb"}, line);
