@@ -9,9 +9,9 @@
 #include "operator/admin_peer.h"
 #include "operator/admin_socket.h"
 #include "operator/admin_words.h"
+#include "rest_of.h"
 
 #include <algorithm>
-#include <array>
 #include <cstring>
 #include <filesystem>
 #include <fstream>
@@ -47,16 +47,6 @@ Descriptor connected_to(const fs::path &path) {
                     sizeof address) == 0,
           "nobody listens");
     return socket;
-}
-
-// Up to where it is closed.
-std::string rest_of(const Descriptor &socket) {
-    std::string text;
-    std::array<char, 65536> bytes{};
-    for (ssize_t count = 0; (count = ::recv(socket.number(), bytes.data(), bytes.size(), 0)) > 0;) {
-        text.append(bytes.data(), static_cast<std::size_t>(count));
-    }
-    return text;
 }
 
 struct Asked {

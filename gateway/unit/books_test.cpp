@@ -16,6 +16,9 @@
 #include <set>
 #include <stop_token>
 #include <string>
+#include <vector>
+
+#include <fmt/format.h>
 
 namespace gateway::tests {
 
@@ -47,30 +50,40 @@ struct Dealer {
     }
 };
 
-// Of each the first value; what is no field, and the first of all, is passed over.
-TEST_CASE("fields of a message that the venue gives") {
-    const std::string message =
-        with_soh("8=FIXT.1.1|35=S|34=7|48=BOND|52=09:00|117=q|131=r|297=0|300=99|453=2|693=p|"
-                 "35=x|34=x|48=x|52=x|117=x|131=x|297=x|300=x|453=x|693=x|");
+// What is read of a message, in the order of the tags.
+std::string read_of(const std::string &message) {
     const GivenFields fields(message);
-    CHECK(fields.type == "S");
-    CHECK(fields.number == "7");
-    CHECK(fields.bond == "BOND");
-    CHECK(fields.moment == "09:00");
-    CHECK(fields.quote == "q");
-    CHECK(fields.request == "r");
-    CHECK(fields.status == "0");
-    CHECK(fields.reason == "99");
-    CHECK(fields.dealers == "2");
-    CHECK(fields.response == "p");
-    const std::string other = with_soh("35=S|34|117==|131=|x=1|48x=2|453=");
-    const GivenFields odd(other);
-    CHECK(odd.type == "");
-    CHECK(odd.number == "");
-    CHECK(odd.quote == "=");
-    CHECK(odd.request == "");
-    CHECK(odd.bond == "");
-    CHECK(odd.dealers == "");
+    return fmt::format("34={} 35={} 48={} 52={} 117={} 131={} 297={} 300={} 453={} 693={}",
+                       fields.number, fields.type, fields.bond, fields.moment, fields.quote,
+                       fields.request, fields.status, fields.reason, fields.dealers,
+                       fields.response);
+}
+
+TEST_CASE("of a message each field is read that somebody looks at") {
+    struct Case {
+        std::string what;
+        std::string message;
+        std::string read;
+    };
+    const std::vector<Case> cases = {
+        {"each of them",
+         frame("AI", "52=20250314-09:30:00.125|48=BONDA|117=a|131=R1|297=5|300=99|453=2|693=h|"),
+         "34=7 35=AI 48=BONDA 52=20250314-09:30:00.125 117=a 131=R1 297=5 300=99 453=2 693=h"},
+        {"of each the first",
+         with_soh("8=FIXT.1.1|35=S|34=7|48=BOND|52=09:00|117=q|131=r|297=0|300=99|453=2|693=p|"
+                  "35=x|34=x|48=x|52=x|117=x|131=x|297=x|300=x|453=x|693=x|"),
+         "34=7 35=S 48=BOND 52=09:00 117=q 131=r 297=0 300=99 453=2 693=p"},
+        {"the first of all is passed over, and what is no field",
+         with_soh("35=S|34|117==|131=|x=1|48x=2|453="),
+         "34= 35= 48= 52= 117== 131= 297= 300= 453= 693="},
+        {"a tag is a whole one, in front of its value",
+         with_soh("8=35|35=S|35=AI|58=x=117=y|117=a|1170=b|"),
+         "34= 35=S 48= 52= 117=a 131= 297= 300= 453= 693="},
+    };
+    for (const Case &each : cases) {
+        CAPTURE(each.what);
+        CHECK(read_of(each.message) == each.read);
+    }
 }
 
 // By docs/FORMATS.md, "Written messages", to a dealer.
@@ -92,26 +105,6 @@ TEST_CASE("a quote lives from its acceptance to its end") {
     CHECK(dealer.given("AJ", "131=R9|") == "e/R1/T1 ");
     CHECK(dealer.given("AJ", "131=R1|") == "");
     CHECK(dealer.quotes.of("DLR2").empty());
-}
-
-TEST_CASE("of a message each field is read that somebody looks at") {
-    const std::string message =
-        frame("AI", "52=20250314-09:30:00.125|48=BONDA|117=a|131=R1|297=5|300=99|453=2|693=h|");
-    const GivenFields fields(message);
-    CHECK(fields.type == "AI");
-    CHECK(fields.number == "7");
-    CHECK(fields.moment == "20250314-09:30:00.125");
-    CHECK(fields.bond == "BONDA");
-    CHECK(fields.quote == "a");
-    CHECK(fields.request == "R1");
-    CHECK(fields.status == "5");
-    CHECK(fields.reason == "99");
-    CHECK(fields.dealers == "2");
-    CHECK(fields.response == "h");
-    const std::string twice = with_soh("8=35|35=S|35=AI|58=x=117=y|117=a|1170=b|");
-    CHECK(GivenFields(twice).type == "S");
-    CHECK(GivenFields(twice).quote == "a");
-    CHECK(GivenFields(twice).request == "");
 }
 
 TEST_CASE("a quote that was shown names its bond") {

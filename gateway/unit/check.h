@@ -43,6 +43,16 @@ void same(const Value &wanted, const Value &came, const std::string &what) {
     check(wanted == came, fmt::format("{}: wanted {}, came {}", what, wanted, came));
 }
 
+// With what words an act fails; none where it is done.
+inline std::string fault_of(const auto &act) {
+    try {
+        act();
+    } catch (const std::runtime_error &fault) {
+        return fault.what();
+    }
+    return "";
+}
+
 // A folder of one test, empty at first, which is left to the machine where the test fails.
 class Scratch {
   public:

@@ -283,34 +283,34 @@ TEST_CASE("ended in time") {
     same<std::string>("ended with status 3", soon.wait(), "its end");
 }
 
-TEST_CASE("fed as it comes") {
-    const Scratch folder("feeder");
-    fed_as_it_comes(folder.path() / "day.db");
+// Where a day's log is made, and gone with the test.
+struct DayFile {
+    const Scratch folder{"feeder"};
+    const std::filesystem::path path = folder.path() / "day.db";
+};
+
+TEST_CASE_FIXTURE(DayFile, "fed as it comes") {
+    fed_as_it_comes(path);
 }
 
-TEST_CASE("a broken chain") {
-    const Scratch folder("feeder");
-    a_broken_chain(folder.path() / "day.db");
+TEST_CASE_FIXTURE(DayFile, "a broken chain") {
+    a_broken_chain(path);
 }
 
-TEST_CASE("an entry put behind") {
-    const Scratch folder("feeder");
-    an_entry_put_behind(folder.path() / "day.db");
+TEST_CASE_FIXTURE(DayFile, "an entry put behind") {
+    an_entry_put_behind(path);
 }
 
-TEST_CASE("an entry put in front") {
-    const Scratch folder("feeder");
-    an_entry_put_in_front(folder.path() / "day.db");
+TEST_CASE_FIXTURE(DayFile, "an entry put in front") {
+    an_entry_put_in_front(path);
 }
 
-TEST_CASE("a piece changed since it was read") {
-    const Scratch folder("feeder");
-    a_piece_changed_since_it_was_read(folder.path() / "day.db");
+TEST_CASE_FIXTURE(DayFile, "a piece changed since it was read") {
+    a_piece_changed_since_it_was_read(path);
 }
 
-TEST_CASE("a piece changed since it was put") {
-    const Scratch folder("feeder");
-    a_piece_changed_since_it_was_put(folder.path() / "day.db");
+TEST_CASE_FIXTURE(DayFile, "a piece changed since it was put") {
+    a_piece_changed_since_it_was_put(path);
 }
 
 } // namespace

@@ -32,15 +32,6 @@ mode_t mode_of(const fs::path &path) {
     return found.st_mode & 07777;
 }
 
-std::string fault_of(const auto &act) {
-    try {
-        act();
-    } catch (const std::runtime_error &fault) {
-        return fault.what();
-    }
-    return "";
-}
-
 TEST_CASE("a secret is read where nobody else may") {
     const Scratch folder("private");
     const fs::path file = folder.path() / "secret";

@@ -234,23 +234,25 @@ void add_certificate(const std::filesystem::path &file, long seconds) {
     REQUIRE(PEM_write_X509(to.get(), own.get()) == 1);
 }
 
+// Whether something is known to end in about so much time.
+bool ends_in(const std::optional<std::chrono::system_clock::time_point> &end,
+             std::chrono::seconds time) {
+    REQUIRE(end);
+    const auto off = *end - (std::chrono::system_clock::now() + time);
+    return off < 60s && off > -60s;
+}
+
 // Of a chain the first to end.
 TEST_CASE("when certificates end") {
     const Scratch folder("certificates");
     const auto file = folder.path() / "chain.pem";
-    const auto ends_in = [&file](std::chrono::seconds time) {
-        const auto end = end_of_certificates(file);
-        REQUIRE(end);
-        const auto off = *end - (std::chrono::system_clock::now() + time);
-        return off < 60s && off > -60s;
-    };
     CHECK_FALSE(end_of_certificates(file));
     add_certificate(file, 7200);
-    CHECK(ends_in(7200s));
+    CHECK(ends_in(end_of_certificates(file), 7200s));
     add_certificate(file, 3600);
-    CHECK(ends_in(3600s));
+    CHECK(ends_in(end_of_certificates(file), 3600s));
     add_certificate(file, 10800);
-    CHECK(ends_in(3600s));
+    CHECK(ends_in(end_of_certificates(file), 3600s));
     CHECK_FALSE(end_of_certificates(folder.path()));
     const auto pipe = folder.path() / "pipe";
     REQUIRE(::mkfifo(pipe.c_str(), 0600) == 0);
@@ -261,19 +263,13 @@ TEST_CASE("when certificates end") {
 TEST_CASE("when lists of revoked certificates end") {
     const Scratch folder("certificates");
     const auto file = folder.path() / "revoked.pem";
-    const auto ends_in = [&file](std::chrono::seconds time) {
-        const auto end = end_of_lists(file);
-        REQUIRE(end);
-        const auto off = *end - (std::chrono::system_clock::now() + time);
-        return off < 60s && off > -60s;
-    };
     CHECK_FALSE(end_of_lists(file));
     add_list(file, -60s, std::nullopt);
     CHECK_FALSE(end_of_lists(file));
     add_list(file, -60s, 7200s);
-    CHECK(ends_in(7200s));
+    CHECK(ends_in(end_of_lists(file), 7200s));
     add_list(file, -60s, 3600s);
-    CHECK(ends_in(3600s));
+    CHECK(ends_in(end_of_lists(file), 3600s));
     CHECK_FALSE(end_of_lists(folder.path()));
     CHECK_FALSE(end_of_lists(""));
 }

@@ -96,76 +96,67 @@ TEST_CASE("a stranger's updates without end") {
     check(one.ends_soon(), "it stays");
 }
 
+// A firm that has logged on over TLS.
+struct LoggedOn {
+    LoggedOn() {
+        check(peer.say(logon_now()), "no Logon");
+        peer.read_until("|35=1|");
+    }
+
+    Server given;
+    const TlsServer server{given.settings};
+    OneConnection one{given.settings, &server};
+    Peer peer{one.other()};
+};
+
 // Its messages, of which each is one read.
 TEST_CASE("updates count in the rate of a firm") {
-    Server given;
-    const TlsServer server(given.settings);
-    OneConnection one(given.settings, &server);
-    Peer peer(one.other());
-    check(peer.say(logon_now()), "no Logon");
-    peer.read_until("|35=1|");
-    const std::size_t before = one.host.messages;
+    LoggedOn firm;
+    const std::size_t before = firm.one.host.messages;
     for (int update = 0; update < 1000; ++update) {
-        check(peer.update_keys(SSL_KEY_UPDATE_NOT_REQUESTED), "a firm's connection has ended");
+        check(firm.peer.update_keys(SSL_KEY_UPDATE_NOT_REQUESTED), "a firm's connection has ended");
     }
-    const auto latest = std::chrono::steady_clock::now() + longest_wait;
-    while (one.host.messages < before + 1000 && std::chrono::steady_clock::now() < latest) {
-        std::this_thread::sleep_for(1ms);
-    }
-    same<std::size_t>(before + 1000, one.host.messages, "what was read of the firm");
+    firm.one.wait_read(before + 1000);
 }
 
 // However few bytes a record brings, its read is work.
 TEST_CASE("records of single bytes count in the rate of a firm") {
-    Server given;
-    const TlsServer server(given.settings);
-    OneConnection one(given.settings, &server);
-    Peer peer(one.other());
-    check(peer.say(logon_now()), "no Logon");
-    peer.read_until("|35=1|");
-    const auto counted = [&](std::size_t messages) {
-        const auto latest = std::chrono::steady_clock::now() + longest_wait;
-        while (one.host.messages < messages && std::chrono::steady_clock::now() < latest) {
-            std::this_thread::sleep_for(1ms);
-        }
-        same<std::size_t>(messages, one.host.messages, "what was read of the firm");
+    LoggedOn firm;
+    const auto say = [&firm](const std::string &bytes) {
+        check(firm.peer.say(bytes), "a firm's connection has ended");
     };
-    counted(1); // the Logon
+    firm.one.wait_read(1); // the Logon
     // A message that comes in eight is one.
     constexpr int whole = 100;
     for (int number = 2; number < 2 + whole; ++number) {
         const std::string message = said_now("0", number, "");
         for (std::size_t at = 0; at < 7; ++at) {
-            check(peer.say(message.substr(at, 1)), "a firm's connection has ended");
+            say(message.substr(at, 1));
         }
-        check(peer.say(message.substr(7)), "a firm's connection has ended");
+        say(message.substr(7));
     }
-    counted(1 + whole);
+    firm.one.wait_read(1 + whole);
     // Of one that does not end each eight are one.
     const std::string endless = with_soh("8=FIXT.1.1|9=3000|35=0|58=") + std::string(1600, 'x');
     for (std::size_t at = 0; at < 1600; ++at) {
-        check(peer.say(endless.substr(at, 1)), "a firm's connection has ended");
+        say(endless.substr(at, 1));
     }
-    counted(1 + whole + 200);
+    firm.one.wait_read(1 + whole + 200);
 }
 
 // Between two messages each time: the firm is not below its rate for that.
 TEST_CASE("updates end no flood") {
-    Server given;
-    const TlsServer server(given.settings);
-    OneConnection one(given.settings, &server);
-    Peer peer(one.other());
-    check(peer.say(logon_now()), "no Logon");
-    peer.read_until("|35=1|");
-    one.host.pause = 100ms;
-    bool goes_on = peer.say(said_now("0", 2, "112=2|"));
+    LoggedOn firm;
+    firm.one.host.pause = 100ms;
+    bool goes_on = firm.peer.say(said_now("0", 2, "112=2|"));
     const auto latest = std::chrono::steady_clock::now() + longest_wait;
     for (int number = 3; goes_on && std::chrono::steady_clock::now() < latest; ++number) {
-        goes_on =
-            peer.say(said_now("0", number, "")) && peer.update_keys(SSL_KEY_UPDATE_NOT_REQUESTED);
+        goes_on = firm.peer.say(said_now("0", number, "")) &&
+                  firm.peer.update_keys(SSL_KEY_UPDATE_NOT_REQUESTED);
     }
-    check(!goes_on && one.ends_soon(), "it is not logged out");
-    check(one.host.why().find("the rate of a firm") != std::string::npos, one.host.why());
+    check(!goes_on && firm.one.ends_soon(), "it is not logged out");
+    const std::string why = firm.one.host.why();
+    check(why.find("the rate of a firm") != std::string::npos, why);
 }
 
 } // namespace

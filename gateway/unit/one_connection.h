@@ -4,6 +4,7 @@
 #define GATEWAY_TESTS_ONE_CONNECTION_H
 
 #include "check.h"
+#include "comes_true.h"
 #include "no_events.h"
 #include "said_now.h"
 #include "session/connection.h"
@@ -176,11 +177,12 @@ struct OneConnection {
     int connection_socket() const { return own_end; }
     // Whether it has ended before long.
     bool ends_soon() const {
-        const auto latest = std::chrono::steady_clock::now() + longest_wait;
-        while (!connection.has_ended() && std::chrono::steady_clock::now() < latest) {
-            std::this_thread::sleep_for(std::chrono::milliseconds(1));
-        }
-        return connection.has_ended();
+        return comes_true([this] { return connection.has_ended(); });
+    }
+    // Waits until it has read so many messages of its firm, and no more.
+    void wait_read(std::size_t messages) const {
+        check(comes_true([&] { return host.messages >= messages; }), "its firm's are not read");
+        same<std::size_t>(messages, host.messages, "what was read of the firm");
     }
 
     const std::string address = "192.0.2.1";

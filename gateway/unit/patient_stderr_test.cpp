@@ -57,6 +57,12 @@ class Piped {
         const std::string bytes(room, '-');
         REQUIRE(::write(STDERR_FILENO, bytes.data(), bytes.size()) == room);
     }
+    // What is read once an event is told.
+    std::string told(const std::string &event) {
+        tell(event);
+        return take();
+    }
+
     void close() { read_.close(); }
 
     static constexpr int room = 65536; // sixteen pages
@@ -83,22 +89,17 @@ TEST_CASE("events are told, and how many were left out") {
     }
     CHECK(std::chrono::steady_clock::now() - began < 15s);
     CHECK(piped.take() == std::string(Piped::room, '-'));
-    piped.tell("five");
-    CHECK(piped.take() == "21 events were left out: standard error took none\nfive\n");
-    piped.tell("six");
-    CHECK(piped.take() == "six\n");
+    CHECK(piped.told("five") == "21 events were left out: standard error took none\nfive\n");
+    CHECK(piped.told("six") == "six\n");
 }
 
 // Its line ends before the next one begins.
 TEST_CASE("an event that is cut") {
     Piped piped;
     const std::string all(Piped::room, 'x');
-    piped.tell(all + "yyy");
-    CHECK(piped.take() == all);
-    piped.tell("next");
-    CHECK(piped.take() == "\n1 events were left out: standard error took none\nnext\n");
-    piped.tell("last");
-    CHECK(piped.take() == "last\n");
+    CHECK(piped.told(all + "yyy") == all);
+    CHECK(piped.told("next") == "\n1 events were left out: standard error took none\nnext\n");
+    CHECK(piped.told("last") == "last\n");
 }
 
 TEST_CASE("nobody reads it") {

@@ -7,6 +7,7 @@
 #include "common/descriptor.h"
 #include "config/start_configuration.h"
 #include "operator/admin_words.h"
+#include "rest_of.h"
 #include "service/day_hours.h"
 #include "service/service.h"
 #include "site.h"
@@ -37,15 +38,6 @@ std::string date_of(SystemSeconds moment) {
 }
 std::string text_of(SystemSeconds moment) {
     return fmt::format("{:%Y-%m-%dT%H:%M:%SZ}", fmt::gmtime(moment.time_since_epoch().count()));
-}
-
-std::string rest_of(const Descriptor &socket) {
-    std::string text;
-    std::array<char, 65536> bytes{};
-    for (ssize_t count = 0; (count = ::recv(socket.number(), bytes.data(), bytes.size(), 0)) > 0;) {
-        text.append(bytes.data(), static_cast<std::size_t>(count));
-    }
-    return text;
 }
 
 // What is answered to these bytes.

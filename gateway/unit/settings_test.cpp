@@ -33,15 +33,6 @@ namespace gateway::tests {
 namespace fs = std::filesystem;
 using namespace std::chrono_literals;
 
-std::string fault_of(const auto &act) {
-    try {
-        act();
-    } catch (const std::runtime_error &fault) {
-        return fault.what();
-    }
-    return "";
-}
-
 TEST_CASE("a range has the addresses with its bits") {
     const auto has = [](const char *range, const char *address) {
         const auto read = address_range_of(range);

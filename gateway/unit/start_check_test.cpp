@@ -33,15 +33,6 @@ namespace gateway::tests {
 
 using Words = std::vector<std::string>;
 
-std::string fault_of(const auto &act) {
-    try {
-        act();
-    } catch (const std::runtime_error &fault) {
-        return fault.what();
-    }
-    return "";
-}
-
 // A configuration that is right, as long as no test changes it.
 struct Right {
     Right() { config.engine.port = 0; } // any that is free

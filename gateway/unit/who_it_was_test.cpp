@@ -9,6 +9,7 @@
 #include "common/password.h"
 #include "day/begin_term.h"
 #include "log/sqlite_statement.h"
+#include "quiet_venue.h"
 #include "room_of_day.h"
 #include "session/refusal_words.h"
 #include "test_keys.h"
@@ -27,18 +28,6 @@ namespace gateway::tests {
 namespace {
 
 using namespace std::chrono_literals;
-
-// A venue that says nothing but that it has read each line.
-constexpr const char *venue_text = R"sh(
-lines=0 begun=
-while IFS= read -r line; do
-    lines=$((lines + 1))
-    case $begun$line in
-    %%) begun=+ ;;
-    +*) echo "done $lines" ;;
-    esac
-done
-)sh";
 
 Config config_of(const std::filesystem::path &folder) {
     wait_for_room_of_day();
