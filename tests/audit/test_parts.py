@@ -24,7 +24,7 @@ from mireseason_audit.frame import (
 )
 from mireseason_audit.jobs import due_texts, held, is_head
 from mireseason_audit.lines import came_of, firm_and_time
-from mireseason_audit.arguments import connection_of, source_of
+from mireseason_audit.arguments import connection_of, whole_source_of
 from mireseason_audit.main import parser_of
 from mireseason_audit.pair import Compared, Differences, compared_by, difference_words, differences
 from mireseason_audit.prices import Band, Price
@@ -238,7 +238,7 @@ class Names(unittest.TestCase):
         ):
             self.assertEqual(connection_of(log), connection)
             words = parser_of().parse_args(["check", log, "--schema", "day"])
-            source = source_of(words, Venue(()), Path())
+            source = whole_source_of(words, Venue(()), Path())
             self.assertEqual((source.name, getattr(source, "connection")), ("day", connection))
 
 

@@ -76,7 +76,7 @@ def test_an_update_has_what_changed(house: House) -> None:
     for count in range(60):
         dealer.quote(shown, 99 * POINT + count)
     last = 99 * POINT + 59
-    investor.until("the last", lambda: investor.requests[asked]["quotes"][-1]["price"] == last)
+    investor.until("the last", lambda: investor.last_price(asked) == last)
     for page in pages:
         page.card_says("99.23046875")
         longest = page.script("return window.longest")

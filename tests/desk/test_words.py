@@ -30,7 +30,7 @@ def test_a_history_is_in_the_prices_of_the_page(house: House) -> None:
     asked, shown = view.ask_for(["DLR1"]), quotes.wait_shown(1)
     quotes.quote(shown, 99 * POINT + 128)
     quotes.quote(shown, 99 * POINT + 132)
-    view.until("the quote", lambda: view.requests[asked]["quotes"][-1]["price"] == 99 * POINT + 132)
+    view.until("the quote", lambda: view.last_price(asked) == 99 * POINT + 132)
     assert view.hit(asked, "DLR1") == ""
     for page, decimals, thirds in (
         (investor, "DLR1 replaces 99.5 by 99.515625", "DLR1 replaces 99-16 by 99-16+"),

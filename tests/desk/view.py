@@ -342,6 +342,11 @@ class View:
             (quote for quote in self.requests[request]["quotes"] if quote["state"] == "live"), None
         )
 
+    def last_price(self, request: str) -> int | None:
+        """The price of the last quote that the request shows; none before its first."""
+        prices: list[int] = [quote["price"] for quote in self.requests[request]["quotes"]]
+        return prices[-1] if prices else None
+
     def quote(self, request: str, price: int, seconds: int = 0) -> None:
         """A quote that is accepted."""
         live = self.live(request)
