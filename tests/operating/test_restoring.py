@@ -304,19 +304,18 @@ MORE = {
     "a trigger": "CREATE TRIGGER more AFTER INSERT ON entry BEGIN DELETE FROM entry; END",
     "a view": "CREATE VIEW more AS SELECT * FROM entry",
     "a table of a module": "CREATE VIRTUAL TABLE more USING fts5(a)",
+    "an index": "CREATE INDEX more ON entry (moment)",
 }
 
 
 @pytest.mark.parametrize("name", MORE)
 def test_more_than_tables(name: str, machine: Machine, place: Path) -> None:
     log_of(place, 1)
-    with closing(sqlite3.connect(place / "made.db")) as database, database:
-        database.execute("CREATE INDEX by_moment ON entry (moment)")
     assert machine.restore((LOG, (place / "made.db").read_bytes())).returncode == 0
-    with closing(sqlite3.connect(place / "made.db")) as database, database:
-        database.execute(MORE[name])
+    with closing(sqlite3.connect(place / "made.db")) as database:
+        database.executescript(MORE[name])
     shutil.rmtree(machine.logs / "lost")
-    machine.refused("has more than tables and indexes", (LOG, (place / "made.db").read_bytes()))
+    machine.refused("has more than tables", (LOG, (place / "made.db").read_bytes()))
 
 
 CONFIGURATIONS = {
