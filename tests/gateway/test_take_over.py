@@ -146,6 +146,8 @@ def test_killed_while_it_takes_over(
         killed.follow_again()
     check(killed.ended > 0, "it was never ended")
     print("ended %d times at a call" % killed.ended)
+    # Else it takes over once the first ends, and the audit finds what it has not signed yet.
+    check(second.stop() == 0, second.last_words())
     is_whole(stage)
 
 
