@@ -10,6 +10,7 @@
 #include "health/metrics.h"
 #include "health/silence.h"
 #include "health/status.h"
+#include "identity.h"
 #include "revoked_list.h"
 #include "service/day_copying.h"
 
@@ -219,8 +220,6 @@ TEST_CASE("days are copied one after the other") {
 
 // ---------------------------------------------------------------- certificates
 
-template <typename Type> using Owned = std::unique_ptr<Type, void (*)(Type *)>;
-
 // Puts a certificate behind what the file has, which ends in so many seconds.
 void add_certificate(const std::filesystem::path &file, long seconds) {
     const Owned<EVP_PKEY> key(EVP_PKEY_Q_keygen(nullptr, nullptr, "ED25519"), EVP_PKEY_free);
@@ -299,6 +298,38 @@ TEST_CASE("what ends is told some days before") {
     REQUIRE(later.size() == 3);
     CHECK(later[1].starts_with(
         fmt::format("[tls] authorities = \"{}\" ends at 20", settings.authorities)));
+}
+
+// Who lets firms' certificates be looked up in lists asks each authority for one.
+TEST_CASE("an authority that has no list") {
+    const Scratch folder("certificates");
+    const Identity own({"own"}, 1);
+    const Identity same_name({"own"}, 2);
+    const Identity root({"root"}, 3);
+    const Identity below({"below"}, 4, &root);
+    EngineSettings settings;
+    settings.authorities = own.certificate(folder.path() / "firms.pem");
+    CHECK(without_list(settings).empty());
+    settings.revoked = same_name.revoked(folder.path() / "revoked.pem", 7);
+    const std::vector<std::string> told = {
+        fmt::format("[tls] revoked = \"{}\" has no list of CN=own: nobody to whom this authority "
+                    "gave a certificate can log on",
+                    settings.revoked)};
+    CHECK(without_list(settings) == told);
+    own.revoked(settings.revoked, 7);
+    CHECK(without_list(settings).empty());
+    same_name.certificate(settings.authorities, "a");
+    CHECK(without_list(settings) == told);
+    same_name.revoked(settings.revoked, 7, "a");
+    CHECK(without_list(settings).empty());
+    // One that vouches for another authority may have given no firm a certificate.
+    root.certificate(settings.authorities);
+    below.certificate(settings.authorities, "a");
+    below.revoked(settings.revoked, 7);
+    CHECK(without_list(settings).empty());
+    root.revoked(settings.revoked, 7);
+    REQUIRE(without_list(settings).size() == 1);
+    CHECK(without_list(settings)[0].find(" CN=below: ") != std::string::npos);
 }
 
 // ---------------------------------------------------------------- numbers

@@ -5,6 +5,7 @@
 
 #include "check.h"
 #include "comes_true.h"
+#include "identity.h"
 #include "no_events.h"
 #include "said_now.h"
 #include "session/connection.h"
@@ -30,8 +31,6 @@
 namespace gateway::tests {
 
 constexpr auto longest_wait = std::chrono::seconds(60);
-
-template <typename Type> using Owned = std::unique_ptr<Type, void (*)(Type *)>;
 
 // A key, and a certificate that it has signed itself, in files.
 inline void make_certificate(EngineSettings &settings, const std::filesystem::path &folder) {

@@ -27,6 +27,8 @@ std::optional<std::chrono::sys_seconds> end_of_lists(const std::filesystem::path
 void count_certificates(const EngineSettings &settings, Metrics &metrics);
 // What of them has ended by this moment, or ends soon: a sentence each.
 std::vector<std::string> ends_soon(const EngineSettings &settings, std::chrono::sys_seconds now);
+// Of which authority [tls] revoked has no list, though it has some: a sentence each.
+std::vector<std::string> without_list(const EngineSettings &settings);
 
 } // namespace gateway
 

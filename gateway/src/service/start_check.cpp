@@ -13,9 +13,11 @@
 #include "session/check_settings.h"
 #include "venue/venue_trial.h"
 
+#include <algorithm>
 #include <cerrno>
 #include <chrono>
 #include <fstream>
+#include <iterator>
 #include <stdexcept>
 #include <system_error>
 
@@ -213,6 +215,7 @@ void check_day(const Config &config, std::string_view day) {
 std::vector<std::string> doubts_about(const Config &config) {
     std::vector<std::string> doubts = ends_soon(
         config.engine, std::chrono::floor<std::chrono::seconds>(std::chrono::system_clock::now()));
+    std::ranges::move(without_list(config.engine), std::back_inserter(doubts));
     // A gateway knows its own signatures all the same, so the day can go on. Who checks it can't.
     if (!config.keys->is_own_listed) {
         doubts.emplace_back("[seal] gateways: none of them is the public key of signing_key. Add "
