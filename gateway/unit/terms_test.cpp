@@ -499,14 +499,15 @@ void drops_rows(Schema &schema) {
     schema.run("CREATE RULE mute AS ON INSERT TO entry DO INSTEAD NOTHING");
     const std::string fault = commit(false);
     check(fault.find("the table entry has fewer rows") != std::string::npos, "a rule: " + fault);
+    schema.run("DROP RULE mute ON entry");
 }
 
-// Somebody may have changed the type of a column.
+// Somebody may have changed the type of a column since the log was opened.
 void numbers_fit(Schema &schema) {
+    const auto reader = schema.open("reads")->reader();
     schema.run("ALTER TABLE checkpoint ALTER number TYPE BIGINT");
     schema.run("UPDATE checkpoint SET number = 4294967297 WHERE number = (SELECT max(number) FROM "
                "checkpoint)");
-    const auto reader = schema.open("reads")->reader();
     const std::string fault = thrown_by([&] { reader->last_checkpoint(); });
     check(fault.starts_with("PostgreSQL, the last checkpoint: column number has something else"),
           "a number that does not fit: " + fault);
