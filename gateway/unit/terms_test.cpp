@@ -9,8 +9,10 @@
 
 #include <chrono>
 #include <cstdlib>
+#include <fstream>
 #include <future>
 #include <iostream>
+#include <iterator>
 #include <memory>
 #include <optional>
 #include <string>
@@ -44,6 +46,11 @@ class Schema {
     std::size_t run(const std::string &statement) {
         pqxx::nontransaction work(connection_);
         return work.exec("SET search_path TO " + name_ + "; " + statement).size();
+    }
+    // The one value that it gives.
+    std::string text_of(const std::string &query) {
+        pqxx::nontransaction work(connection_);
+        return work.exec("SET search_path TO " + name_ + "; " + query).at(0).at(0).c_str();
     }
 
   private:
@@ -502,6 +509,23 @@ void drops_rows(Schema &schema) {
     schema.run("DROP RULE mute ON entry");
 }
 
+// What the server compiles takes many times as long as a commit does: its process has not even
+// loaded the compiler.
+void compiles_nothing(Schema &schema) {
+    const auto database = schema.open("compiles");
+    const std::uint32_t term = database->take_over().value();
+    const auto writer = database->writer();
+    for (const bool are_copied : {false, true}) {
+        writer->commit(rows_from(are_copied ? 6 : 0, term, are_copied));
+    }
+    writer->be_seen();
+    const std::string server = schema.text_of("SELECT backend FROM speaker");
+    std::ifstream file("/proc/" + server + "/maps");
+    const std::string loaded{std::istreambuf_iterator<char>(file), {}};
+    check(!loaded.empty(), "nothing is known of the process " + server);
+    check(loaded.find("llvmjit") == std::string::npos, "the server compiles statements");
+}
+
 // Somebody may have changed the type of a column since the log was opened.
 void numbers_fit(Schema &schema) {
     const auto reader = schema.open("reads")->reader();
@@ -564,6 +588,11 @@ TEST_CASE("rows that are dropped" * doctest::skip(std::getenv("TEST_POSTGRES_OWN
     Schema schema(connection());
     drops_rows(schema);
     numbers_fit(schema);
+}
+
+TEST_CASE("nothing is compiled" * doctest::skip(std::getenv("TEST_POSTGRES_OWN") == nullptr)) {
+    Schema schema(connection());
+    compiles_nothing(schema);
 }
 
 // The same, which sets the standbys.

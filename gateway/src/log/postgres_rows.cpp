@@ -119,8 +119,11 @@ std::string required(std::string_view table, std::string_view holds) {
 }
 
 void prepare_rows(pqxx::nontransaction &work, pqxx::connection_base &connection) {
-    // What was put is looked for by its keys, also where a table is short at first.
+    // What was put is looked for by its keys, also where a table is short at first. What has no
+    // key, as a term has none, costs the planner so much then that the server would compile it,
+    // which takes many times as long as a commit does.
     work.exec("SET enable_seqscan TO off");
+    work.exec("SET jit TO off");
     for (const char *table : {"entry", "connection"}) {
         work.exec(fmt::format("PREPARE require_{0} (INTEGER, INTEGER, BIGINT) AS SELECT {1} FROM "
                               "{0} WHERE place BETWEEN $1 AND $2",
