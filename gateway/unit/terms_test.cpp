@@ -199,6 +199,35 @@ const std::vector<Changed> &changes() {
          "operator === is none of a gateway's"},
         {"CREATE FUNCTION \"one\ntwo\"() RETURNS VOID LANGUAGE SQL AS ''",
          "function one?two() is none of a gateway's"},
+        // Of the server's names, and of types that a look at the functions fits better than the
+        // server's own do: they say of each that it is the one that gateways make.
+        {"CREATE TABLE kept AS SELECT prosrc FROM pg_proc JOIN pg_class ON pronamespace = "
+         "relnamespace WHERE proname = 'speak' AND pg_class.oid = 'speaker'::regclass; "
+         "CREATE OR REPLACE FUNCTION speak(mine INTEGER) RETURNS VOID LANGUAGE plpgsql AS ' BEGIN "
+         "END'; "
+         "CREATE FUNCTION format(form TEXT, name NAME, words TEXT) RETURNS TEXT LANGUAGE SQL AS $$ "
+         "SELECT CASE WHEN name IN ('format', 'concat') THEN 'function speak(mine integer)' ELSE "
+         "pg_catalog.format(form, name, words) END $$; "
+         "CREATE FUNCTION concat(TEXT, TEXT, TEXT, TEXT, NAME, TEXT, TEXT, TEXT, TEXT, TEXT, TEXT, "
+         "TEXT) RETURNS TEXT LANGUAGE SQL AS $$ SELECT CASE WHEN $12 = ' BEGIN END' OR $12 LIKE "
+         "'%pg_catalog%' THEN (SELECT 'RETURNS void LANGUAGE plpgsql AS ' || prosrc FROM kept) "
+         "ELSE pg_catalog.concat($1, $2, $3, $4, $5, $6, $7, $8, $9, $10, $11, $12) END $$",
+         "function speak(mine integer) is another: RETURNS void LANGUAGE plpgsql AS  BEGIN END"},
+        // Whoever reads the form looks for the server's own tables here first.
+        {"ALTER TABLE form RENAME TO other; "
+         "DO $do$ BEGIN EXECUTE format($f$ CREATE FUNCTION moves() RETURNS INTEGER LANGUAGE SQL AS "
+         "'SELECT set_config(''search_path'', ''%s, pg_catalog'', false); SELECT 6' $f$, "
+         "current_schema()); END $do$; "
+         "CREATE VIEW form AS SELECT moves() AS number; "
+         "CREATE VIEW pg_class AS SELECT oid, relname, relnamespace, CASE WHEN relname = 'form' "
+         "THEN 'r' ELSE relkind END AS relkind, relpersistence, relrowsecurity FROM "
+         "pg_catalog.pg_class; "
+         "CREATE VIEW pg_attribute AS SELECT attrelid, attname, attnum, atttypid, atttypmod, "
+         "attisdropped, attidentity, attnotnull OR attrelid = 'form'::regclass AS attnotnull FROM "
+         "pg_catalog.pg_attribute; "
+         "CREATE VIEW pg_rewrite AS SELECT * FROM pg_catalog.pg_rewrite WHERE false; "
+         "CREATE VIEW pg_proc AS SELECT * FROM pg_catalog.pg_proc WHERE proname <> 'moves'",
+         "table form is another: no table (v): number integer"},
     };
     return all;
 }

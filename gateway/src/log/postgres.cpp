@@ -155,18 +155,15 @@ class WritingConnection {
         const std::string &schema = place.schema;
         pqxx::nontransaction work(*connection_);
         make_tables(work, schema);
-        // Behind what another's function may have set, or left in this session's own schema.
+        check_form(work, schema);
+        // Behind what another's function may have set, or left in this session's own schema: that
+        // by which the tables are made, or one that a view in the place of a table calls.
         work.exec(
             fmt::format("SET synchronous_commit TO {}", work.quote(place.synchronous_commit)));
         work.exec("SET client_min_messages TO warning");
         // Else the server warns of each text with a backslash, as bytes have one.
         work.exec("SET standard_conforming_strings TO on");
         work.exec(fmt::format("SET search_path TO {}, pg_temp", work.quote_name(schema)));
-        const pqxx::result form = work.exec("SELECT number FROM form");
-        if (form.size() != 1 || number_of(form[0][0]) != form_of_log) {
-            throw std::runtime_error(
-                another_form(schema, form.empty() ? 0 : number_of(form[0][0])));
-        }
         check_form_of_tables(work, schema);
         prepare_rows(work, *connection_);
         connection_->prepare(
@@ -180,6 +177,15 @@ class WritingConnection {
                               "$7, $8) RETURNING number) SELECT speak($1), {} FROM sealed",
                               required("seal", "count(*) = 1")));
         work.exec("PREPARE speak AS SELECT speak($1)");
+    }
+
+    static void check_form(pqxx::nontransaction &work, const std::string &schema) {
+        const pqxx::result form =
+            work.exec(fmt::format("SELECT number FROM {}.form", work.quote_name(schema)));
+        if (form.size() != 1 || number_of(form[0][0]) != form_of_log) {
+            throw std::runtime_error(
+                another_form(schema, form.empty() ? 0 : number_of(form[0][0])));
+        }
     }
 
     // Of two gateways that begin at once the second waits for the first by the schema's name, which

@@ -109,55 +109,60 @@ Parts made_by_gateways() {
 
 // $1 is the schema, and $2 the names of the tables. What a gateway does not make has no more than
 // its name. An index that checks nothing and computes nothing changes no row, nor does a table or a
-// view of another name.
+// view of another name. Each function is the server's own by its full name: the schema may have one
+// that is called so, and fits better.
 constexpr const char *parts_of_schema = R"sql(
 WITH schema AS (SELECT oid AS place FROM pg_namespace WHERE nspname = $1),
 own AS (SELECT oid, relname, relkind, relpersistence, relrowsecurity FROM pg_class, schema
-    WHERE relnamespace = place AND relname = ANY (string_to_array($2, ' ')))
-SELECT format('table %s', relname), concat(
-        CASE WHEN relkind <> 'r' THEN format('no table (%s): ', relkind) END,
+    WHERE relnamespace = place AND relname = ANY (pg_catalog.string_to_array($2, ' ')))
+SELECT pg_catalog.format('table %s', relname), pg_catalog.concat(
+        CASE WHEN relkind <> 'r' THEN pg_catalog.format('no table (%s): ', relkind) END,
         CASE WHEN relpersistence <> 'p' THEN 'unlogged: ' END,
         CASE WHEN relrowsecurity THEN 'with row security: ' END,
-        (SELECT string_agg(concat(attname, ' ', format_type(atttypid, atttypmod),
+        (SELECT pg_catalog.string_agg(pg_catalog.concat(
+                attname, ' ', pg_catalog.format_type(atttypid, atttypmod),
                 CASE WHEN attnotnull THEN ' NOT NULL' END,
-                ' DEFAULT ' || pg_get_expr(adbin, adrelid),
+                ' DEFAULT ' || pg_catalog.pg_get_expr(adbin, adrelid),
                 CASE WHEN attidentity <> '' THEN ' IDENTITY' END), ', ' ORDER BY attnum)
             FROM pg_attribute LEFT JOIN pg_attrdef ON adrelid = attrelid AND adnum = attnum
             WHERE attrelid = own.oid AND attnum > 0 AND NOT attisdropped))
     FROM own
 UNION ALL
-SELECT format('constraint %s of %s', conname, relname), pg_get_constraintdef(pg_constraint.oid)
+SELECT pg_catalog.format('constraint %s of %s', conname, relname),
+        pg_catalog.pg_get_constraintdef(pg_constraint.oid)
     FROM pg_constraint JOIN own ON conrelid = own.oid WHERE contype <> 'n'
 UNION ALL
-SELECT format('trigger %s of %s', tgname, relname), concat(
-        CASE WHEN tgenabled <> 'O' THEN format('not enabled (%s): ', tgenabled) END,
-        pg_get_triggerdef(pg_trigger.oid, true))
+SELECT pg_catalog.format('trigger %s of %s', tgname, relname), pg_catalog.concat(
+        CASE WHEN tgenabled <> 'O' THEN pg_catalog.format('not enabled (%s): ', tgenabled) END,
+        pg_catalog.pg_get_triggerdef(pg_trigger.oid, true))
     FROM pg_trigger JOIN own ON tgrelid = own.oid WHERE NOT tgisinternal
 UNION ALL
-SELECT format('function %s(%s)', proname, pg_get_function_identity_arguments(pg_proc.oid)), concat(
-        CASE WHEN prokind <> 'f' THEN format('no function (%s): ', prokind) END,
-        'RETURNS ', pg_get_function_result(pg_proc.oid), ' LANGUAGE ', lanname, ' ',
-        CASE WHEN provolatile <> 'v' THEN format('not volatile (%s) ', provolatile) END,
+SELECT pg_catalog.format('function %s(%s)', proname,
+        pg_catalog.pg_get_function_identity_arguments(pg_proc.oid)), pg_catalog.concat(
+        CASE WHEN prokind <> 'f' THEN pg_catalog.format('no function (%s): ', prokind) END,
+        'RETURNS ', pg_catalog.pg_get_function_result(pg_proc.oid), ' LANGUAGE ', lanname, ' ',
+        CASE WHEN provolatile <> 'v' THEN pg_catalog.format('not volatile (%s) ', provolatile) END,
         CASE WHEN prosecdef THEN 'SECURITY DEFINER ' END,
         CASE WHEN proisstrict THEN 'STRICT ' END,
-        array_to_string(proconfig, ' ') || ' ', 'AS ', prosrc)
+        pg_catalog.array_to_string(proconfig, ' ') || ' ', 'AS ', prosrc)
     FROM pg_proc JOIN pg_language ON pg_language.oid = prolang JOIN schema ON pronamespace = place
 UNION ALL
-SELECT format('operator %s', oprname), '' FROM pg_operator JOIN schema ON oprnamespace = place
+SELECT pg_catalog.format('operator %s', oprname), ''
+    FROM pg_operator JOIN schema ON oprnamespace = place
 UNION ALL
-SELECT format('rule %s of %s', rulename, relname), ''
+SELECT pg_catalog.format('rule %s of %s', rulename, relname), ''
     FROM pg_rewrite JOIN own ON ev_class = own.oid WHERE relkind = 'r'
 UNION ALL
-SELECT format('policy %s of %s', polname, relname), ''
+SELECT pg_catalog.format('policy %s of %s', polname, relname), ''
     FROM pg_policy JOIN own ON polrelid = own.oid
 UNION ALL
-SELECT format('child %s of %s', inhrelid::regclass, relname), ''
+SELECT pg_catalog.format('child %s of %s', inhrelid::regclass, relname), ''
     FROM pg_inherits JOIN own ON inhparent = own.oid
 UNION ALL
-SELECT format('parent %s of %s', inhparent::regclass, relname), ''
+SELECT pg_catalog.format('parent %s of %s', inhparent::regclass, relname), ''
     FROM pg_inherits JOIN own ON inhrelid = own.oid
 UNION ALL
-SELECT format('index %s of %s', indexrelid::regclass, relname), ''
+SELECT pg_catalog.format('index %s of %s', indexrelid::regclass, relname), ''
     FROM pg_index JOIN own ON indrelid = own.oid
     WHERE NOT indisprimary AND (indisunique OR indexprs IS NOT NULL OR indpred IS NOT NULL)
 )sql";
