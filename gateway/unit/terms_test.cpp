@@ -182,6 +182,13 @@ const std::vector<Changed> &changes() {
          "constraint sent_place_check of sent is none of a gateway's"},
         {"CREATE UNIQUE INDEX other ON sent (place)", "index other of sent is none of a gateway's"},
         {"CREATE INDEX other ON sent (lower(firm))", "index other of sent is none of a gateway's"},
+        {"CREATE UNIQUE INDEX other ON sent (number, firm) WHERE place > 9",
+         "index other of sent is none of a gateway's"},
+        {"CREATE UNIQUE INDEX other ON sent (firm) INCLUDE (number)",
+         "index other of sent is none of a gateway's"},
+        {"CREATE COLLATION blind (PROVIDER = icu, LOCALE = 'und-u-ks-level2', DETERMINISTIC = "
+         "false); CREATE UNIQUE INDEX other ON sent (firm COLLATE blind, number)",
+         "index other of sent is none of a gateway's"},
         {"ALTER TABLE sent RENAME TO other; CREATE VIEW sent AS SELECT * FROM other",
          "table sent is another: no table (v): firm text, number integer"},
         {"CREATE TABLE other () INHERITS (speaker)",
@@ -251,6 +258,8 @@ void other_tables(Schema &schema) {
     schema.open("made")->take_over();
     schema.run("CREATE TABLE other (place INTEGER PRIMARY KEY); CREATE VIEW read AS SELECT * FROM "
                "entry; CREATE INDEX moments ON entry (moment)");
+    // REINDEX CONCURRENTLY has one as long as it takes, and leaves it where it fails.
+    schema.run("CREATE UNIQUE INDEX sent_pkey_ccnew ON sent (firm, number)");
     same<std::string>("", thrown_by([&] { schema.open("next")->take_over(); }), "more tables");
 }
 

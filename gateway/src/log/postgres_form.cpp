@@ -108,9 +108,10 @@ Parts made_by_gateways() {
 }
 
 // $1 is the schema, and $2 the names of the tables. What a gateway does not make has no more than
-// its name. An index that checks nothing and computes nothing changes no row, nor does a table or a
-// view of another name. Each function is the server's own by its full name: the schema may have one
-// that is called so, and fits better.
+// its name. An index that checks nothing and computes nothing changes no row, nor does one that
+// checks what the key does (REINDEX CONCURRENTLY makes such, and leaves it where it fails), or a
+// table or a view of another name. Each function is the server's own by its full name: the schema
+// may have one that is called so, and fits better.
 constexpr const char *parts_of_schema = R"sql(
 WITH schema AS (SELECT oid AS place FROM pg_namespace WHERE nspname = $1),
 own AS (SELECT oid, relname, relkind, relpersistence, relrowsecurity FROM pg_class, schema
@@ -165,6 +166,11 @@ UNION ALL
 SELECT pg_catalog.format('index %s of %s', indexrelid::regclass, relname), ''
     FROM pg_index JOIN own ON indrelid = own.oid
     WHERE NOT indisprimary AND (indisunique OR indexprs IS NOT NULL OR indpred IS NOT NULL)
+        AND NOT (indexprs IS NULL AND indpred IS NULL AND EXISTS (SELECT FROM pg_index AS key
+            WHERE key.indrelid = own.oid AND key.indisprimary
+            AND key.indnkeyatts = pg_index.indnkeyatts
+            AND key.indkey::text = pg_index.indkey::text AND key.indclass = pg_index.indclass
+            AND key.indcollation = pg_index.indcollation))
 )sql";
 
 Parts found_in(pqxx::transaction_base &work, const std::string &schema) {
