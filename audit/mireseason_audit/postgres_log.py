@@ -14,6 +14,7 @@ import psycopg2
 from psycopg2 import sql
 
 from .faults import Unreadable
+from .frame import printable
 from .log import Log
 from .log_form import FORMS, FUNCTIONS, TRIGGER, TRIGGERED, short, strange_tables
 from .sql_log import Rows, SqlLog, form_of
@@ -41,9 +42,21 @@ CARRIED_OUT = """WITH RECURSIVE own AS (
     ORDER BY 1""".replace(
     "PLACE", PLACE
 )
+# What of the schema the server may carry out in the place of its own, in a query that calls that by its name alone: a
+# function or an operator whose name it has, too, may fit better, and a type may have a way to become another.
+LIKE_THE_SERVERS = """SELECT 'function ' || proname FROM pg_proc AS one WHERE pronamespace = PLACE
+        AND EXISTS (SELECT FROM pg_proc WHERE pronamespace = 'pg_catalog'::regnamespace AND proname = one.proname)
+    UNION SELECT 'operator ' || oprname FROM pg_operator AS one WHERE oprnamespace = PLACE
+        AND EXISTS (SELECT FROM pg_operator WHERE oprnamespace = 'pg_catalog'::regnamespace AND oprname = one.oprname)
+    UNION SELECT 'the type of ' || attname || ' of ' || relname FROM pg_class JOIN pg_attribute
+        ON attrelid = pg_class.oid JOIN pg_type ON pg_type.oid = atttypid WHERE relnamespace = PLACE
+        AND relkind = 'r' AND attnum > 0 AND NOT attisdropped AND typnamespace <> 'pg_catalog'::regnamespace
+    ORDER BY 1""".replace(
+    "PLACE", PLACE
+)
 # A policy of rows is not carried out, either: where one counts for who reads, that is an error. Nor are the constraints by
-# which the planner leaves a table out.
-PLAIN = "SET row_security = off; SET constraint_exclusion = off"
+# which the planner leaves a table out. Until the schema was looked at nothing is found there, or where else a role looks.
+PLAIN = "SET row_security = off; SET constraint_exclusion = off; SET search_path TO pg_catalog"
 # What is no plain table of the schema, or changes what is written to one or read of one.
 OTHERS = """WITH tables AS (SELECT oid, relname FROM pg_class WHERE relnamespace = PLACE AND relkind = 'r')
     SELECT CASE relkind WHEN 'v' THEN 'view' WHEN 'm' THEN 'materialized view' WHEN 'f' THEN 'foreign table'
@@ -171,6 +184,10 @@ def check_tables(cursor: Any, schema: str) -> None:
     for (name,) in cursor.fetchall():
         text = "%s: no log can be read: %s is no table, or has a function that is carried out"
         raise Unreadable(text % (schema, name))
+    cursor.execute(LIKE_THE_SERVERS.replace("?", "%s"), (schema,) * LIKE_THE_SERVERS.count("?"))
+    for (name,) in cursor.fetchall():
+        text = "%s: no log can be read: %s may be carried out in the place of the server's own"
+        raise Unreadable(text % (schema, printable(short(name))))
 
 
 def plain(value: object) -> object:

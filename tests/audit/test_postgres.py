@@ -105,6 +105,17 @@ CARRIED_OUT = {
     "seal": RAISES % ("x INTEGER", "INTEGER", "x")
     + "CREATE STATISTICS s ON (place + raises(1)), term FROM seal",
 }
+# What fits better, in a query of the audit, than what the server has of that name.
+BETTER = {
+    "function convert_to": RAISES.replace("raises(", "convert_to(")
+    % ("x TEXT, y TEXT", "BYTEA", "x::bytea"),
+    "operator <>": RAISES % ("x NAME, y TEXT", "BOOLEAN", "true")
+    + "CREATE OPERATOR <> (LEFTARG = NAME, RIGHTARG = TEXT, FUNCTION = raises)",
+    "the type of place of sent": "CREATE TYPE pair AS (x INTEGER, y INTEGER);"
+    + RAISES % ("x pair", "INTEGER", "1")
+    + "CREATE CAST (pair AS INTEGER) WITH FUNCTION raises(pair) AS IMPLICIT;"
+    "ALTER TABLE sent ALTER place TYPE pair USING NULL",
+}
 # A server ends with the test that started it, however that ends.
 AS_USER = "setpriv --reuid=postgres --regid=postgres --clear-groups --pdeathsig=QUIT --".split()
 
@@ -246,6 +257,15 @@ class Postgres(unittest.TestCase):
                     PostgresSource(self.connection, schema).open()
                 with self.assertRaisesRegex(Unreadable, told):
                     PostgresSource(self.connection, schema).current()
+
+    def test_nothing_takes_the_place_of_the_servers_own(self) -> None:
+        for number, (what, script) in enumerate(BETTER.items()):
+            with self.subTest(what):
+                schema = "better_%d" % number
+                make_tables(self.connection, schema, script)
+                told = "^%s: no log can be read: %s may be carried out" % (schema, what)
+                with self.assertRaisesRegex(Unreadable, told):
+                    PostgresSource(self.connection, schema).open()
 
     def test_what_the_form_does_not_have_is_a_finding(self) -> None:
         self.change("CREATE RULE r AS ON DELETE TO sent DO INSTEAD NOTHING")
