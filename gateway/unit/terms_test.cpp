@@ -261,6 +261,11 @@ void other_tables(Schema &schema) {
     // REINDEX CONCURRENTLY has one as long as it takes, and leaves it where it fails.
     schema.run("CREATE UNIQUE INDEX sent_pkey_ccnew ON sent (firm, number)");
     same<std::string>("", thrown_by([&] { schema.open("next")->take_over(); }), "more tables");
+    // A role, or the whole database, may have it so: the server writes each name otherwise then.
+    const auto quoted = [&] {
+        return schema.open("quoted", " options='-c quote_all_identifiers=on'")->take_over();
+    };
+    same<std::string>("", thrown_by(quoted), "names in quotation marks");
 }
 
 // The tables are made by a function of their owner, which leaves some of the same names, and

@@ -163,6 +163,8 @@ class WritingConnection {
         work.exec("SET client_min_messages TO warning");
         // Else the server warns of each text with a backslash, as bytes have one.
         work.exec("SET standard_conforming_strings TO on");
+        // Else the server says of no table that it is made as gateways make it.
+        work.exec("SET quote_all_identifiers TO off");
         work.exec(fmt::format("SET search_path TO {}, pg_temp", work.quote_name(schema)));
         check_form_of_tables(work, schema);
         prepare_rows(work, *connection_);
