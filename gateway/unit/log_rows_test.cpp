@@ -131,7 +131,8 @@ TEST_CASE("a definition that is changed while the gateway writes") {
 
 // What an operator may do to a log in use changes none.
 TEST_CASE("a file that is put in order while the gateway writes") {
-    for (const char *order : {"ANALYZE", "VACUUM", "REINDEX"}) {
+    for (const char *order :
+         {"ANALYZE", "VACUUM", "REINDEX", "CREATE INDEX IF NOT EXISTS moments ON entry (moment)"}) {
         const Scratch folder("log_rows");
         OpenLog log(folder.path());
         same<std::string>("", log.commit(rows_of(1)), "the first commit");

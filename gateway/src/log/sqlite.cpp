@@ -130,8 +130,8 @@ class SqliteWriter final : public LogWriter {
         row.bind(std::int64_t{number}).bind(std::int64_t{at.term});
         row.bind(column_of_place(at.place)).bind(std::int64_t{at.event});
     }
-    // Throws where somebody has changed a definition since this began to write: by another one a row
-    // may stand where nobody finds it. An operator's VACUUM or ANALYZE changes none.
+    // Throws where somebody has changed a definition since this began to write: by another one a
+    // row may stand where nobody finds it. An operator's VACUUM, ANALYZE or index changes none.
     void look_at_definitions() {
         bool may_differ = false;
         for (Statement *each : {&entry_, &event_, &sent_, &sent_again_, &seal_, &checkpoint_}) {
@@ -144,11 +144,12 @@ class SqliteWriter final : public LogWriter {
                             sqlite::file_of(connection_.get())));
         }
     }
-    // Those of all tables, but of what ANALYZE keeps.
+    // Those of all tables, but of what ANALYZE keeps, and of an index by which rows are only found.
     std::string definitions() const {
-        Statement rows(connection_.get(), "SELECT type || ' ' || coalesce(sql, name) FROM "
-                                          "sqlite_schema WHERE name NOT GLOB 'sqlite_stat*' "
-                                          "ORDER BY name");
+        Statement rows(connection_.get(),
+                       "SELECT type || ' ' || coalesce(sql, name) FROM sqlite_schema WHERE name "
+                       "NOT GLOB 'sqlite_stat*' AND coalesce(type <> 'index' OR sql NOT GLOB "
+                       "'CREATE INDEX *', true) ORDER BY name");
         std::string all;
         while (rows.step()) {
             all += rows.bytes(0) + "\n";
