@@ -6,6 +6,7 @@
 #include "config/start_configuration.h"
 #include "config/venue_file.h"
 #include "log/checkpoint_file.h"
+#include "log/sqlite_statement.h"
 #include "service/day_hours.h"
 #include "service/ended_day.h"
 #include "service/restart_forecast.h"
@@ -20,6 +21,7 @@
 #include <fmt/chrono.h>
 #include <fmt/format.h>
 #include <fmt/ranges.h>
+#include <sqlite3.h>
 
 namespace gateway::tests {
 
@@ -405,6 +407,33 @@ TEST_CASE("a day that an operator may have ended, and that goes on all the same"
     fs::copy(ended, looked.checkpoint());
     fs::remove(looked.log());
     CHECK_FALSE(is_ended());
+}
+
+// Who writes to the log and has no key can't have a day stay ended that its hours ended.
+TEST_CASE("a day that somebody says an operator has ended") {
+    const Looked looked;
+    looked.site.begin();
+    {
+        const Config config = looked.site.config();
+        const auto database = open_database(config);
+        const std::uint32_t term = database->take_over().value();
+        looked.site.put_act(config, *database, term, "ann(7) halt");
+        looked.site.put_act(config, *database, term, "ann(7) resume");
+    }
+    looked.site.end();
+    const auto changed_to = [&](const std::string &was, const std::string &is) {
+        const auto connection = sqlite::connect(looked.log().string(), SQLITE_OPEN_READWRITE);
+        sqlite::execute(connection.get(),
+                        fmt::format("UPDATE entry SET line = CAST(replace(CAST(line AS TEXT), "
+                                    "'{0}', '{1}') AS BLOB) WHERE instr(CAST(line AS TEXT), '{0}')",
+                                    was, is)
+                            .c_str());
+        CHECK(sqlite3_changes(connection.get()) == 1);
+        return is_ended_by_order({looked.site.config()}, looked.day);
+    };
+    CHECK_FALSE(changed_to(" halt", " end-day"));
+    CHECK_FALSE(changed_to(" end-day", " halt"));
+    CHECK_FALSE(changed_to(" resume", " end-day"));
 }
 
 // ---------------------------------------------------------------- with which configuration

@@ -7,6 +7,8 @@
 #include <algorithm>
 #include <cstdint>
 #include <exception>
+#include <stdexcept>
+#include <vector>
 
 namespace gateway {
 
@@ -17,14 +19,31 @@ bool ends_day(const Entry &entry) {
     return note && day_end_in(*note) != DayEnd::as_configured;
 }
 
-// Few entries stand behind an operator's order: it is looked for from the end.
-bool was_ordered(LogReader &log, std::uint32_t last) {
+// Throws where this is not what stood in the log up to an entry of this hash.
+void check_piece(const std::vector<Entry> &piece, std::uint32_t from, const Digest &hash) {
+    if (piece.empty() || piece.back().hash != hash) {
+        throw std::runtime_error("the log is not as it was signed");
+    }
+    Digest before = piece.front().before;
+    for (const Entry &entry : piece) {
+        check_link(entry, from++, before);
+        before = entry.hash;
+    }
+}
+
+// Few entries stand behind an operator's order: it is looked for from the end, whose hash is
+// signed. From there each piece has the hash of the one in front of it.
+bool was_ordered(LogReader &log, const Position &at) {
     constexpr std::uint32_t at_once = 4096;
-    for (std::uint32_t end = last + 1; end != 0;) {
+    Digest hash = at.hash;
+    for (std::uint32_t end = at.place + 1; end != 0;) {
         const std::uint32_t from = end - std::min(end, at_once);
-        if (std::ranges::any_of(log.entries(from, end - from), ends_day)) {
+        const std::vector<Entry> piece = log.entries(from, end - from);
+        check_piece(piece, from, hash);
+        if (std::ranges::any_of(piece, ends_day)) {
             return true;
         }
+        hash = piece.front().before;
         end = from;
     }
     return false;
@@ -48,7 +67,7 @@ bool is_ended(Config config) {
     }
     config.configuration = *begun;
     const auto kept = CheckpointFile(config.checkpoints, sealer_of(config)).read();
-    return kept && ends_so(*log, *kept) && was_ordered(*log, kept->at.place);
+    return kept && ends_so(*log, *kept) && was_ordered(*log, kept->at);
 }
 
 } // namespace
