@@ -256,6 +256,38 @@ TEST_CASE("what can't be read again stays") {
     ends_with(market, {"# act ann(7) reload refused"});
 }
 
+namespace {
+
+// A market whose day ends between two looks at it.
+class EndingMarket final : public AdminScene {
+  public:
+    EndingMarket(Market &market, int looks) : market_(market), looks_(looks) {}
+
+    HeldDay hold_day() override { return looks_-- > 0 ? market_.hold_day() : HeldDay{}; }
+    std::string waits_for() override { return market_.waits_for(); }
+    std::string accept_loss(const std::vector<Act> &acts) override {
+        return market_.accept_loss(acts);
+    }
+    NextDay next_day() override { return market_.next_day(); }
+    Beside beside() override { return market_.beside(); }
+
+  private:
+    Market &market_;
+    int looks_;
+};
+
+} // namespace
+
+// The act is in the log by then, and no refusal of it is: nobody has looked at the files.
+TEST_CASE("what is not read again before the day ends") {
+    Market market;
+    EndingMarket ending(market, 1);
+    CHECK(answer_to(ending, "ann(7)", "1 text reload") ==
+          "error\nthe files were not read within 5 s: the day ends, or its log does not answer\n");
+    ends_with(market, {"# act ann(7) reload"});
+    CHECK_FALSE(has_line(market.lines(), "reload refused"));
+}
+
 // ---------------------------------------------------------------- what an operator is told
 
 TEST_CASE("which firms are new on the next day, and which are gone") {
@@ -459,6 +491,26 @@ TEST_CASE("numbers of each venue") {
         CHECK_MESSAGE(market.comes_to_count(fmt::format("\nmireseason_{}", number)),
                       std::string(number));
     }
+    market.end();
+}
+
+// One is not answered by the venue, and none waits for the log.
+TEST_CASE("entries that the venue has not answered are counted") {
+    Market market({"north", "south"});
+    const auto counts = [&](const std::string &what, std::size_t north, std::size_t south) {
+        for (const auto &[venue, number] : {std::pair("north", north), std::pair("south", south)}) {
+            CHECK_MESSAGE(market.comes_to_count(fmt::format("\nmireseason_{}{{venue=\"{}\"}} {}\n",
+                                                            what, venue, number)),
+                          what);
+        }
+    };
+    counts("venue_backlog_entries", 0, 0);
+    market.has_venue_wait(true);
+    CHECK(denial_of_quote(market) == "");
+    counts("venue_backlog_entries", 1, 0);
+    counts("log_backlog_messages", 0, 0);
+    market.has_venue_wait(false);
+    counts("venue_backlog_entries", 0, 0);
     market.end();
 }
 

@@ -6,6 +6,7 @@
 #include "base/digest.h"
 #include "base/private_file.h"
 #include "base/process.h"
+#include "comes_true.h"
 #include "common/descriptor.h"
 #include "common/password.h"
 #include "common/version.h"
@@ -26,6 +27,7 @@
 #include <utility>
 #include <vector>
 
+#include <fcntl.h>
 #include <fmt/format.h>
 #include <poll.h>
 #include <sys/socket.h>
@@ -267,6 +269,24 @@ TEST_CASE("a gateway that runs has its ports") {
     CHECK(done.status == 1); // a pipe is no file
 }
 
+// ---------------------------------------------------------------- --confined
+
+// Of the folders in PATH the first one has no such program, and it reads what is beside its own.
+TEST_CASE("a confined program is looked up in PATH") {
+    const Scratch folder("confined");
+    fs::create_directory(folder.path() / "empty");
+    fs::create_directories(folder.path() / "own/bin");
+    const fs::path program = folder.path() / "own/bin/says";
+    std::ofstream(folder.path() / "own/words") << "yes";
+    std::ofstream(program) << "#!/bin/sh\nread -r word <\"${0%/*}/../words\"\necho \"$word\"\n";
+    fs::permissions(program, fs::perms::owner_all);
+    const std::string path =
+        fmt::format("PATH={0}/empty:{0}/own/bin:/usr/bin:/bin", folder.path().string());
+    const Done done = run_of(GATEWAY_PROGRAM, {"--confined", "says"}, "", {path});
+    CHECK(done.status == 0);
+    CHECK(done.out == "yes\n");
+}
+
 // ---------------------------------------------------------------- --accept-loss
 
 TEST_CASE("a loss is accepted, and told as the events' level says") {
@@ -339,9 +359,12 @@ class Serving {
     }
     void is_sent(int signal) const { ::kill(number_, signal); }
     std::string end() {
-        process_.end_within(60s);
+        process_.end_all_within(60s);
+        told_ += all_of(&Process::read_errors, process_);
         return process_.wait();
     }
+    // Once it has ended.
+    bool has_told(const std::string &words) const { return told_.find(words) != std::string::npos; }
 
   private:
     Process process_;
@@ -361,10 +384,34 @@ TEST_CASE("a gateway is asked by signals") {
         gateway.is_sent(stop);
         CHECK(gateway.tells(" stop cause=\"the operator has stopped the gateway\"\n"));
         CHECK(gateway.end() == "ended with status 0");
+        CHECK_FALSE(gateway.has_told("while a day is copied"));
         struct stat found {};
         REQUIRE(::stat((site / fmt::format("day-{}.db", today())).c_str(), &found) == 0);
         CHECK((found.st_mode & 027U) == 0); // others read nothing of it
     }
+}
+
+// A pipe in the place of a file that is copied is a disk that does not answer.
+TEST_CASE("a gateway ends while the disk of its copies does not answer") {
+    const Site site;
+    site.begin([](Config &) {}, "20200101");
+    const fs::path checkpoint = site / "checkpoints/day-20200101.checkpoint";
+    fs::remove(checkpoint);
+    REQUIRE(::mkfifo(checkpoint.c_str(), 0600) == 0);
+    fs::create_directory(site / "copies");
+    site.add("[copies]\nfolder = \"copies\"\n");
+    Serving gateway(site);
+    REQUIRE(gateway.tells(" ready "));
+    // Where somebody has the pipe open to read it, it can be opened to write.
+    Descriptor silent;
+    REQUIRE(comes_true([&] {
+        silent = Descriptor(::open(checkpoint.c_str(), O_WRONLY | O_NONBLOCK | O_CLOEXEC));
+        return silent.number() >= 0;
+    }));
+    gateway.is_sent(SIGTERM);
+    CHECK(gateway.end() == "ended with status 0");
+    CHECK(gateway.has_told(
+        " the gateway ends while a day is copied cause=\"its disk does not answer\"\n"));
 }
 
 // ---------------------------------------------------------------- mireseason-admin
@@ -526,11 +573,18 @@ TEST_CASE("a stream is passed on") {
     CHECK(answered({"stream\nzzzzzzzzabc"}).status == 1);
 }
 
+// Of a long piece it is known at once: what would come behind it is not waited for.
 TEST_CASE("a stream that standard output does not take") {
-    Answering gateway({"stream\n00000003abc00000000"});
-    is(run({"sh", "-c", "exec \"$0\" --socket \"$1\" backup >/dev/full", ADMIN_PROGRAM,
-            gateway.path}),
-       1, "", "mireseason-admin: what was written is not whole: standard output takes no more\n");
+    const std::string longest(longest_piece, 'x');
+    for (const Words &pieces :
+         std::vector<Words>{{"stream\n00000003abc00000000"},
+                            {"stream\n" + length_of_piece(longest_piece), longest}}) {
+        Answering gateway(pieces);
+        is(run({"sh", "-c", "exec \"$0\" --socket \"$1\" backup >/dev/full", ADMIN_PROGRAM,
+                gateway.path}),
+           1, "",
+           "mireseason-admin: what was written is not whole: standard output takes no more\n");
+    }
 }
 
 TEST_CASE("where the operator's socket is") {

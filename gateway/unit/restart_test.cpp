@@ -176,8 +176,15 @@ TEST_CASE("days that would not be copied") {
     CHECK(looked.said() == fmt::format("begins {} to {}{}", looked.day, looked.end, more));
     CHECK(looked.said(12h, Viewer::running_gateway).ends_with(more));
     CHECK(looked.goes_well());
+    looked.site.begin();
+    looked.site.put("program", "2");
+    CHECK(looked.said() ==
+          fmt::format("goes on with {} to {}; the venue's program is another than it began with, "
+                      "and what that gives is compared with what firms were sent{}",
+                      looked.day, looked.end, more));
+    looked.site.put("program", "1");
     fs::create_directory(looked.site / "none");
-    CHECK(looked.said() == fmt::format("begins {} to {}", looked.day, looked.end));
+    CHECK(looked.said() == fmt::format("goes on with {} to {}", looked.day, looked.end));
 }
 
 // ---------------------------------------------------------------- a day that goes on

@@ -18,11 +18,15 @@
 #include <filesystem>
 #include <future>
 #include <memory>
+#include <mutex>
 #include <string>
 #include <string_view>
+#include <thread>
 #include <utility>
 #include <vector>
 
+#include <dirent.h>
+#include <dlfcn.h>
 #include <fmt/chrono.h>
 #include <fmt/format.h>
 #include <sys/socket.h>
@@ -40,6 +44,10 @@ std::string text_of(SystemSeconds moment) {
     return fmt::format("{:%Y-%m-%dT%H:%M:%SZ}", fmt::gmtime(moment.time_since_epoch().count()));
 }
 
+constexpr const char *waits_for_operator =
+    "error waits for the operator: mireseason-admin log accept-loss, or put the log back and "
+    "restart";
+
 // What is answered to these bytes.
 template <class Address>
 std::string answer_at(int family, const Address &address, const std::string &bytes) {
@@ -51,6 +59,34 @@ std::string answer_at(int family, const Address &address, const std::string &byt
               static_cast<ssize_t>(bytes.size()),
           "it takes nothing");
     return rest_of(socket);
+}
+
+// The disk of a folder takes three seconds to answer whoever lists it next: a look at it is given
+// up after two.
+class SlowFolder {
+  public:
+    void is_next(const std::string &path) {
+        const std::lock_guard lock(mutex_);
+        path_ = path;
+    }
+    bool is_it(const std::string &path) {
+        const std::lock_guard lock(mutex_);
+        return path == path_ && !std::exchange(path_, "").empty();
+    }
+
+  private:
+    std::mutex mutex_;
+    std::string path_;
+};
+SlowFolder slow_folder;
+
+extern "C" DIR *fdopendir(int folder) {
+    using Open = DIR *(*)(int);
+    static const auto open = reinterpret_cast<Open>(::dlsym(RTLD_NEXT, "fdopendir"));
+    if (slow_folder.is_it(fs::read_symlink(fmt::format("/proc/self/fd/{}", folder)))) {
+        std::this_thread::sleep_for(3s);
+    }
+    return open(folder);
 }
 
 // It is asked to stop at its end, if it has not ended before.
@@ -86,6 +122,7 @@ class Served {
     Service &service() { return *service_; }
     // The status with which it ends.
     int ended() { return running_.get(); }
+    bool comes_to_end() const { return running_.wait_for(1min) == std::future_status::ready; }
     int stopped(const std::string &why = "enough") {
         service_->ask_to_stop(why);
         return ended();
@@ -179,6 +216,16 @@ TEST_CASE("a day opens, and ends where it is asked to") {
     CHECK(kept->ends == served.midnight + 24h);
     CHECK(served.stopped() == 0);
     CHECK(served.is_told("info stop cause=\"enough\""));
+}
+
+// Nobody is asked to accept a loss where there is none.
+TEST_CASE("a day that fails") {
+    Served served;
+    served.site.put("venue.sh", "exit 3\n");
+    served.start();
+    REQUIRE(served.comes_to_end());
+    CHECK(served.ended() == 1);
+    CHECK_FALSE(served.is_told(waits_for_operator));
 }
 
 TEST_CASE("a day that has not opened") {
@@ -309,6 +356,33 @@ TEST_CASE("days before are signed and copied") {
     CHECK(without.stopped() == 0);
 }
 
+// Each venue's days lie in one folder, and the look at it for the first venue is given up before it
+// ends: what is found for the second is no count of all.
+TEST_CASE("copies on a disk that does not answer in time") {
+    Served served;
+    fs::create_directory(served.site / "copies");
+    fs::create_directory(served.site / "sealed");
+    const std::string one = "command = [\"sh\", \"./venue.sh\"]\nprogram = \"./program\"\n"
+                            "configuration = \"venue.toml\"\nconfined = false\n";
+    std::string text = served.site.text;
+    text.replace(text.find("[venue]"), text.find("[log]") - text.find("[venue]"),
+                 "[venue.north]\n" + one + "[venue.south]\n" + one);
+    text.replace(text.find("day-{date}"), 10, "{venue}-{date}");
+    served.site.put("gateway.toml", text + "[copies]\nfolder = \"copies\"\nsealed = \"sealed\"\n"
+                                           "[operator]\nsocket = \"s\"\n");
+    served.start_as_it_is();
+    REQUIRE(served.comes_to(Phase::ready));
+    const auto says = [&](const std::string &words) {
+        return served.asks({"status"}, true).find("\"days_without_seal\": " + words) !=
+               std::string::npos;
+    };
+    CHECK(says("0"));
+    slow_folder.is_next(served.site / "copies");
+    CHECK(says("\"not known: the disk does not answer\""));
+    CHECK(says("0"));
+    CHECK(served.stopped() == 0);
+}
+
 // ---------------------------------------------------------------- a loss
 
 TEST_CASE("a loss waits for the operator") {
@@ -318,8 +392,7 @@ TEST_CASE("a loss waits for the operator") {
         (served.site / fmt::format("checkpoints/day-{}.checkpoint", served.day)).string();
     fs::remove(kept);
     served.start();
-    REQUIRE(served.comes_to_tell("error waits for the operator: mireseason-admin log accept-loss, "
-                                 "or put the log back and restart"));
+    REQUIRE(served.comes_to_tell(waits_for_operator));
     REQUIRE(served.comes_to(Phase::closed));
     CHECK(served.answers({"status"}, "log accept-loss: there is no checkpoint in " + kept));
     CHECK(served.asks({"log", "accept-loss", "--because", "x"}) ==
