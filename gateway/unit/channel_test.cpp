@@ -4,8 +4,10 @@
 
 #include "check.h"
 #include "identity.h"
+#include "no_events.h"
 #include "one_connection.h"
 #include "session/channel.h"
+#include "session/engine.h"
 
 #include <cstdio>
 #include <filesystem>
@@ -225,6 +227,19 @@ TEST_CASE("protocols") {
         CHECK_MESSAGE(met.is_let_in == each.is_let_in, std::string(each.name));
         CHECK_FALSE_MESSAGE(met.may_be_resumed, std::string(each.name));
     }
+}
+
+TEST_CASE("TLS neither begins nor ends while an engine runs") {
+    const Files files;
+    NoEvents events;
+    const EngineSettings plain;
+    Engine with(files.settings, {}, events);
+    Engine without(plain, {}, events);
+    CHECK_NOTHROW(with.renew(files.settings));
+    CHECK_NOTHROW(without.renew(plain));
+    const char *const fault = "[tls] can't begin or end while the gateway runs";
+    CHECK_THROWS_WITH(with.renew(plain), fault);
+    CHECK_THROWS_WITH(without.renew(files.settings), fault);
 }
 
 TEST_CASE("what is read and written without TLS") {

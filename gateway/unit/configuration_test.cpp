@@ -333,6 +333,10 @@ TEST_CASE("hours that no day has") {
         "line 15: [day] ends = \"16:00\": a day opens before it ends, and this one opens at 16:00 "
         "and ends at 16:00");
     CHECK(
+        fault("opens = \"16:01\"\n" + ends) ==
+        "line 15: [day] ends = \"16:00\": a day opens before it ends, and this one opens at 16:01 "
+        "and ends at 16:00");
+    CHECK(
         fault("opens = \"24:00\"\n") ==
         "line 14: [day] opens = \"24:00\": a day opens before it ends, and this one opens at 24:00 "
         "and ends at 24:00");

@@ -18,6 +18,8 @@
 
 #include <toml++/toml.h>
 
+#include <fmt/format.h>
+
 namespace gateway::tests {
 
 namespace {
@@ -124,6 +126,30 @@ TEST_CASE("a page says what a firm should be asked") {
               std::string::npos,
           "of DLR1");
     check(page.find("<td>off</td>") != std::string::npos, "and nothing of DLR2");
+}
+
+TEST_CASE("a page has what is counted of a firm") {
+    Overview seen;
+    seen.firms.resize(1);
+    FirmMetrics::Counts &firm = seen.firms[0];
+    firm.firm = "DLR1";
+    firm.messages = 1;
+    firm.requests = 2;
+    firm.quotes = 3;
+    firm.hits = 4;
+    firm.refusals = 5;
+    firm.waiting_bytes = 6;
+    std::string cells = "</th><td>off</td>";
+    for (int number = 1; number <= 6; ++number) {
+        cells += fmt::format("<td class=\"number\">{}</td>", number);
+    }
+    const auto shows = [&](const std::string &name) {
+        return html_of(seen).find("<tr><th scope=\"row\">" + name + cells + "</tr>\n") !=
+               std::string::npos;
+    };
+    CHECK(shows("DLR1"));
+    firm.venue = "north";
+    CHECK(shows("DLR1 of north"));
 }
 
 TEST_CASE("pages show text as text") {

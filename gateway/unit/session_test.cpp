@@ -622,6 +622,29 @@ TEST_CASE("the line of a Logon") {
     CHECK_FALSE(line.is_settled);
 }
 
+// After a start of the gateway, and once a log has been read to its end.
+TEST_CASE("a session begins with the numbers that were kept") {
+    SessionNumbers kept;
+    kept.expected = 11;
+    kept.next = 12;
+    kept.had = 3;
+    kept.first_given = 4;
+    kept.last_given = 7;
+    kept.last_kept = 9;
+    kept.is_one_free = false;
+    kept.was_taken = true;
+    kept.is_reset = true;
+    kept.reset_at = 13;
+    kept.is_locked = true;
+    kept.last_logon = 14;
+    kept.is_suspended = true;
+    CHECK(Machine({"F", "", today}, kept).numbers() == kept);
+    Machine machine({"F", "", today}, std::nullopt);
+    CHECK(machine.numbers() == SessionNumbers());
+    machine.begin_with(kept);
+    CHECK(machine.numbers() == kept);
+}
+
 // For the operator: of the connection that has the session, and of no other.
 TEST_CASE("what a firm has not taken yet") {
     Scene scene;

@@ -147,6 +147,17 @@ TEST_CASE("a log has its folder") {
     CHECK(right.machine_fault() == "");
 }
 
+TEST_CASE("the folder of a day is made where what is above it is there") {
+    Right right;
+    right.config.sqlite = right.site / "logs/20261130/day.db";
+    right.config.log_files = right.site / "logs/{date}/day.db";
+    CHECK(fault_of([&] { open_database(right.config); }) != "");
+    CHECK_FALSE(fs::exists(right.site / "logs"));
+    fs::create_directory(right.site / "logs");
+    CHECK(fault_of([&] { open_database(right.config); }) == "");
+    CHECK(fs::exists(right.config.sqlite));
+}
+
 TEST_CASE("what sessions may have to send again has its folder") {
     Right right;
     const std::string fault = "[log] spool: there is no folder " + right.path("spool");

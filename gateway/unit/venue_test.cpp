@@ -7,8 +7,10 @@
 #include "venue/landlock_rules.h"
 #include "venue/venue.h"
 
+#include <atomic>
 #include <chrono>
 #include <csignal>
+#include <ctime>
 #include <filesystem>
 #include <future>
 #include <string>
@@ -16,12 +18,17 @@
 #include <vector>
 
 #include <fmt/ranges.h>
+#include <sys/syscall.h>
+#include <unistd.h>
 
 namespace gateway::tests {
 
 namespace {
 
 using namespace std::chrono_literals;
+
+// How far the clock that measures is ahead of the machine's.
+std::atomic<long> seconds_ahead{0};
 
 class Listener final : public VenueListener {
   public:
@@ -34,8 +41,12 @@ class Listener final : public VenueListener {
 
     // What the venue has said, once its process has ended.
     std::vector<std::string> calls;
+    std::size_t late_start = 0; // the one before which a minute passes
 
-    void venue_starts() override { calls.emplace_back("starts"); }
+    void venue_starts() override {
+        calls.emplace_back("starts");
+        seconds_ahead += calls.size() == late_start ? 60 : 0;
+    }
     void venue_gave(const AnsweredEntry &entry, std::string firm, std::string frame,
                     std::optional<VenueNote> note) override {
         calls.push_back(fmt::format("{} {} {} {} {} {}", entry.place, entry.number, entry.line,
@@ -55,11 +66,12 @@ class Listener final : public VenueListener {
 // which has one line, and so many entries.
 struct Tried {
     Tried(const std::filesystem::path &folder, const std::string &script, std::uint32_t entries = 0,
-          unsigned starts = 1) {
+          unsigned starts = 1, std::size_t late_start = 0) {
         const auto database = open_sqlite(folder / "day.db");
         EntryFeed feed(0);
         Metrics metrics;
         Listener listener;
+        listener.late_start = late_start;
         Venue venue({{"sh", "-c", script}, "version = 1\n", starts}, *database, feed, Digest{},
                     listener, metrics, std::make_shared<spdlog::logger>("none"));
         Digest before{};
@@ -200,6 +212,9 @@ TEST_CASE("so many starts within a minute, and the last words") {
     check(venue.calls == std::vector<std::string>(3, "starts"), "it is started otherwise");
     same<std::string>("the venue ended with status 4 again and again; its last words: one / two",
                       venue.failure, "why it is no more");
+    const Scratch later("venue");
+    const Tried late(later.path(), "exit 4", 0, 2, 2);
+    check(late.calls == std::vector<std::string>(3, "starts"), "a start counts for more");
     const Scratch other("venue");
     const Tried talks(other.path(), "printf '%2040s\\n' x >&2; echo abcdef >&2; exit 4");
     const std::string begin = "the venue ended with status 4 again and again; its last words: ";
@@ -242,6 +257,21 @@ TEST_CASE("what a kernel can forbid") {
     }
 }
 
+// It has ten seconds from the end of its input.
+TEST_CASE("one that does not end is killed") {
+    std::signal(SIGPIPE, SIG_IGN);
+    const Scratch folder("venue");
+    const auto database = open_sqlite(folder.path() / "day.db");
+    EntryFeed feed(0);
+    Metrics metrics;
+    Listener listener;
+    Venue venue({{"sh", "-c", "exec sleep 200"}, "version = 1\n", 1}, *database, feed, Digest{},
+                listener, metrics, std::make_shared<spdlog::logger>("none"));
+    venue.start();
+    const auto stopped = std::async(std::launch::async, [&] { venue.stop(); });
+    check(stopped.wait_for(60s) == std::future_status::ready, "it is waited for without end");
+}
+
 TEST_CASE("one that ends again and again") {
     // As the gateway does: a venue may end while it is fed.
     std::signal(SIGPIPE, SIG_IGN);
@@ -253,3 +283,10 @@ TEST_CASE("one that ends again and again") {
 } // namespace
 
 } // namespace gateway::tests
+
+// In the place of the C library's.
+extern "C" int clock_gettime(clockid_t clock, timespec *now) noexcept {
+    const long result = ::syscall(SYS_clock_gettime, clock, now);
+    now->tv_sec += clock == CLOCK_MONOTONIC ? gateway::tests::seconds_ahead.load() : 0;
+    return static_cast<int>(result);
+}
