@@ -8,12 +8,19 @@
 #include "config/address_range.h"
 #include "config/certified_firms.h"
 #include "firms/day_bytes.h"
+#include "firms/deliveries.h"
 #include "log/session_note_line.h"
+#include "log/sqlite.h"
+#include "log_days.h"
+#include "no_events.h"
+#include "one_connection.h"
 #include "open_market.h"
 #include "session/refusal_words.h"
 
+#include <atomic>
 #include <chrono>
 #include <cstdint>
+#include <future>
 #include <map>
 #include <string>
 #include <string_view>
@@ -38,6 +45,58 @@ std::string limit_is(std::uint64_t bytes) {
 }
 
 } // namespace
+
+// ---------------------------------------------------------------- messages that wait
+
+namespace {
+
+// Takes its time over each message that was handed over, but for the first.
+class SlowToTell final : public NoEvents {
+  public:
+    void delivered(const Delivery &) override {
+        if (++count_ > 1) {
+            goes_on_.wait();
+        }
+    }
+    bool is_at_work() const { return count_ > 1; }
+    void go_on() { let_go_.set_value(); }
+
+  private:
+    std::atomic<int> count_{0};
+    std::promise<void> let_go_;
+    const std::shared_future<void> goes_on_{let_go_.get_future()};
+};
+
+} // namespace
+
+// The first is handed over at once, and the second is at work: there is no room for the fifth.
+TEST_CASE("as many messages wait for a firm as its limits say") {
+    Market market({""}, [](Config &config) { config.waiting_messages = 2; });
+    const auto database = open_sqlite(market.folder() / "beside.db");
+    begin_day(*database);
+    DayThatGoesOn beside(*database);
+    CountingHost host;
+    SessionStart start;
+    start.firm = "DLR1";
+    start.host = &host;
+    SlowToTell events;
+    Engine engine({}, {start}, events);
+    Deliveries deliveries(market.leader().day(), engine, beside.log);
+    Delivery delivery;
+    delivery.session = delivery.firm = "DLR1";
+    delivery.type = "AI";
+    delivery.wire = framed(with_soh("35=AI|297=0|"));
+    deliveries.take(delivery);
+    deliveries.take(delivery);
+    REQUIRE(comes_true([&] { return events.is_at_work(); }));
+    deliveries.take(delivery);
+    deliveries.take(delivery);
+    auto fifth = std::async(std::launch::async, [&] { deliveries.take(delivery); });
+    CHECK(fifth.wait_for(std::chrono::milliseconds(300)) == std::future_status::timeout);
+    events.go_on();
+    fifth.get();
+    deliveries.wait_until_handed_over();
+}
 
 // ---------------------------------------------------------------- credentials
 
