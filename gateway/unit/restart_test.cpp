@@ -282,6 +282,7 @@ TEST_CASE("a log in the place of this day's") {
     });
     CHECK(date.said() ==
           fmt::format("with {} ends with status 3: the log of 20200101 is in its place", date.day));
+    CHECK_THROWS_AS(date.site.begin(), LogNotAccepted); // as it is said
 }
 
 TEST_CASE("each of several venues") {
