@@ -119,8 +119,10 @@ TEST_CASE("a firm's limits and counts") {
     CHECK(market.has({"limit", "INV1"}, "\"messages_burst\"", "\"set\": false"));
     CHECK(market.asks({"limit", "INV1", "day_bytes=configured"}).starts_with(ok));
     CHECK(market.has_firm("INV1", "\"day_bytes_limit\": 1073741824, \"set\": \"\""));
-    CHECK(market.asks({"limit", "INV1", "messages_burst=00500"}) ==
-          "ok\nINV1 has messages_burst=500 from now on, for this day\n");
+    for (const char *number : {"00500", "000000000000500"}) {
+        CHECK(market.asks({"limit", "INV1", fmt::format("messages_burst={}", number)}) ==
+              "ok\nINV1 has messages_burst=500 from now on, for this day\n");
+    }
     for (const char *wrong : {"499", "1073741825", "x", "", "-1", "1000000000000000"}) {
         CHECK(market.asks({"limit", "INV1", fmt::format("messages_burst={}", wrong)}) ==
               "error\nmessages_burst is a number from 500 to 1073741824, or `configured`\n");
