@@ -364,9 +364,14 @@ TEST_CASE("a day that has ended") {
     const Looked ordered;
     ordered.site.begin();
     ordered.site.end("ann(7) end-day");
-    CHECK(ordered.said() == fmt::format("opens no day yet: {} opens at {}", ordered.next,
-                                        text_of(ordered.midnight + 24h)));
+    const auto opens_at = [&ordered](SystemSeconds moment) {
+        return fmt::format("opens no day yet: {} opens at {}", ordered.next, text_of(moment));
+    };
+    CHECK(ordered.said() == opens_at(ordered.midnight + 24h));
     CHECK(ordered.goes_well());
+    ordered.site.add("[day]\nopens = \"13:00\"\nends = \"17:00\"\n");
+    CHECK(ordered.said(12h) == opens_at(ordered.midnight + 37h));
+    CHECK(ordered.said(14h) == opens_at(ordered.midnight + 37h));
 }
 
 TEST_CASE("a day that an operator has ended") {

@@ -321,17 +321,26 @@ TEST_CASE("a day goes on by the hours that it began with") {
     CHECK(served.stopped() == 0);
 }
 
+// Nor by hours of later, which the files have by now.
 TEST_CASE("a day that an operator has ended is not opened again") {
-    Served served;
-    served.site.begin();
-    served.site.end("ann(7) end-day");
-    served.start();
-    REQUIRE(served.comes_to(Phase::closed));
-    CHECK(served.comes_to_tell("info an operator has ended this day: it is not opened again date=" +
-                               served.day));
-    CHECK(
-        served.comes_to_tell(fmt::format("info closed until={} date={}", served.end, served.next)));
-    CHECK(served.stopped() == 0);
+    struct Hours {
+        const char *text;
+        std::chrono::minutes opens; // on the next day, from this one's midnight
+    };
+    for (const Hours &hours :
+         {Hours{"", 24h}, {"[day]\nopens = \"23:58\"\nends = \"23:59\"\n", 47h + 58min}}) {
+        CAPTURE(hours.text);
+        Served served;
+        served.site.begin();
+        served.site.end("ann(7) end-day");
+        served.start(hours.text);
+        REQUIRE(served.comes_to(Phase::closed));
+        CHECK(served.comes_to_tell(
+            "info an operator has ended this day: it is not opened again date=" + served.day));
+        CHECK(served.comes_to_tell(fmt::format(
+            "info closed until={} date={}", text_of(served.midnight + hours.opens), served.next)));
+        CHECK(served.stopped() == 0);
+    }
 }
 
 TEST_CASE("days before are signed and copied") {

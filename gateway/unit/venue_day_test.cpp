@@ -225,7 +225,8 @@ void a_first_entry_written_over(const std::filesystem::path &folder) {
     } catch (const std::runtime_error &fault) {
         told = fault.what();
     }
-    check(told.ends_with("seal.place has something else than a number from -1 to 4294967294"), told);
+    check(told.ends_with("seal.place has something else than a number from -1 to 4294967294"),
+          told);
 }
 
 TEST_CASE("given again before sessions") {

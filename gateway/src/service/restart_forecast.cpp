@@ -307,8 +307,7 @@ DayOfStart day_of_start(const std::vector<Config> &configs, SystemSeconds now, V
         return {begun->date, begun, true};
     }
     const bool is_read = viewer == Viewer::operators_check || !configs.front().sqlite.empty();
-    const bool is_ended =
-        by_rules.opens <= now && is_read && is_ended_by_order(configs, by_rules.date);
+    const bool is_ended = is_read && is_ended_by_order(configs, by_rules.date);
     const TradingDay day = is_ended ? days.first_after(by_rules.ends) : by_rules;
     return {day.date, day, false};
 }

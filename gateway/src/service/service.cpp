@@ -288,12 +288,12 @@ TradingDay Service::day_after(SystemSeconds now) {
 }
 
 // A day that is open is not closed by hours that were changed since it began: that takes an
-// operator's word. One that was ended by such a word is over.
+// operator's word. One that was ended by such a word is over, though it opens later by now.
 TradingDay Service::day_of_start() {
     const SystemSeconds moment = now();
     const TradingDay by_rules = day_after(moment);
     const auto begun = day_that_goes_on(first_, by_rules, moment);
-    if (!begun && by_rules.opens <= moment && is_ended_by_order(first_, by_rules.date)) {
+    if (!begun && is_ended_by_order(first_, by_rules.date)) {
         events_->info("an operator has ended this day: it is not opened again date={}",
                       by_rules.date);
         return day_after(by_rules.ends);
