@@ -1,5 +1,2 @@
-mod ComesLemmas
-mod FollowLemmas
-mod NotedLemmas
-mod PlacedLemmas
+mod EventLemmas
 mod ViewLemmas

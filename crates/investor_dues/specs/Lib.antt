@@ -1,1 +1,1 @@
-pub mod Followed
+pub mod DueDays

@@ -71,7 +71,7 @@ fn names_again(alloc: Global, names: &[Name]) -> Result<Vec<Name>, Memory>
 }
 
 /// Lets an item happen at the desk.
-#[tactic(auto, unfolding(investor_views::specs::InvestorView::after_due, investor_views::specs::InvestorView::coming_by, investor_views::specs::Comings::after_coming))]
+#[tactic(auto, unfolding(investor_views::specs::InvestorView::after_due, investor_views::specs::InvestorView::event_by, venue_steps::specs::Brought::investor_with))]
 fn happen(desk: &mut InvestorDesk, due: &InvestorDue) -> Result<(), Memory>
     ensures { OnOk result (desk.new ≡ spec.after_due desk.old due.now) }
 {
@@ -104,7 +104,7 @@ fn happen(desk: &mut InvestorDesk, due: &InvestorDue) -> Result<(), Memory>
 }
 
 /// A quote comes, whose word is the number under which it is shown.
-#[tactic(auto, unfolding(investor_views::specs::InvestorView::after_due, investor_views::specs::InvestorView::coming_by, investor_views::specs::Comings::after_coming))]
+#[tactic(auto, unfolding(investor_views::specs::InvestorView::after_due, investor_views::specs::InvestorView::event_by, venue_steps::specs::Brought::investor_with))]
 fn show(
     desk: &mut InvestorDesk,
     moment: Moment,
@@ -139,7 +139,7 @@ fn next_word(desk: &InvestorDesk) -> Result<u32, Memory>
 }
 
 /// A quote is taken back.
-#[tactic(auto, unfolding(investor_views::specs::InvestorView::after_due, investor_views::specs::InvestorView::coming_by, investor_views::specs::Comings::after_coming))]
+#[tactic(auto, unfolding(investor_views::specs::InvestorView::after_due, investor_views::specs::InvestorView::event_by, venue_steps::specs::Brought::investor_with))]
 fn take_back(
     desk: &mut InvestorDesk,
     moment: Moment,
@@ -157,7 +157,7 @@ fn take_back(
 }
 
 /// A dealer declines.
-#[tactic(auto, unfolding(investor_views::specs::InvestorView::after_due, investor_views::specs::InvestorView::coming_by, investor_views::specs::Comings::after_coming))]
+#[tactic(auto, unfolding(investor_views::specs::InvestorView::after_due, investor_views::specs::InvestorView::event_by, venue_steps::specs::Brought::investor_with))]
 fn decline(
     desk: &mut InvestorDesk,
     moment: Moment,
@@ -173,7 +173,7 @@ fn decline(
 }
 
 /// A hit or a pass is answered.
-#[tactic(auto, unfolding(investor_views::specs::InvestorView::after_due, investor_views::specs::InvestorView::coming_by, investor_views::specs::Comings::after_coming))]
+#[tactic(auto, unfolding(investor_views::specs::InvestorView::after_due, investor_views::specs::InvestorView::event_by, venue_steps::specs::Brought::investor_with))]
 fn answer(
     desk: &mut InvestorDesk,
     moment: Moment,
@@ -194,7 +194,7 @@ fn answer(
 }
 
 /// A request expires.
-#[tactic(auto, unfolding(investor_views::specs::InvestorView::after_due, investor_views::specs::InvestorView::coming_by, investor_views::specs::Comings::after_coming))]
+#[tactic(auto, unfolding(investor_views::specs::InvestorView::after_due, investor_views::specs::InvestorView::event_by, venue_steps::specs::Brought::investor_with))]
 fn expire(desk: &mut InvestorDesk, moment: Moment, request: u32) -> Result<(), Memory>
     ensures { OnOk result (desk.new ≡ spec.after_due desk.old
         (InvestorDue.Expired request moment)) }

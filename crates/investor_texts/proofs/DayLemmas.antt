@@ -1,17 +1,17 @@
--- What is printed of days that were followed for an investor.
+-- What is printed of the days of an investor.
 use Rattle.std.proofs.Common.{◌≡◌, ℕ, Bool, List, Some, Ok, refl, sym, ap, subst, ◌∙◌}
 use Rattle.std.specs.Prelude.{IsTrue, ◌↔◌}
 use Rattle.venue_rows.specs.Rows.{Configuration, investor_numbered}
-use Rattle.venue_rows.specs.declared.investor_rows.InvestorRow.{InvestorRow}
 use Rattle.step_replay.specs.LiveDays.{live_steps}
 use Rattle.step_replay.specs.declared.steps.Step.{Step}
-use Rattle.investor_dues.specs.Followed.{IsFollowed}
-use Rattle.investor_dues.specs.declared.follow.FollowedInvestor.{FollowedInvestor}
+use Rattle.step_replay.specs.LiveStanding.{IsAt}
+use Rattle.investor_dues.specs.DueDays.{IsDayOf}
+use Rattle.investor_dues.specs.declared.days.DueDay.{DueDay}
 use Rattle.investor_views.specs.InvestorDues.{due_to_investor}
 use Rattle.investor_views.specs.InvestorView.{seen_by}
 use Rattle.investor_views.specs.declared.dues.InvestorDue.{InvestorDue}
 use Rattle.venue_text.specs.LiveLines.{Taken}
-use Rattle.investor_texts.specs.CompareCommand.{AreCompared, IsFollowedRun, IsRunOf, IsSameSeen}
+use Rattle.investor_texts.specs.CompareCommand.{AreCompared, IsRunDay, IsRunOf, IsSameSeen}
 use Rattle.investor_texts.specs.CompareCommand.{Run, seen_in}
 use Rattle.investor_texts.specs.DueCommand.{IsTextOf, IsTextOfList}
 use Rattle.investor_texts.specs.LineDays.{AreDaysCompared, IsDayText, KeepsDay}
@@ -21,29 +21,29 @@ use Rattle.investor_texts.specs.declared.line_days.InvestorDay.{InvestorDay}
 -- the text of a list that is what was due
 pub text_of_day : (config : Configuration) (number : ℕ) (steps : List Step)
     (dues : List InvestorDue) (text : List ℕ) → IsTextOfList config number dues text
-    → ((row : InvestorRow) → investor_numbered config number ≡ Some row
-    → dues ≡ due_to_investor config number steps)
-    → IsTextOf config number steps text
+    → dues ≡ due_to_investor config number steps → IsTextOf config number steps text
 text_of_day config number steps dues text is due = record {
   row = is.row;
   is_investor = is.is_investor;
-  printed = is.printed
-      ∙ ap (investor_text (seen_by config is.row)) (due is.row is.is_investor);
+  printed = is.printed ∙ ap (investor_text (seen_by config is.row)) due;
 }
 
 -- the same of a day that comes line by line
 pub text_of_kept : (name : List ℕ) (config : Configuration) (taken : Taken) (day : InvestorDay)
     (dues : List InvestorDue) (text : List ℕ) → KeepsDay name config taken day
     → IsTextOfList day.config day.investor dues text
-    → ((c : Configuration) (n : ℕ) (row : InvestorRow) (steps : List Step)
-    → IsFollowed c n row steps day.followed → dues ≡ due_to_investor c n steps)
+    → ((steps : List Step) → IsAt day.config steps day.venue
+    → dues ≡ due_to_investor day.config day.investor (live_steps steps))
     → IsDayText name config taken.steps text
 text_of_kept name config taken day dues text keeps is due = record {
   investor = day.investor;
   named = keeps.named;
   text_is = text_of_day config day.investor (live_steps taken.steps) dues text
       (subst (λ (c : Configuration). IsTextOfList c day.investor dues text) keeps.config_is is)
-      (λ row known. due config day.investor keeps.row (live_steps taken.steps) keeps.followed_is);
+      (due taken.steps (subst (λ (c : Configuration). IsAt c taken.steps day.venue)
+      (sym keeps.config_is) keeps.venue_is)
+      ∙ ap (λ (c : Configuration). due_to_investor c day.investor (live_steps taken.steps))
+      keeps.config_is);
 }
 
 -- Two days.
@@ -56,21 +56,16 @@ run_row config number steps run is =
     ∙ ap (λ (c : Configuration). investor_numbered c run.investor) (sym is.config_is)
     ∙ run.is_investor
 
--- a run whose day was followed
-pub run_followed : (config : Configuration) (number : ℕ) (given steps : List Step)
-    (followed : FollowedInvestor) (run : Run) → IsRunOf config number steps run → given ≡ steps
-    → ((row : InvestorRow) → investor_numbered config number ≡ Some row
-    → IsFollowed config number row given followed)
-    → IsFollowedRun number followed run
-run_followed config number given steps followed run is same follows = record {
+-- a run that has this day
+pub run_day : (config : Configuration) (number : ℕ) (given steps : List Step) (day : DueDay)
+    (run : Run) → IsRunOf config number steps run → given ≡ steps → IsDayOf config number given day
+    → IsRunDay number day run
+run_day config number given steps day run is same day_is = record {
   investor_is = is.investor_is;
-  followed_is =
-      subst (λ (c : Configuration). IsFollowed c run.investor run.row run.steps followed)
-      (sym is.config_is)
-      (subst (λ (n : ℕ). IsFollowed config n run.row run.steps followed) (sym is.investor_is)
-      (subst (λ (l : List Step). IsFollowed config number run.row l followed)
-      (same ∙ sym is.steps_are)
-      (follows run.row (run_row config number steps run is))));
+  day_is =
+      subst (λ (c : Configuration). IsDayOf c run.investor run.steps day) (sym is.config_is)
+      (subst (λ (n : ℕ). IsDayOf config n run.steps day) (sym is.investor_is)
+      (subst (λ (l : List Step). IsDayOf config number l day) (same ∙ sym is.steps_are) day_is));
 }
 
 -- whether the investor of two runs sees the same
@@ -92,10 +87,12 @@ runs_seen config other_config number other_number steps other_steps is_same firs
 
 -- the run of a day that comes line by line
 run_kept : (name : List ℕ) (config : Configuration) (taken : Taken) (day : InvestorDay)
-    → KeepsDay name config taken day → (run : Run) × ((run.investor ≡ day.investor)
-    × (IsRunOf config day.investor (live_steps taken.steps) run
-    × IsFollowedRun day.investor day.followed run))
-run_kept name config taken day keeps =
+    (ended : DueDay) → KeepsDay name config taken day
+    → ((steps : List Step) → IsAt day.config steps day.venue
+    → IsDayOf day.config day.investor (live_steps steps) ended)
+    → (run : Run) × ((run.investor ≡ day.investor)
+    × (IsRunOf config day.investor (live_steps taken.steps) run × IsRunDay day.investor ended run))
+run_kept name config taken day ended keeps ends =
     let run : Run = record {
       config = config;
       investor = day.investor;
@@ -108,24 +105,35 @@ run_kept name config taken day keeps =
         refl,
         (
           record { config_is = refl; investor_is = refl; steps_are = refl },
-          record { investor_is = refl; followed_is = keeps.followed_is },
+          record {
+            investor_is = refl;
+            day_is = subst (λ (c : Configuration).
+                IsDayOf c day.investor (live_steps taken.steps) ended) keeps.config_is
+                (ends taken.steps (subst (λ (c : Configuration). IsAt c taken.steps day.venue)
+                (sym keeps.config_is) keeps.venue_is));
+          },
         ),
       ),
     )
 
 pub days_compared : (name : List ℕ) (config other_config : Configuration)
-    (taken other_taken : Taken) (one other : InvestorDay) (is_same : Bool) (text : List ℕ)
+    (taken other_taken : Taken) (one other : InvestorDay) (ended other_ended : DueDay)
+    (is_same : Bool) (text : List ℕ)
     → KeepsDay name config taken one → KeepsDay name other_config other_taken other
+    → ((steps : List Step) → IsAt one.config steps one.venue
+    → IsDayOf one.config one.investor (live_steps steps) ended)
+    → ((steps : List Step) → IsAt other.config steps other.venue
+    → IsDayOf other.config other.investor (live_steps steps) other_ended)
     → IsSameSeen one.config one.investor other.config other.investor is_same
-    → ((first second : Run) → IsFollowedRun one.investor one.followed first
-    → IsFollowedRun other.investor other.followed second
+    → ((first second : Run) → IsRunDay one.investor ended first
+    → IsRunDay other.investor other_ended second
     → IsTrue is_same ↔ (seen_in first ≡ seen_in second)
     → AreCompared first second text)
     → AreDaysCompared name config taken.steps other_config other_taken.steps text
-days_compared name config other_config taken other_taken one other is_same text keeps other_keeps
-    seen lines =
-    let first = run_kept name config taken one keeps in
-    let second = run_kept name other_config other_taken other other_keeps in
+days_compared name config other_config taken other_taken one other ended other_ended is_same text
+    keeps other_keeps ends other_ends seen lines =
+    let first = run_kept name config taken one ended keeps ends in
+    let second = run_kept name other_config other_taken other other_ended other_keeps other_ends in
     let steps = live_steps taken.steps in
     let other_steps = live_steps other_taken.steps in
     let both : IsSameSeen config one.investor other_config other.investor is_same =

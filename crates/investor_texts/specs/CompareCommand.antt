@@ -3,8 +3,8 @@ use Rattle.std.specs.Prelude.{◌≡◌, ◌↔◌, ℕ, Bool, IsTrue, List, Opt
 use Rattle.venue_rows.specs.Rows.{Configuration, investor_numbered, values_of}
 use Rattle.venue_rows.specs.declared.investor_rows.InvestorRow.{InvestorRow}
 use Rattle.step_replay.specs.declared.steps.Step.{Step}
-use Rattle.investor_dues.specs.Followed.{IsFollowed}
-use Rattle.investor_dues.specs.declared.follow.FollowedInvestor.{FollowedInvestor}
+use Rattle.investor_dues.specs.DueDays.{IsDayOf}
+use Rattle.investor_dues.specs.declared.days.DueDay.{DueDay}
 use Rattle.investor_views.specs.InvestorDues.{due_to_investor}
 use Rattle.investor_views.specs.InvestorView.{SeenMarket, seen_by}
 use Rattle.investor_views.specs.declared.dues.InvestorDue.{InvestorDue}
@@ -27,10 +27,10 @@ pub record IsRunOf (config : Configuration) (investor : ℕ) (steps : List Step)
     pub investor_is : run.investor ≡ investor
     pub steps_are : run.steps ≡ steps
 
--- a run whose day was followed
-pub record IsFollowedRun (investor : ℕ) (followed : FollowedInvestor) (run : Run) : Type 0 where
+-- a run that has this day
+pub record IsRunDay (investor : ℕ) (day : DueDay) (run : Run) : Type 0 where
   pub investor_is : run.investor ≡ investor
-  pub followed_is : IsFollowed run.config run.investor run.row run.steps followed
+  pub day_is : IsDayOf run.config run.investor run.steps day
 
 -- what the investor of a run sees
 abbrev pub seen_in : Run → SeenMarket

@@ -6,12 +6,12 @@ use Rattle.std.specs.Option.{option_to_list}
 use Rattle.venue_rows.specs.Rows.{Configuration, investor_numbered, values_of}
 use Rattle.venue_rows.specs.declared.investor_rows.InvestorRow.{InvestorRow}
 use Rattle.step_replay.specs.LiveDays.{live_steps}
+use Rattle.step_replay.specs.LiveStanding.{IsAt}
 use Rattle.step_replay.specs.declared.steps.Step.{Step}
 use Rattle.input_lines.specs.ResultSteps.{◌>>=◌}
 use Rattle.input_lines.specs.VenueParts.{venue_of}
 use Rattle.input_lines.specs.declared.faults.ProgramFault.{ProgramFault}
 use Rattle.venue_text.specs.LiveLines.{Taken, nothing_taken, with_any_line}
-use Rattle.investor_dues.specs.Followed.{IsFollowed}
 use Rattle.investor_texts.specs.CompareCommand.{AreCompared, IsRunOf, Run}
 use Rattle.investor_texts.specs.DueCommand.{IsTextOf, investor_by}
 use Rattle.investor_texts.specs.declared.line_days.InvestorDay.{InvestorDay}
@@ -30,7 +30,7 @@ pub record KeepsDay (name : List ℕ) (config : Configuration) (taken : Taken) (
   pub heard_is : day.heard ≡ taken.heard
   pub row : InvestorRow
   pub is_investor : investor_numbered config day.investor ≡ Some row
-  pub followed_is : IsFollowed config day.investor row (live_steps taken.steps) day.followed
+  pub venue_is : IsAt config taken.steps day.venue
 
 -- before the first line of steps
 pub record OpensDay (name text : List ℕ) (day : InvestorDay) : Type 0 where

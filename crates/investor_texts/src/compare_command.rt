@@ -1,9 +1,7 @@
 //! What `compare --investor` prints.
 ghost use Rattle.std.specs.Prelude.{◌≡◌, ◌≢◌, ◌↔◌, slice_get, Err, IfOk, IfErr, IsTrue};
-ghost use Rattle.std.specs.Prelude.{is_some, true};
 ghost use Rattle.investor_texts.specs.CompareCommand as spec;
 ghost use Rattle.investor_texts.specs.DueCommand.{investor_by};
-ghost use Rattle.venue_rows.specs.Rows.{investor_numbered};
 ghost use Rattle.venue_text.specs.AskedDays.{two_days};
 ghost use Rattle.venue_text.specs.CompareText.{IsFirstDifference, sent_on};
 
@@ -11,7 +9,7 @@ use crate::asked_days::read_investors_day;
 use crate::same_market::is_same_seen;
 use fix_fields::Memory;
 use input_lines::{MOST_INPUT, ProgramFault, two_days_parts};
-use investor_dues::{FollowedInvestor, InvestorDue, followed_day, is_same_due};
+use investor_dues::{DueDay, InvestorDue, is_same_due};
 use std::alloc::Global;
 use step_replay::World;
 use venue_text::{AskedDay, message_difference, sent_in, three_lines};
@@ -44,38 +42,34 @@ pub fn investor_compare_text(
 
 /// The three lines of two days.
 fn days_compared(alloc: Global, one: &AskedDay, other: &AskedDay) -> Result<Vec<u8>, Memory>
-    requires one { is_some (investor_numbered one.now.venue one.now.firm) ≡ true }
-    requires other { is_some (investor_numbered other.now.venue other.now.firm) ≡ true }
     ensures { IfOk result (λ text. (first second : spec.Run)
         → spec.IsRunOf one.now.venue one.now.firm one.now.steps.items first
         → spec.IsRunOf other.now.venue other.now.firm other.now.steps.items second
         → spec.AreCompared first second text.items) }
 {
-    let first = followed_day(alloc, &one.venue, one.steps.as_slice(), one.firm)?;
-    let second = followed_day(alloc, &other.venue, other.steps.as_slice(), other.firm)?;
+    let first = DueDay::of_steps(alloc, &one.venue, one.steps.as_slice(), one.firm)?;
+    let second = DueDay::of_steps(alloc, &other.venue, other.steps.as_slice(), other.firm)?;
     let seen = is_same_seen(&one.venue, one.firm, &other.venue, other.firm);
     let text = lines_of(alloc, seen, first, one.firm, second, other.firm)?;
     Ok(text)
 }
 
-/// The three lines, by whether the investor sees the same, and by the days that were followed.
+/// The three lines, by whether the investor sees the same, and by its two days.
 pub(crate) fn lines_of(
     alloc: Global,
     is_same_seen: bool,
-    one: FollowedInvestor,
+    one: DueDay,
     investor: u16,
-    other: FollowedInvestor,
+    other: DueDay,
     other_investor: u16,
 ) -> Result<Vec<u8>, Memory>
     ensures { IfOk result (λ text. (first second : spec.Run)
-        → spec.IsFollowedRun investor one first → spec.IsFollowedRun other_investor other second
+        → spec.IsRunDay investor one first → spec.IsRunDay other_investor other second
         → IsTrue is_same_seen ↔ (spec.seen_in first ≡ spec.seen_in second)
         → spec.AreCompared first second text.items) }
 {
-    let (dues, world) = one.into_parts();
-    let (other_dues, other_world) = other.into_parts();
-    let due = due_difference(dues.as_slice(), other_dues.as_slice());
-    let messages = messages_differ(&world, investor, &other_world, other_investor);
+    let due = due_difference(one.dues.as_slice(), other.dues.as_slice());
+    let messages = messages_differ(&one.world, investor, &other.world, other_investor);
     let text = three_lines(alloc, is_same_seen, due, messages)?;
     Ok(text)
 }

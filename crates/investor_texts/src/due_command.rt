@@ -1,14 +1,13 @@
 //! What `due --investor` prints.
-ghost use Rattle.std.specs.Prelude.{◌≡◌, ◌≢◌, Err, IfOk, IfErr, is_some, true};
+ghost use Rattle.std.specs.Prelude.{◌≡◌, ◌≢◌, Err, IfOk, IfErr};
 ghost use Rattle.investor_texts.specs.DueCommand as spec;
-ghost use Rattle.venue_rows.specs.Rows.{investor_numbered};
 ghost use Rattle.venue_text.specs.AskedDays.{one_day};
 
 use crate::asked_days::read_investors_day;
 use crate::text_writing::investor_text;
 use fix_fields::Memory;
 use input_lines::{MOST_INPUT, ProgramFault, day_parts};
-use investor_dues::{InvestorDue, InvestorSeen, followed_day};
+use investor_dues::{DueDay, InvestorDue, InvestorSeen};
 use std::alloc::Global;
 use venue_rows::VenueConfig;
 use venue_text::AskedDay;
@@ -34,13 +33,11 @@ pub fn investor_due_text(alloc: Global, name: &[u8], input: &[u8]) -> Result<Vec
 
 /// The due text of the investor of a day.
 fn day_text(alloc: Global, day: &AskedDay) -> Result<Vec<u8>, Memory>
-    requires { is_some (investor_numbered day.now.venue day.now.firm) ≡ true }
     ensures { IfOk result (λ text. spec.IsTextOf day.now.venue day.now.firm
         day.now.steps.items text.items) }
 {
-    let followed = followed_day(alloc, &day.venue, day.steps.as_slice(), day.firm)?;
-    let (dues, _) = followed.into_parts();
-    let text = text_of(alloc, &day.venue, day.firm, dues.as_slice())?;
+    let due = DueDay::of_steps(alloc, &day.venue, day.steps.as_slice(), day.firm)?;
+    let text = text_of(alloc, &day.venue, day.firm, due.dues.as_slice())?;
     Ok(text)
 }
 

@@ -1,12 +1,10 @@
 //! A day that comes line by line, of which the due text of an investor is printed at its end.
-ghost use Rattle.std.specs.Prelude.{◌≡◌, ◌≢◌, ◌++◌, ◌∷◌, [], List, ℕ, Some, Err, IfOk, IfErr, OnOk};
+ghost use Rattle.std.specs.Prelude.{◌≡◌, ◌≢◌, ◌++◌, List, ℕ, Some, Err, IfOk, IfErr, OnOk};
 ghost use Rattle.input_lines.specs.StepReading.{steps_in};
-ghost use Rattle.investor_dues.specs.Followed.{IsFollowed};
 ghost use Rattle.investor_texts.specs.LineDays as spec;
-ghost use Rattle.step_replay.specs.LiveDays.{live_steps};
+ghost use Rattle.step_replay.specs.LiveStanding.{IsAt};
 ghost use Rattle.step_replay.specs.declared.steps.Step.{Step};
 ghost use Rattle.venue_rows.specs.Rows.{Configuration, values_of};
-ghost use Rattle.venue_rows.specs.declared.investor_rows.InvestorRow.{InvestorRow};
 ghost use Rattle.venue_text.specs.LiveLines.{Taken};
 
 use crate::asked_days::asked_investor;
@@ -15,22 +13,22 @@ use crate::due_command::text_of;
 use crate::same_market::is_same_seen;
 use fix_fields::Memory;
 use input_lines::{Heard, ProgramFault, Spelled, is_skipped, push_steps, read_venue};
-use investor_dues::FollowedInvestor;
+use investor_dues::DueDay;
 use std::alloc::Global;
-use step_replay::Step;
+use step_replay::{LiveVenue, Step};
 use venue_rows::VenueConfig;
 use venue_text::read_live_line;
 
 /// The fault of a line, if it has one.
 pub type LineFault = Option<ProgramFault>;
 
-/// A day of a venue that comes line by line, followed for one investor.
+/// A day of a venue that comes line by line, kept for one investor.
 #[derive(Drop)]
 pub struct InvestorDay {
     pub(crate) config: VenueConfig,
     pub(crate) investor: u16,
     pub(crate) heard: Heard,
-    pub(crate) followed: FollowedInvestor,
+    pub(crate) venue: LiveVenue,
 }
 
 impl InvestorDay {
@@ -45,14 +43,14 @@ impl InvestorDay {
     {
         let config = read_venue(alloc, text)?;
         let investor = asked_investor(&config, name)?;
-        let followed = FollowedInvestor::open(alloc, &config, investor)?;
+        let venue = LiveVenue::open(alloc, &config)?;
         let firms = config.dealers().len() + config.investors().len();
         let heard = Heard::nothing(alloc, firms)?;
         Ok(InvestorDay {
             config,
             investor,
             heard,
-            followed,
+            venue,
         })
     }
 
@@ -70,7 +68,7 @@ impl InvestorDay {
             Ok(spelled) => spelled,
             Err(fault) => return refused(fault),
         };
-        follow(alloc, &self.config, &mut self.followed, spelled)?;
+        follow(alloc, &self.config, &mut self.venue, spelled)?;
         Ok(None)
     }
 
@@ -83,11 +81,11 @@ impl InvestorDay {
         let InvestorDay {
             config,
             investor,
-            followed,
+            venue,
             ..
         } = self;
-        let (dues, _) = followed.into_parts();
-        let text = text_of(alloc, &config, investor, dues.as_slice())?;
+        let day = DueDay::of_live(alloc, &config, venue, investor)?;
+        let text = text_of(alloc, &config, investor, day.dues.as_slice())?;
         Ok(text)
     }
 }
@@ -107,52 +105,34 @@ fn refused(fault: ProgramFault) -> Result<LineFault, Memory>
 fn follow(
     alloc: Global,
     config: &VenueConfig,
-    followed: &mut FollowedInvestor,
+    venue: &mut LiveVenue,
     spelled: Spelled,
 ) -> Result<(), Memory>
-    ensures { OnOk result ((row : InvestorRow) (number : ℕ) (steps : List Step)
-        → IsFollowed config.now number row (live_steps steps) followed.old
-        → IsFollowed config.now number row
-        (live_steps (steps ++ steps_in (values_of config.now) spelled)) followed.new) }
+    ensures { OnOk result ((steps : List Step) → IsAt config.now steps venue.old
+        → IsAt config.now (steps ++ steps_in (values_of config.now) spelled) venue.new) }
 {
     let mut steps = Vec::new(alloc);
     push_steps(config, &mut steps, spelled)?;
-    follow_all(alloc, config, followed, steps.as_slice())?;
+    follow_all(alloc, config, venue, steps.as_slice())?;
     Ok(())
 }
 
-/// Steps are done, each with all duties that it leaves.
+/// Steps are done, each with all duties that it leaves. One that names what the venue does not have
+/// is refused, as memory is.
 fn follow_all(
     alloc: Global,
     config: &VenueConfig,
-    followed: &mut FollowedInvestor,
+    venue: &mut LiveVenue,
     more: &[Step],
 ) -> Result<(), Memory>
-    ensures { OnOk result ((row : InvestorRow) (number : ℕ) (steps : List Step)
-        → IsFollowed config.now number row (live_steps steps) followed.old
-        → IsFollowed config.now number row (live_steps (steps ++ more.now)) followed.new) }
+    ensures { OnOk result ((steps : List Step) → IsAt config.now steps venue.old
+        → IsAt config.now (steps ++ more.now) venue.new) }
 {
     for step in more {
-        follow_step(alloc, config, followed, step)?;
+        let Ok(_) = venue.step(alloc, config, step) else {
+            return Err(Memory);
+        };
     }
-    Ok(())
-}
-
-/// A step is done, with all duties that it leaves.
-fn follow_step(
-    alloc: Global,
-    config: &VenueConfig,
-    followed: &mut FollowedInvestor,
-    step: &Step,
-) -> Result<(), Memory>
-    ensures { OnOk result ((row : InvestorRow) (number : ℕ) (steps : List Step)
-        → IsFollowed config.now number row (live_steps steps) followed.old
-        → IsFollowed config.now number row (live_steps (steps ++ step.now ∷ [])) followed.new) }
-{
-    let Some(_) = config.investor(followed.firm()) else {
-        return Err(Memory);
-    };
-    followed.step_live(alloc, config, step)?;
     Ok(())
 }
 
@@ -169,16 +149,21 @@ pub fn investors_compared_text(
         → spec.AreDaysCompared name config taken.steps other_config other_taken.steps
         text.items) }
 {
-    let seen = is_same_seen(&one.config, one.investor, &other.config, other.investor);
-    let investor = one.investor;
-    let other_investor = other.investor;
-    let text = lines_of(
-        alloc,
-        seen,
-        one.followed,
+    let InvestorDay {
+        config,
         investor,
-        other.followed,
-        other_investor,
-    )?;
+        venue,
+        ..
+    } = one;
+    let InvestorDay {
+        config: other_config,
+        investor: other_investor,
+        venue: other_venue,
+        ..
+    } = other;
+    let seen = is_same_seen(&config, investor, &other_config, other_investor);
+    let first = DueDay::of_live(alloc, &config, venue, investor)?;
+    let second = DueDay::of_live(alloc, &other_config, other_venue, other_investor)?;
+    let text = lines_of(alloc, seen, first, investor, second, other_investor)?;
     Ok(text)
 }

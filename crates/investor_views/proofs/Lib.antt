@@ -1,11 +1,9 @@
-mod ArrivalLemmas
-mod DayLemmas
-mod DeskLemmas
-mod ItemLemmas
 mod ClosingItems
+mod DayLemmas
+mod FitLemmas
+mod ItemLemmas
 mod ListLemmas
 mod NumberedBook
 mod NumberLemmas
-mod PlaceNone
 mod Renamed
 mod ViewLemmas

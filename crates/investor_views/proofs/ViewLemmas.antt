@@ -1,9 +1,11 @@
--- What the desk of an investor sends for all that comes to it is the investor view of what is due.
+-- What the desk of an investor sends for events is the desk view of what is due by them, and where all
+-- fit the investor view.
 use Rattle.std.proofs.Common.{◌≡◌, ℕ, ◌+◌, Bool, true, false, List, [], ◌∷◌, ◌++◌, map, fold}
 use Rattle.std.proofs.Common.{length, refl, ap, ap₂, sym, subst, ◌∙◌, arith, ◌&&◌, Option, None}
+use Rattle.std.proofs.lemmas.Bool.{and_parts}
 use Rattle.std.proofs.lemmas.List.{append-nil, append_assoc, map-append}
 use Rattle.quote_messages.specs.declared.out_messages.OutMessage.{OutMessage}
-use Rattle.investor_desk.specs.InvestorFacts.{InvestorFact, InvestorBook, book_of, knows, offers_of}
+use Rattle.investor_desk.specs.InvestorFacts.{InvestorFact, InvestorBook, book_of, offers_of}
 use Rattle.investor_desk.specs.InvestorRules.{InvestorMarket}
 use Rattle.investor_desk.specs.InvestorDesk.{DeskEvents, book_at, no_events, with_event}
 use Rattle.investor_desk.specs.InvestorOutput.{DeskState, after_event, desk_after, event_facts}
@@ -15,12 +17,12 @@ use Rattle.investor_desk.specs.declared.events.InvestorEvent.{InvestorEvent}
 use Rattle.investor_desk.specs.declared.events.InvestorEvent.TheVariants as event
 use Rattle.quote_messages.specs.Written.{written}
 use Rattle.venue_steps.specs.InvestorSteps.{replies_to, with_event_if}
-use Rattle.venue_steps.specs.Brought.{investor_with}
-use Rattle.venue_steps.specs.declared.arrivals.ForInvestor.TheVariants as to_investor
-use Rattle.investor_views.specs.Comings.{Coming, Own, For, after_coming, desk_by}
-use Rattle.investor_views.specs.DeskView.{coming_of, event_dues, event_dues_from, with_item}
-use Rattle.investor_views.specs.InvestorDues.{due_by, dues_from, number_of, quote_meant}
-use Rattle.investor_views.specs.InvestorView.{after_due, coming_by, offer_due, sent_at}
+use Rattle.investor_views.specs.DeskView.{all_fit, fitting_dues_from, with_item}
+use Rattle.investor_views.specs.InvestorDues.{due_by, event_dues, event_dues_from, number_of}
+use Rattle.investor_views.specs.InvestorDues.{quote_meant}
+use Rattle.investor_views.specs.InvestorView.{after_due, event_by, offer_due, sent_at}
+use Rattle.investor_views.specs.InvestorView.{where_it_fits}
+use Rattle.step_replay.specs.Fitting.{fits}
 use Rattle.step_replay.specs.InvestorGrowth.{desk_push}
 use Rattle.step_replay.specs.NotedGrowth.{notes_more}
 use Rattle.investor_views.specs.NoteView.{notes_at}
@@ -166,75 +168,10 @@ module _ (market : InvestorMarket) where
                 numbered_here;
           }
 
-      one_if : (may may_too : Bool) → may_too ≡ may
-          → Sees (with_event_if may desk one) (with_event_if may_too view other)
-      one_if true true is = one_more
-      one_if false false is = before
-      one_if true false is = cc
-      one_if false true is = cc
-
-    -- what comes, and the item in its place
-    coming_sees : (came : Coming)
-        → Sees (after_coming desk came) (after_due view (due_by (book_at desk) came))
-    unfolding after_coming after_due due_by coming_by investor_with
-    coming_sees (Own moment bytes) =
-        one_more (event.Received moment bytes) (event.Received moment bytes) refl
-        (own_answers market stood moment bytes)
-    coming_sees (For (to_investor.Relay request offer moment)) =
-        by_books (λ here there. Sees
-        (with_event_if (knows here request None) desk (event.QuoteCame request offer moment))
-        (with_event_if (knows there request None) view (event.QuoteCame request
-        (offer_due there offer.dealer offer.price offer.valid_until) moment)))
-        (one_if (event.QuoteCame request offer moment)
-        (event.QuoteCame request
-        (offer_due (renamed_book book) offer.dealer offer.price offer.valid_until) moment) refl
-        (came_answers market stood request offer moment)
-        (knows book request None) (knows (renamed_book book) request None)
-        (knows_same book request None))
-    coming_sees (For (to_investor.Gone request word moment)) =
-        by_books (λ here there. Sees
-        (with_event_if (knows here request None) desk (event.QuoteGone request word moment))
-        (with_event_if (knows there request None) view (event.QuoteGone request
-        (number_of (quote_meant here request word)) moment)))
-        (one_if (event.QuoteGone request word moment)
-        (event.QuoteGone request (number_of (quote_meant book request word)) moment) refl
-        (gone_answers market stood request word before.numbered_are moment)
-        (knows book request None) (knows (renamed_book book) request None)
-        (knows_same book request None))
-    coming_sees (For (to_investor.Declined request dealer moment)) =
-        by_books (λ here there. Sees
-        (with_event_if (knows here request None) desk (event.DealerDeclined request dealer moment))
-        (with_event_if (knows there request None) view (event.DealerDeclined request dealer moment)))
-        (one_if (event.DealerDeclined request dealer moment)
-        (event.DealerDeclined request dealer moment) refl
-        (declined_answers market stood request dealer moment)
-        (knows book request None) (knows (renamed_book book) request None)
-        (knows_same book request None))
-    coming_sees (For (to_investor.Answer request response reply moment)) =
-        by_books (λ here there. Sees
-        (with_event_if (knows here request response.k && replies_to response.k reply) desk
-        (event.Answered request response reply moment))
-        (with_event_if (knows there request response.k && replies_to response.k reply) view
-        (event.Answered request response reply moment)))
-        (one_if (event.Answered request response reply moment)
-        (event.Answered request response reply moment) refl
-        (answered_answers market stood request response reply moment)
-        (knows book request response.k && replies_to response.k reply)
-        (knows (renamed_book book) request response.k && replies_to response.k reply)
-        (ap (λ (b : Bool). b && replies_to response.k reply) (knows_same book request response.k)))
-    coming_sees (For (to_investor.Close request moment)) =
-        by_books (λ here there. Sees
-        (with_event_if (knows here request None) desk (event.Closed request moment))
-        (with_event_if (knows there request None) view (event.Closed request moment)))
-        (one_if (event.Closed request moment) (event.Closed request moment) refl
-        (expired_answers market stood request moment)
-        (knows book request None) (knows (renamed_book book) request None)
-        (knows_same book request None))
-
     -- an event that came, and the item in its place, each as it stands
     event_sees : (more : InvestorEvent)
-        → Sees (with_event desk more) (with_item view (due_by (book_at desk) (coming_of more)))
-    unfolding with_item due_by coming_by
+        → Sees (with_event desk more) (with_item view (due_by (book_at desk) more))
+    unfolding with_item due_by event_by
     event_sees (event.Received moment bytes) =
         one_more (event.Received moment bytes) (event.Received moment bytes) refl
         (own_answers market stood moment bytes)
@@ -265,43 +202,93 @@ module _ (market : InvestorMarket) where
         one_more (event.Closed request moment) (event.Closed request moment) refl
         (expired_answers market stood request moment)
 
-  comings_see : (desk view : DeskEvents) (came : List Coming) → Sees desk view
-      → Sees (fold after_coming desk came) (fold after_due view (dues_from desk came))
-  comings_see desk view [] before = before
-  comings_see desk view (first ∷ later) before =
-      comings_see (after_coming desk first) (after_due view (due_by (book_at desk) first)) later
-      (coming_sees desk view before first)
+  -- Whether an item fits the view as its event does the desk.
 
-  -- so what it sends is what the view sends
-  pub sends_its_view : (came : List Coming)
-      → investor_output market (desk_by market came).events
-      ≡ sent_at (fold after_due (no_events (unnumbered market)) (dues_from (no_events market) came))
-  sends_its_view came =
-      let seen = comings_see (no_events market) (no_events (unnumbered market)) came start_sees in
-      let view =
-      fold after_due (no_events (unnumbered market)) (dues_from (no_events market) came) in
+  module _ (desk view : DeskEvents) (before : Sees desk view) (more : InvestorEvent) where
+    -- the book that stands at the desk
+    abbrev stands : InvestorBook
+    stands = book_of (desk_after market desk.events).facts
+
+    fits_renamed : (one : InvestorEvent)
+        → fits (renamed_book stands) (event_by (renamed_book stands) (due_by stands one))
+        ≡ fits stands one
+    unfolding due_by event_by
+    fits_renamed (event.Received moment bytes) = refl
+    fits_renamed (event.QuoteCame request offer moment) = knows_same stands request None
+    fits_renamed (event.QuoteGone request word moment) = knows_same stands request None
+    fits_renamed (event.DealerDeclined request dealer moment) = knows_same stands request None
+    fits_renamed (event.Answered request response reply moment) =
+        ap (λ (b : Bool). b && replies_to response.k reply) (knows_same stands request response.k)
+    fits_renamed (event.Closed request moment) = knows_same stands request None
+
+    -- the item of the event, as the view's desk has it
+    abbrev item_there : InvestorEvent
+    item_there = event_by (book_at view) (due_by (book_at desk) more)
+
+    asks_the_same : fits (book_at view) item_there ≡ fits (book_at desk) more
+    asks_the_same =
+        by_books desk view before
+        (λ here there. fits there (event_by there (due_by here more)) ≡ fits here more)
+        (fits_renamed more)
+
+    -- each desk takes it, or neither
+    both_take : (b : Bool) → Sees (with_event_if b desk more) (with_event_if b view item_there)
+    unfolding with_item
+    both_take true = event_sees desk view before more
+    both_take false = before
+
+    taken_sees : Sees (where_it_fits desk more) (after_due view (due_by (book_at desk) more))
+    unfolding after_due
+    taken_sees =
+        subst (λ (b : Bool). Sees (where_it_fits desk more) (with_event_if b view item_there))
+        (sym asks_the_same) (both_take (fits (book_at desk) more))
+
+    -- an item that fits is taken as it stands
+    item_taken : fits (book_at desk) more ≡ true
+        → after_due view (due_by (book_at desk) more) ≡ with_item view (due_by (book_at desk) more)
+    unfolding after_due with_item
+    item_taken fit =
+        ap (λ (b : Bool). with_event_if b view item_there) (asks_the_same ∙ fit)
+
+  those_see : (desk view : DeskEvents) (events : List InvestorEvent) → Sees desk view
+      → Sees (fold where_it_fits desk events) (fold after_due view (fitting_dues_from desk events))
+  those_see desk view [] before = before
+  those_see desk view (first ∷ later) before =
+      those_see (where_it_fits desk first) (after_due view (due_by (book_at desk) first)) later
+      (taken_sees desk view before first)
+
+  -- what a desk sends that takes the events that fit is the investor view of what was due by them
+  pub taken_send : (events : List InvestorEvent)
+      → investor_output market (fold where_it_fits (no_events market) events).events
+      ≡ sent_at (fold after_due (no_events (unnumbered market))
+      (fitting_dues_from (no_events market) events))
+  taken_send events =
+      let view = fold after_due (no_events (unnumbered market))
+      (fitting_dues_from (no_events market) events) in
+      let seen = those_see (no_events market) (no_events (unnumbered market)) events start_sees in
       sym seen.sent_are
       ∙ ap (λ (m : InvestorMarket). investor_output m view.events) (sym seen.view_market)
 
-  -- and what is noted of it is what is noted in the view
-  pub notes_its_view : (came : List Coming)
-      → investor_notes market (desk_by market came).events
-      ≡ notes_at (fold after_due (no_events (unnumbered market)) (dues_from (no_events market) came))
-  notes_its_view came =
-      let seen = comings_see (no_events market) (no_events (unnumbered market)) came start_sees in
-      let view =
-      fold after_due (no_events (unnumbered market)) (dues_from (no_events market) came) in
-      sym seen.notes_are
-      ∙ ap (λ (m : InvestorMarket). investor_notes m view.events) (sym seen.view_market)
+  all_taken : (desk view : DeskEvents) (events : List InvestorEvent) → Sees desk view
+      → all_fit desk events ≡ true
+      → fold after_due view (event_dues_from desk events)
+      ≡ fold with_item view (event_dues_from desk events)
+  all_taken desk view [] before fit = refl
+  all_taken desk view (first ∷ later) before fit =
+      let both = and_parts (fits (book_at desk) first) (all_fit (with_event desk first) later) fit in
+      ap (λ (d : DeskEvents). fold after_due d (event_dues_from (with_event desk first) later))
+      (item_taken desk view before first both.0)
+      ∙ all_taken (with_event desk first) (with_item view (due_by (book_at desk) first)) later
+      (event_sees desk view before first) both.1
 
-  -- The same of events, each taken as it stands.
+  -- All events.
 
   events_see : (desk view : DeskEvents) (events : List InvestorEvent) → Sees desk view
       → Sees (fold with_event desk events) (fold with_item view (event_dues_from desk events))
   events_see desk view [] before = before
   events_see desk view (first ∷ later) before =
       events_see (with_event desk first)
-      (with_item view (due_by (book_at desk) (coming_of first))) later
+      (with_item view (due_by (book_at desk) first)) later
       (event_sees desk view before first)
 
   -- the desk to which these events came
@@ -315,14 +302,42 @@ module _ (market : InvestorMarket) where
       all_events (before ++ first ∷ []) later
       ∙ ap desk_with (append_assoc before (first ∷ []) later)
 
+  -- the view's desk after what was due by events
+  abbrev viewed : List InvestorEvent → DeskEvents
+  viewed events = fold with_item (no_events (unnumbered market)) (event_dues market events)
+
+  all_see : (events : List InvestorEvent) → Sees (desk_with events) (viewed events)
+  all_see events =
+      subst (λ (desk : DeskEvents). Sees desk (viewed events)) (all_events [] events)
+      (events_see (no_events market) (no_events (unnumbered market)) events start_sees)
+
   -- so what a desk sends for events is the desk view of what was due by them
   pub events_send : (events : List InvestorEvent)
-      → investor_output market events
-      ≡ sent_at (fold with_item (no_events (unnumbered market)) (event_dues market events))
+      → investor_output market events ≡ sent_at (viewed events)
   events_send events =
-      let seen = events_see (no_events market) (no_events (unnumbered market)) events start_sees in
-      let view =
-      fold with_item (no_events (unnumbered market)) (event_dues market events) in
-      ap (λ (desk : DeskEvents). (desk_after market desk.events).sent) (sym (all_events [] events))
-      ∙ sym seen.sent_are
-      ∙ ap (λ (m : InvestorMarket). investor_output m view.events) (sym seen.view_market)
+      let seen = all_see events in
+      sym seen.sent_are
+      ∙ ap (λ (m : InvestorMarket). investor_output m (viewed events).events) (sym seen.view_market)
+
+  -- and what is noted of it is what is noted in the view
+  events_note : (events : List InvestorEvent)
+      → investor_notes market events ≡ notes_at (viewed events)
+  events_note events =
+      let seen = all_see events in
+      sym seen.notes_are
+      ∙ ap (λ (m : InvestorMarket). investor_notes m (viewed events).events) (sym seen.view_market)
+
+  -- where all events fit, that is the investor view
+  module _ (events : List InvestorEvent) (fit : all_fit (no_events market) events ≡ true) where
+    -- the view's desk after the same, item by item that fits
+    abbrev pub view : DeskEvents
+    view = fold after_due (no_events (unnumbered market)) (event_dues market events)
+
+    view_is : viewed events ≡ view
+    view_is = sym (all_taken (no_events market) (no_events (unnumbered market)) events start_sees fit)
+
+    pub fitting_send : investor_output market events ≡ sent_at view
+    fitting_send = events_send events ∙ ap (λ (desk : DeskEvents). sent_at desk) view_is
+
+    pub fitting_note : investor_notes market events ≡ notes_at view
+    fitting_note = events_note events ∙ ap (λ (desk : DeskEvents). notes_at desk) view_is

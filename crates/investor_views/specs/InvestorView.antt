@@ -9,8 +9,10 @@ use Rattle.investor_desk.specs.InvestorFacts.{InvestorBook, offers_shown}
 use Rattle.investor_desk.specs.InvestorDesk.{DeskEvents, book_at, no_events}
 use Rattle.investor_desk.specs.InvestorOutput.{investor_output}
 use Rattle.investor_desk.specs.InvestorRules.{InvestorMarket}
-use Rattle.venue_steps.specs.declared.arrivals.ForInvestor.TheVariants as to_investor
-use Rattle.investor_views.specs.Comings.{Coming, Own, For, after_coming}
+use Rattle.investor_desk.specs.declared.events.InvestorEvent.{InvestorEvent}
+use Rattle.investor_desk.specs.declared.events.InvestorEvent.TheVariants as event
+use Rattle.venue_steps.specs.InvestorSteps.{with_event_if}
+use Rattle.step_replay.specs.Fitting.{fits}
 use Rattle.investor_views.specs.declared.dues.InvestorDue.{InvestorDue}
 use Rattle.investor_views.specs.declared.dues.InvestorDue.TheVariants as due
 
@@ -53,22 +55,25 @@ offer_due book dealer price valid_until = record {
   valid_until = valid_until;
 }
 
--- what an item brings to a desk with this book
-unfoldable pub coming_by : InvestorBook → InvestorDue → Coming
-coming_by book (due.Own moment message) = Own moment message
-coming_by book (due.Offered request dealer price valid_until moment) =
-    For (to_investor.Relay request (offer_due book dealer price valid_until) moment)
-coming_by book (due.Gone request quote moment) = For (to_investor.Gone request quote moment)
-coming_by book (due.Declined request dealer moment) =
-    For (to_investor.Declined request dealer moment)
-coming_by book (due.Answered request response reply moment) =
-    For (to_investor.Answer request response reply moment)
-coming_by book (due.Expired request moment) = For (to_investor.Close request moment)
+-- the event that an item is at a desk with this book
+unfoldable pub event_by : InvestorBook → InvestorDue → InvestorEvent
+event_by book (due.Own moment message) = event.Received moment message
+event_by book (due.Offered request dealer price valid_until moment) =
+    event.QuoteCame request (offer_due book dealer price valid_until) moment
+event_by book (due.Gone request quote moment) = event.QuoteGone request quote moment
+event_by book (due.Declined request dealer moment) = event.DealerDeclined request dealer moment
+event_by book (due.Answered request response reply moment) =
+    event.Answered request response reply moment
+event_by book (due.Expired request moment) = event.Closed request moment
+
+-- a desk after an event, where the event fits what stands there
+abbrev pub where_it_fits : DeskEvents → InvestorEvent → DeskEvents
+where_it_fits desk more = with_event_if (fits (book_at desk) more) desk more
 
 -- The view after one item more. An item on a request that was not accepted, or a reply that fits
 -- no response, changes nothing.
 unfoldable pub after_due : DeskEvents → InvestorDue → DeskEvents
-after_due desk item = after_coming desk (coming_by (book_at desk) item)
+after_due desk item = where_it_fits desk (event_by (book_at desk) item)
 
 -- the view after all of it, item by item
 abbrev pub view_after : SeenMarket → List InvestorDue → DeskEvents

@@ -1,5 +1,3 @@
-pub mod Comings
-pub mod DeskPlaces
 pub mod DeskView
 pub mod InvestorDues
 pub mod InvestorView

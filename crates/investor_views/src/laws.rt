@@ -10,7 +10,7 @@ ghost use Rattle.step_replay.specs.declared.steps.Step.{Step};
 ghost use Rattle.investor_views.specs.InvestorDues.{due_to_investor};
 ghost use Rattle.investor_views.specs.InvestorView.{investor_view, seen_by};
 
-use step_replay::{actions_do_what_comes_by_the_table, firms_are_sent_one_list};
+use step_replay::firms_are_sent_one_list;
 
 /// After every list of steps, what an investor was sent is the investor view of its due list, by
 /// its [market](docs/PROOFS.md#investors).
@@ -19,9 +19,7 @@ pub fn investors_are_sent_their_view()
         → investor_numbered config investor ≡ Some row
         → venue.sent_to config investor (venue.audit_trail config steps)
         ≡ investor_view (seen_by config row) (due_to_investor config investor steps) }
-{
-    actions_do_what_comes_by_the_table();
-}
+{}
 
 /// What an investor is sent follows from its [market](docs/PROOFS.md#investors) and its due list:
 /// if both are the same in two venues, so is every byte.

@@ -3,7 +3,8 @@
 //!
 //! An investor learns six things of a day, in some order: its own messages come, quotes come,
 //! quotes are taken back, dealers decline, its hits and passes are answered, and its requests
-//! expire. A list of these is what is [`InvestorDue`] to it (`due_to_investor`). The *investor
+//! expire. A list of these is what is [`InvestorDue`] to it (`due_to_investor`): it is read off the
+//! events at the investor's desk, as its trail has them (`step_replay`). The *investor
 //! view* of the list is every message that the investor is sent for it (`investor_view`). It takes
 //! the market that the investor sees, that is the day, its own row, the bonds with their grids and
 //! the names of the dealers, and the list; nothing else of the venue goes into it.

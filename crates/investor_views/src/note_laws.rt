@@ -12,8 +12,6 @@ ghost use Rattle.investor_views.specs.InvestorDues.{due_to_investor};
 ghost use Rattle.investor_views.specs.InvestorView.{seen_by};
 ghost use Rattle.investor_views.specs.NoteView.{note_view};
 
-use step_replay::actions_do_what_comes_by_the_table;
-
 /// The notes beside an investor's messages are the note view of its due list, by its market.
 pub fn investors_are_noted_their_view()
     ensures { (config : Configuration) (steps : List Step) (investor : ℕ) (row : InvestorRow)
@@ -21,9 +19,7 @@ pub fn investors_are_noted_their_view()
         → notes_by (market_of config investor row)
         (of_investor investor (audit_trail config steps).facts)
         ≡ note_view (seen_by config row) (due_to_investor config investor steps) }
-{
-    actions_do_what_comes_by_the_table();
-}
+{}
 
 /// With the same market and the same due list in two venues, the same is noted beside an investor's
 /// messages, whatever else differs.

@@ -11,6 +11,8 @@ use Rattle.laws_days.proofs.Common.{InvestorEvent, RoomFact, DealerEntry, AtDesk
 use Rattle.laws_days.proofs.Common.{book_by, answer_to_dealer, entries_of, facts_of, rooms_by}
 use Rattle.laws_days.proofs.Common.{was_lifted, was_withdrawn, InvestorEntry, nothing_of, Fact}
 use Rattle.laws_days.proofs.Common.{AtDealer, InRoom, AtInvestor, of_dealer, of_investor, of_room}
+use Rattle.std.proofs.Common.{◌+◌, length}
+use Rattle.investor_desk.specs.InvestorFacts.{InvestorFact}
 use Rattle.std.proofs.Common.{append-nil}
 use Rattle.dealer_desk.specs.Unpriced as dealers
 use Rattle.dealer_desk.proofs.UnpricedBooks.{withdrawn_same}
@@ -20,7 +22,8 @@ use Rattle.investor_desk.specs.Unpriced as investors
 use Rattle.investor_desk.proofs.UnpricedDesks as investors_same
 use Rattle.request_room.specs.Unpriced as rooms
 use Rattle.step_replay.specs.InvestorTrail as investor_trail
-use Rattle.step_replay.specs.InvestorTrail.{AtDesk as AtInvestorsDesk, Sent as SentToInvestor}
+use Rattle.step_replay.specs.InvestorTrail.{AtDesk as AtInvestorsDesk, Happened}
+use Rattle.step_replay.specs.InvestorTrail.{Sent as SentToInvestor}
 
 -- What is left of a fact, where anything is.
 
@@ -37,6 +40,7 @@ erase own (InRoom room fact) = Some (InRoom room (rooms.unpriced fact))
 erase own (AtInvestor number (AtInvestorsDesk fact)) =
     Some (AtInvestor number (AtInvestorsDesk (investors.unpriced fact)))
 erase own (AtInvestor number (SentToInvestor message)) = None
+erase own (AtInvestor number (Happened event)) = None
 
 -- what is left of facts
 unfoldable pub bare : ℕ → List Fact → List Fact
@@ -80,6 +84,27 @@ pub room_added : (own : ℕ) (room : RoomRef) (facts : List RoomFact)
     → bare own (map (InRoom room) facts) ≡ map (InRoom room) (map rooms.unpriced facts)
 room_added own room facts = bare_all own (InRoom room) rooms.unpriced (λ fact. refl) facts
 
+none_sent : (own number : ℕ) (messages : List (List ℕ))
+    → bare own (map (λ message. AtInvestor number (SentToInvestor message)) messages) ≡ []
+unfolding bare
+none_sent own number messages =
+    nothing_of (erase own) (λ message. AtInvestor number (SentToInvestor message)) (λ message. refl)
+    messages
+
+entries_added : (own number : ℕ) (facts : List InvestorFact) (messages : List (List ℕ))
+    → bare own (map (AtInvestor number) (map AtInvestorsDesk facts ++ map SentToInvestor messages))
+    ≡ map (λ fact. AtInvestor number (AtInvestorsDesk fact)) (map investors.unpriced facts)
+entries_added own number facts messages =
+    simp (
+      map-append,
+      map-map,
+      bare_append,
+      bare_all own (λ fact. AtInvestor number (AtInvestorsDesk fact)) investors.unpriced
+          (λ fact. refl),
+      none_sent own number,
+      append-nil,
+    )
+
 pub market_added : (own number : ℕ) (market : InvestorMarket) (trail : List InvestorEntry)
     (event : InvestorEvent)
     → bare own (map (AtInvestor number) (investor_trail.entries_of market trail event))
@@ -87,16 +112,11 @@ pub market_added : (own number : ℕ) (market : InvestorMarket) (trail : List In
     (investor_output.event_facts market (investor_trail.book_by trail) event))
 unfolding bare investor_trail.entries_of
 market_added own number market trail event =
-    simp (
-      map-append,
-      map-map,
-      bare_append,
-      bare_all own (λ fact. AtInvestor number (AtInvestorsDesk fact)) investors.unpriced
-          (λ fact. refl),
-      nothing_of (erase own) (λ message. AtInvestor number (SentToInvestor message))
-          (λ message. refl),
-      append-nil,
-    )
+    entries_added own number
+    (investor_output.event_facts market (investor_trail.book_by trail) event)
+    (investor_output.written_from market (length (investor_trail.sent_by trail) + 1)
+    (investor_output.moment_of event)
+    (investor_output.event_messages market (investor_trail.book_by trail) event))
 
 pub ruleset added = (desk_added, room_added, market_added)
 
@@ -117,6 +137,7 @@ trail_left own number (AtDealer dealer entry ∷ facts) =
     ]
 trail_left own number (AtInvestor investor (SentToInvestor message) ∷ facts) =
     trail_left own number facts
+trail_left own number (AtInvestor investor (Happened event) ∷ facts) = trail_left own number facts
 trail_left own number (fact ∷ facts) = trail_left own number facts
 
 pub room_left : (own : ℕ) (place : RoomRef) (facts : List Fact)
@@ -130,6 +151,7 @@ room_left own place (InRoom room fact ∷ facts) =
 room_left own place (AtDealer dealer (Sent message) ∷ facts) = room_left own place facts
 room_left own place (AtInvestor investor (SentToInvestor message) ∷ facts) =
     room_left own place facts
+room_left own place (AtInvestor investor (Happened event) ∷ facts) = room_left own place facts
 room_left own place (fact ∷ facts) = room_left own place facts
 
 market_left : (own number : ℕ) (facts : List Fact)
@@ -141,6 +163,9 @@ market_left own number (AtInvestor investor (AtInvestorsDesk fact) ∷ facts) =
     let later = market_left own number facts in
     elim (cases_Bool (investor == number)) [ inl is ↦ rw (is, later) | inr is ↦ rw (is, later) ]
 market_left own number (AtInvestor investor (SentToInvestor message) ∷ facts) =
+    let later = market_left own number facts in
+    elim (cases_Bool (investor == number)) [ inl is ↦ rw (is, later) | inr is ↦ rw (is, later) ]
+market_left own number (AtInvestor investor (Happened event) ∷ facts) =
     let later = market_left own number facts in
     elim (cases_Bool (investor == number)) [ inl is ↦ rw (is, later) | inr is ↦ rw (is, later) ]
 market_left own number (AtDealer dealer (Sent message) ∷ facts) = market_left own number facts

@@ -54,7 +54,7 @@ any_news Has config (duty.Relay room offer moment) news each = absurd news
 any_news Has config (duty.Gone room word moment) news each =
     λ row found. each room.investor row found _ tt
 any_news Has config (duty.Declined room moment) news each =
-    λ dealer row found. each room.investor row found _ tt
+    λ number dealer is row found. each room.investor row found _ tt
 any_news Has config (duty.Answer room response reply moment) news each = absurd news
 any_news Has config (duty.Close room moment) news each =
     λ row found. each room.investor row found _ tt

@@ -113,7 +113,8 @@ module _ (Has : ℕ → InvestorRow → InvestorEvent → Type 0) (config : Conf
   InvestorMay (duty.Gone at word moment) =
       OfInvestor at.investor (at_investor.QuoteGone at.n word moment)
   InvestorMay (duty.Declined at moment) =
-      (dealer : List ℕ) → OfInvestor at.investor (at_investor.DealerDeclined at.n dealer moment)
+      (number : ℕ) (dealer : DealerRow) → dealer_numbered config number ≡ Some dealer
+      → OfInvestor at.investor (at_investor.DealerDeclined at.n dealer.name moment)
   InvestorMay (duty.Answer at response reply moment) = replies_to response.k reply ≡ true
       → OfInvestor at.investor (at_investor.Answered at.n response reply moment)
   InvestorMay (duty.Close at moment) = OfInvestor at.investor (at_investor.Closed at.n moment)
@@ -127,7 +128,7 @@ module _ (Has : ℕ → InvestorRow → InvestorEvent → Type 0) (config : Conf
   any_investor by (duty.Relay at offer moment) each = λ row found. each at.investor row _ refl
   any_investor by (duty.Gone at word moment) each = λ row found. each at.investor row _ refl
   any_investor by (duty.Declined at moment) each =
-      λ dealer row found. each at.investor row _ refl
+      λ number dealer is row found. each at.investor row _ refl
   any_investor by (duty.Answer at response reply moment) each =
       λ fits row found. each at.investor row _ refl
   any_investor by (duty.Close at moment) each = λ row found. each at.investor row _ refl
@@ -324,7 +325,7 @@ module _ (DealerHas : ℕ → DealerRow → DealerEvent → List Duty → Type 0
     duty_walks actor.Clock (duty.Decline at moment) dealer investor room = walks.idle
     duty_walks (actor.Firm number) (duty.Declined at moment) dealer investor room =
         numbered number _ (λ row found. comes at.investor at.n
-        (at_investor.DealerDeclined at.n row.name moment) (investor row.name))
+        (at_investor.DealerDeclined at.n row.name moment) (investor number row found))
     duty_walks actor.Clock (duty.Declined at moment) dealer investor room = walks.idle
     duty_walks by (duty.Hit at response word moment) dealer investor room =
         where_both (has_room config at.investor at.n)

@@ -160,7 +160,7 @@ module _ (config : Configuration) (facts : List Fact)
     at_investors (duty.Gone room word moment) says = λ row found.
         plain_few config.dealers _ _ (withdrawal_plain room.n word
         (open_request (book_at config facts by room.investor) room.n))
-    at_investors (duty.Declined room moment) says = λ dealer row found.
+    at_investors (duty.Declined room moment) says = λ number dealer is row found.
         plain_few config.dealers _ [] tt
     at_investors (duty.Answer room response reply moment) says = λ fits row found.
         plain_few config.dealers _ _ (answer_plain (book_at config facts by room.investor) room.n

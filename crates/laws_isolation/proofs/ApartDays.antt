@@ -1,9 +1,7 @@
 -- All steps of a day, and two days that have the same steps on one side.
-use Rattle.std.proofs.Common.{◌≡◌, ◌≤◌, ℕ, Bool, true, false, List, [], ◌∷◌, ◌++◌, filter_map}
+use Rattle.std.proofs.Common.{◌≡◌, ◌≤◌, ℕ, Bool, true, false, List, [], ◌∷◌, filter_map}
 use Rattle.std.proofs.Common.{count_by, length, is_some, refl, sym, ap, ◌∙◌, arith, if◌then◌else◌}
-use Rattle.std.specs.Option.{option_to_list}
 use Rattle.std.proofs.lemmas.Bool.{cond_both}
-use Rattle.std.proofs.lemmas.List.{append_assoc}
 use Rattle.std.proofs.lemmas.List.Sums.{fold-append}
 use Rattle.venue_rows.specs.Rows.{Configuration, dealer_numbered}
 use Rattle.investor_desk.specs.InvestorDesk.{market_for}
@@ -13,12 +11,12 @@ use Rattle.step_replay.specs.AuditTrail.{duty_of, is_same_actor, sent_to}
 use Rattle.step_replay.specs.DealerTrail as dealer_trail
 use Rattle.step_replay.specs.DealerTrail.{DealerEntry}
 use Rattle.step_replay.specs.DueList.{due_list}
+use Rattle.step_replay.specs.InvestorEvents.{events_of}
 use Rattle.step_replay.specs.InvestorTrail as investor_trail
 use Rattle.step_replay.specs.InvestorTrail.{InvestorEntry}
 use Rattle.step_replay.specs.LiveDays.{live_steps, live_trail, with_turns}
 use Rattle.step_replay.specs.VenueFacts.{of_dealer, of_investor}
 use Rattle.step_replay.specs.declared.steps.Step.{Step}
-use Rattle.investor_views.specs.Comings.{Coming, comes_by, comings_from}
 use Rattle.investor_views.specs.InvestorDues.{due_to_investor, dues_where}
 use Rattle.laws_days.specs.DayParts.{steps_grow}
 use Rattle.laws_isolation.specs.Apart.{AreOneThere, asks_across, has_ask_across, is_there, steps_there}
@@ -39,27 +37,10 @@ module _ (side : ℕ → Bool) (config : Configuration) where
       none_within : (count : ℕ) → count ≡ 0 → (most : ℕ) → count ≤ most
       none_within count none most = omega arith
 
-  comings_append : (number : ℕ) (steps later : List Step) (trail : AuditTrail)
-      → comings_from config number trail (steps ++ later)
-      ≡ comings_from config number trail steps
-      ++ comings_from config number (after config trail steps) later
-  comings_append number [] later trail = refl
-  comings_append number (s ∷ steps) later trail =
-      let first : List Coming = option_to_list (comes_by config number trail s) in
-      ap (λ (l : List Coming). first ++ l)
-      (comings_append number steps later (after_step config trail s))
-      ∙ sym (append_assoc first (comings_from config number (after_step config trail s) steps)
-      (comings_from config number (after config trail (s ∷ steps)) later))
-
-  -- a day is one to this side with the day of the steps of this side alone, and the same comes to
-  -- its investors
+  -- a day is one to this side with the day of the steps of this side alone
   abbrev IsByOwn : AuditTrail → AuditTrail → List Step → List Step → Type 0
-  IsByOwn one other steps own =
-      (there side (after config one (live_steps steps))
-      ≡ there side (after config other (live_steps own)))
-      × ((number : ℕ) → side number ≡ true
-      → comings_from config number one (live_steps steps)
-      ≡ comings_from config number other (live_steps own))
+  IsByOwn one other steps own = there side (after config one (live_steps steps))
+      ≡ there side (after config other (live_steps own))
 
   -- the steps behind one
   split : (trail : AuditTrail) (s : Step) (steps : List Step)
@@ -70,7 +51,7 @@ module _ (side : ℕ → Bool) (config : Configuration) where
   day_is : (steps : List Step) (one other : AuditTrail) → RestAlike side config one other
       → has_ask_across side (after config one (live_steps steps)) ≡ false
       → IsByOwn one other steps (steps_there side steps)
-  day_is [] one other alike none = (alike.part_is, λ number here. refl)
+  day_is [] one other alike none = alike.part_is
   day_is (s ∷ steps) one other alike none =
       let next : AuditTrail = after config one (with_turns s) in
       let next_too : AuditTrail = after config other (with_turns s) in
@@ -80,26 +61,11 @@ module _ (side : ℕ → Bool) (config : Configuration) where
       let by_it : has_ask_across side next ≡ false =
       steps_grow (asks_across side) config (live_steps steps) next behind in
       cond_both (is_there side s) (s ∷ own) own (IsByOwn one other (s ∷ steps))
-      (λ is.
-      let unit = own_unit side config one other alike s by_it is in
-      let later = day_is steps next next_too unit.0 behind in (
-        ap (there side) (split one s steps) ∙ later.0
-            ∙ ap (there side) (sym (split other s own)),
-        λ number here. comings_append number (with_turns s) (live_steps steps) one
-            ∙ ap (λ (l : List Coming). comings_from config number one (with_turns s) ++ l)
-            (later.1 number here)
-            ∙ ap (λ (l : List Coming). l ++ comings_from config number next_too (live_steps own))
-            (unit.1 number)
-            ∙ sym (comings_append number (with_turns s) (live_steps own) other),
-      ))
-      (λ isnt.
-      let unit = other_unit side config one other alike s by_it isnt in
-      let later = day_is steps next other unit.0 behind in (
-        ap (there side) (split one s steps) ∙ later.0,
-        λ number here. comings_append number (with_turns s) (live_steps steps) one
-            ∙ ap (λ (l : List Coming). l ++ comings_from config number next (live_steps steps))
-            (unit.1 number here) ∙ later.1 number here,
-      ))
+      (λ is. ap (there side) (split one s steps)
+      ∙ day_is steps next next_too (own_unit side config one other alike s by_it is) behind
+      ∙ ap (there side) (sym (split other s own)))
+      (λ isnt. ap (there side) (split one s steps)
+      ∙ day_is steps next other (other_unit side config one other alike s by_it isnt) behind)
 
   -- a day from its start
   from_start : (steps : List Step) → has_ask_across side (live_trail config steps) ≡ false
@@ -115,10 +81,10 @@ module _ (side : ℕ → Bool) (config : Configuration) where
     day_same : there side (live_trail config steps) ≡ there side (live_trail config others)
     unfolding audit_trail
     day_same =
-        (from_start steps alike.none_across).0
+        from_start steps alike.none_across
         ∙ ap (λ (own : List Step). there side (after config no_steps (live_steps own)))
         alike.steps_are
-        ∙ sym (from_start others alike.none_across_too).0
+        ∙ sym (from_start others alike.none_across_too)
 
     module _ (number : ℕ) (here : side number ≡ true) where
       dealer_trails : of_dealer number (live_trail config steps).facts
@@ -153,8 +119,5 @@ module _ (side : ℕ → Bool) (config : Configuration) where
       pub investor_due : due_to_investor config number (live_steps steps)
           ≡ due_to_investor config number (live_steps others)
       investor_due =
-          ap (dues_where (market_for config number))
-          ((from_start steps alike.none_across).1 number here
-          ∙ ap (λ (own : List Step). comings_from config number no_steps (live_steps own))
-          alike.steps_are
-          ∙ sym ((from_start others alike.none_across_too).1 number here))
+          ap (λ (l : List InvestorEntry). dues_where (market_for config number)
+          (events_of l)) investor_trails

@@ -7,18 +7,32 @@ use Rattle.std.proofs.lemmas.Bool.Decides.{nat_tests}
 use Rattle.std.proofs.lemmas.Option.{same_Some, slice_get_within}
 use Rattle.venue_rows.specs.Rows.{Configuration, investor_numbered}
 use Rattle.venue_rows.specs.declared.investor_rows.InvestorRow.{InvestorRow}
-use Rattle.investor_desk.specs.InvestorDesk.{market_for, market_of}
+use Rattle.investor_desk.specs.InvestorDesk.{market_for, market_of, no_events}
 use Rattle.investor_desk.specs.InvestorOutput.{investor_output}
 use Rattle.investor_desk.specs.InvestorRules.{InvestorMarket}
+use Rattle.investor_desk.specs.declared.events.InvestorEvent.{InvestorEvent}
 use Rattle.step_replay.specs.StepFaults.{firms_of}
-use Rattle.investor_views.specs.DeskView.{desk_view, event_dues}
+use Rattle.investor_views.specs.DeskView.{all_fit, desk_view, seen_at}
+use Rattle.investor_views.specs.InvestorDues.{event_dues}
 use Rattle.investor_views.specs.InvestorView.{investor_view, seen_by}
 use Rattle.investor_views.specs.declared.dues.InvestorDue.{InvestorDue}
 use Rattle.recorded_days.specs.Records.{InvestorLists, RecordedDay, investor_in}
 use Rattle.day_checks.specs.KeptDays.{InvestorKeeps, InvestorsKeep}
 use Rattle.laws_isolation.specs.DayViews.{EventsFit, investor_dues_of, investor_sent_on}
-use Rattle.laws_isolation.proofs.FitLemmas.{ComingsSend, EventsSend, event_views_are_one}
 use Rattle.step_replay.specs.PlaceLemmas.{behind_dealers}
+
+-- The laws of desks.
+
+-- what a desk sends for events is the desk view of what was due by them
+abbrev pub EventsSend : Type 0
+EventsSend = (market : InvestorMarket) (events : List InvestorEvent)
+    → investor_output market events ≡ desk_view (seen_at market) (event_dues market events)
+
+-- and where all fit the investor view
+abbrev pub FittingSend : Type 0
+FittingSend = (market : InvestorMarket) (events : List InvestorEvent)
+    → all_fit (no_events market) events ≡ true
+    → investor_output market events ≡ investor_view (seen_at market) (event_dues market events)
 
 -- Tests of numbers.
 
@@ -124,20 +138,20 @@ module _ (config : Configuration) (day : RecordedDay) (investor : ℕ) (row : In
       (sym (lists_are lengths))
       ∙ ap (option_map (desk_view (seen_by config row))) (sym dues_are)
 
-  fitting_found : EventsSend → ComingsSend → EventsFit config day investor
+  fitting_found : EventsSend → FittingSend → EventsFit config day investor
       → (found : Option InvestorLists) → investor_in day investor ≡ found
       → option_map (desk_view (seen_by config row)) (option_map dues_in found)
       ≡ option_map (investor_view (seen_by config row)) (option_map dues_in found)
-  fitting_found send sends_all fit None there = refl
-  fitting_found send sends_all fit (Some lists) there =
-      ap Some (event_views_are_one market send sends_all lists.events
+  fitting_found send fitting fit None there = refl
+  fitting_found send fitting fit (Some lists) there =
+      ap Some (sym (send market lists.events) ∙ fitting market lists.events
       (fit market lists (market_is config investor row is_investor) there))
 
   -- which is its investor view, where its events fit
-  pub views_on : EventsSend → ComingsSend → EventsFit config day investor
+  pub views_on : EventsSend → FittingSend → EventsFit config day investor
       → option_map (desk_view (seen_by config row)) (investor_dues_of config day investor)
       ≡ option_map (investor_view (seen_by config row)) (investor_dues_of config day investor)
-  views_on send sends_all fit =
+  views_on send fitting fit =
       ap (option_map (desk_view (seen_by config row))) dues_are
-      ∙ fitting_found send sends_all fit (investor_in day investor) refl
+      ∙ fitting_found send fitting fit (investor_in day investor) refl
       ∙ ap (option_map (investor_view (seen_by config row))) (sym dues_are)

@@ -58,11 +58,11 @@ left_of_desk (Came moment bytes used) = Some (Came moment [] used)
 left_of_desk (Closed request how) = Some (Closed request close.Passed)
 left_of_desk fact = Some fact
 
--- at an investor's place: nothing that it was sent
+-- at an investor's place: no event, and nothing that it was sent
 abbrev pub left_at_investor : InvestorEntry → Option InvestorEntry
 left_at_investor (investor_trail.AtDesk fact) =
     option_map (λ (f : InvestorFact). investor_trail.AtDesk f) (left_of_desk fact)
-left_at_investor (investor_trail.Sent message) = None
+left_at_investor entry = None
 
 -- in the venue
 abbrev pub left_of : ℕ → Fact → Option Fact

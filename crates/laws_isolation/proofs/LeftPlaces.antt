@@ -1,6 +1,6 @@
 -- What is left at each place of a day, and what is left of what is added there.
 use Rattle.std.proofs.Common.{◌≡◌, ℕ, ◌==◌, true, false, List, [], ◌∷◌, ◌++◌, map, filter_map}
-use Rattle.std.proofs.Common.{refl, sym, ap, ◌∙◌, append-nil, inl, inr}
+use Rattle.std.proofs.Common.{refl, sym, ap, ◌∙◌, append-nil, inl, inr, ◌+◌, length}
 use Rattle.std.specs.Option.{option_to_list}
 use Rattle.std.proofs.lemmas.Bool.{cases_Bool, eqb-true}
 use Rattle.std.proofs.lemmas.List.{map-append}
@@ -126,6 +126,27 @@ investor_facts_added own number (Closed request how ∷ facts) =
     ap (λ l. at_investor number (Closed request close.Passed) ∷ l)
     (investor_facts_added own number facts)
 
+none_sent : (own number : ℕ) (messages : List (List ℕ))
+    → left own (map (λ message. AtInvestor number (investor_trail.Sent message)) messages) ≡ []
+unfolding left
+none_sent own number messages =
+    nothing_of (left_of own) (λ message. AtInvestor number (investor_trail.Sent message))
+    (λ message. refl) messages
+
+entries_added : (own number : ℕ) (facts : List InvestorFact) (messages : List (List ℕ))
+    → left own (map (AtInvestor number)
+    (map investor_trail.AtDesk facts ++ map investor_trail.Sent messages))
+    ≡ map (at_investor number) (left_desk facts)
+entries_added own number facts messages =
+    simp (
+      map-append,
+      map-map,
+      left_append,
+      investor_facts_added own number,
+      none_sent own number,
+      append-nil,
+    )
+
 pub investor_added : (own number : ℕ) (market : InvestorMarket) (trail : List InvestorEntry)
     (event : InvestorEvent)
     → left own (map (AtInvestor number) (investor_trail.entries_of market trail event))
@@ -133,15 +154,11 @@ pub investor_added : (own number : ℕ) (market : InvestorMarket) (trail : List 
     (left_desk (investor_output.event_facts market (investor_trail.book_by trail) event))
 unfolding left investor_trail.entries_of
 investor_added own number market trail event =
-    simp (
-      map-append,
-      map-map,
-      left_append,
-      investor_facts_added own number,
-      nothing_of (left_of own) (λ message. AtInvestor number (investor_trail.Sent message))
-          (λ message. refl),
-      append-nil,
-    )
+    entries_added own number
+    (investor_output.event_facts market (investor_trail.book_by trail) event)
+    (investor_output.written_from market (length (investor_trail.sent_by trail) + 1)
+    (investor_output.moment_of event)
+    (investor_output.event_messages market (investor_trail.book_by trail) event))
 
 -- What is left at a place.
 
@@ -174,6 +191,8 @@ trail_left own number mine (AtDealer dealer entry ∷ facts) =
       ]
     ]
 trail_left own number mine (AtInvestor investor (investor_trail.Sent message) ∷ facts) =
+    trail_left own number mine facts
+trail_left own number mine (AtInvestor investor (investor_trail.Happened event) ∷ facts) =
     trail_left own number mine facts
 trail_left own number mine (AtInvestor investor (investor_trail.AtDesk (Offered shown)) ∷ facts) =
     trail_left own number mine facts
@@ -247,6 +266,8 @@ room_left own place (AtDealer dealer entry ∷ facts) =
     elim (cases_Bool (dealer == own)) [ inl is ↦ rw is later | inr is ↦ rw is later ]
 room_left own place (AtInvestor investor (investor_trail.Sent message) ∷ facts) =
     room_left own place facts
+room_left own place (AtInvestor investor (investor_trail.Happened event) ∷ facts) =
+    room_left own place facts
 room_left own place (AtInvestor investor (investor_trail.AtDesk (Offered shown)) ∷ facts) =
     room_left own place facts
 room_left own place (AtInvestor investor (investor_trail.AtDesk (Gone request quote)) ∷ facts) =
@@ -260,6 +281,9 @@ pub desk_left : (own number : ℕ) (facts : List Fact)
 unfolding left of_investor
 desk_left own number [] = refl
 desk_left own number (AtInvestor investor (investor_trail.Sent message) ∷ facts) =
+    let later = desk_left own number facts in
+    elim (cases_Bool (investor == number)) [ inl is ↦ rw is later | inr is ↦ rw is later ]
+desk_left own number (AtInvestor investor (investor_trail.Happened event) ∷ facts) =
     let later = desk_left own number facts in
     elim (cases_Bool (investor == number)) [ inl is ↦ rw is later | inr is ↦ rw is later ]
 desk_left own number (AtInvestor investor (investor_trail.AtDesk (Offered shown)) ∷ facts) =

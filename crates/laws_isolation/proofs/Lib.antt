@@ -3,8 +3,6 @@ mod ApartDays
 mod Calm
 mod ClockTurns
 mod DayLemmas
-mod DutyFits
-mod FitLemmas
 mod HitMessages
 mod HitOutcomes
 mod Left
@@ -32,7 +30,6 @@ mod QuietRoom
 mod QuietSteps
 mod QuietVerdicts
 mod QuotingDuties
-mod ReplayFits
 mod SameEffects
 mod SideFollows
 mod SideSteps

@@ -15,7 +15,7 @@ use Rattle.request_room.specs.RoomFacts.{RoomFact, Posted, Unposted, Noted}
 use Rattle.venue_steps.specs.declared.actors.Actor.{Actor}
 use Rattle.venue_steps.specs.declared.actors.Actor.TheVariants as actor
 use Rattle.step_replay.specs.AuditTrail.{AuditTrail}
-use Rattle.step_replay.specs.InvestorTrail.{InvestorEntry, AtDesk, Sent}
+use Rattle.step_replay.specs.InvestorTrail.{InvestorEntry, AtDesk}
 use Rattle.step_replay.specs.VenueFacts.{Fact, AtDealer, InRoom, AtInvestor}
 use Rattle.step_replay.specs.Actions.{Effect, Dealer, nothing, done_by, dealer_of, dealer_at}
 use Rattle.step_replay.specs.Actions.{acting_dealer}
@@ -39,10 +39,10 @@ stays_at_desk (Offered shown) = false
 stays_at_desk (Gone request quote) = false
 stays_at_desk fact = true
 
--- whether an entry at an investor's place stays: nothing that it was sent does
+-- whether an entry at an investor's place stays: no event does, and nothing that it was sent
 abbrev pub stays_there : InvestorEntry → Bool
 stays_there (AtDesk fact) = stays_at_desk fact
-stays_there (Sent message) = false
+stays_there entry = false
 
 -- whether a fact stays
 abbrev pub stays : ℕ → Fact → Bool

@@ -31,7 +31,8 @@ use Rattle.investor_desk.specs.InvestorOutput.{uses_number, verdict_facts}
 use Rattle.investor_desk.specs.declared.standing.ShownOffer.{ShownOffer}
 use Rattle.investor_desk.specs.declared.verdicts.InvestorVerdict.{InvestorVerdict}
 use Rattle.investor_desk.specs.declared.verdicts.InvestorVerdict.TheVariants as verdict
-use Rattle.step_replay.specs.InvestorTrail.{InvestorEntry, AtDesk, Sent, fact_in, facts_of, book_by}
+use Rattle.step_replay.specs.InvestorTrail.{InvestorEntry, AtDesk, Happened, Sent, fact_in, facts_of}
+use Rattle.step_replay.specs.InvestorTrail.{book_by}
 use Rattle.laws_days.specs.KeptItems.{count_kept, found_of_kept, kept_in, where_kept}
 use Rattle.laws_isolation.proofs.Quiet.{stays_at_desk, stays_there}
 
@@ -114,6 +115,7 @@ book_by_kept trail =
     each : (entry : InvestorEntry)
         → where_kept stays_at_desk (fact_in entry)
         ≡ cond (stays_there entry) (fact_in entry) None
+    each (Happened event) = refl
     each (AtDesk fact) = refl
     each (Sent message) = refl
 

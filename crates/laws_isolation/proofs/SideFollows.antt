@@ -1,16 +1,9 @@
--- A step of this side does the same in two days that are one to it, and one of the other side brings
--- nothing to the desk of an investor of this side.
-use Rattle.std.proofs.Common.{◌≡◌, ℕ, Bool, true, false, Option, Some, None, refl, ap}
-use Rattle.std.proofs.Common.{if◌then◌else◌, List, [], ◌∷◌, ◌++◌, sym, ◌∙◌, subst}
+-- A step of this side does the same in two days that are one to it.
+use Rattle.std.proofs.Common.{◌≡◌, ℕ, Bool, true, false, refl, ap}
+use Rattle.std.proofs.Common.{List, [], ◌∷◌, ◌++◌, sym, ◌∙◌, subst}
 use Rattle.market_terms.specs.declared.duties.Duty.{Duty}
-use Rattle.market_terms.specs.declared.duties.Duty.TheVariants as duty
 use Rattle.venue_rows.specs.Rows.{Configuration}
-use Rattle.venue_steps.specs.Placed.{placed}
-use Rattle.venue_steps.specs.Table.{line_of}
 use Rattle.venue_steps.specs.declared.actors.Actor.{Actor}
-use Rattle.venue_steps.specs.declared.arrivals.Placement.{Placement}
-use Rattle.venue_steps.specs.declared.arrivals.Placement.TheVariants as arrival
-use Rattle.venue_steps.specs.declared.arrivals.ForInvestor.{ForInvestor}
 use Rattle.venue_steps.specs.declared.actors.Actor.TheVariants as actor
 use Rattle.step_replay.specs.Actions.{Effect}
 use Rattle.step_replay.specs.AuditTrail.{AuditTrail, after_step, after_turn, pending, with_effect}
@@ -21,52 +14,15 @@ use Rattle.step_replay.specs.QueueLemmas.{turned}
 use Rattle.step_replay.specs.VenueFacts.{Fact}
 use Rattle.step_replay.specs.declared.steps.Step.{Step}
 use Rattle.step_replay.specs.declared.steps.Step.TheVariants as step
-use Rattle.investor_views.specs.Comings.{For, at_desk_of, Own, comes_by, comes_by_turn}
-use Rattle.investor_views.specs.DeskPlaces.{IsSoElsewhere, MayBring, placed_so}
 use Rattle.laws_days.specs.DayParts.{did, did_same, grows, pending_same, none_left}
 use Rattle.laws_days.specs.LeftDuties.{Leaves}
 use Rattle.laws_isolation.specs.Apart.{acts_there, asks_across, has_ask_across}
-use Rattle.laws_isolation.proofs.ThereFacts.{IsOn, not_one, stays, there, known}
+use Rattle.laws_isolation.proofs.ThereFacts.{IsOn, stays, there, known}
 use Rattle.laws_isolation.proofs.AddedFacts.{AddsOn, duty_adds, message_adds, sweep_adds}
 use Rattle.laws_isolation.proofs.SameEffects.{duty_same, message_same, sweep_same}
 use Rattle.laws_isolation.proofs.SideSteps.{ActsOn, Stands, StepOn, waits_on, does_stands}
 use Rattle.laws_isolation.proofs.SideSteps.{turned_stands}
 use Rattle.laws_isolation.proofs.LeftOn.{duty_left, message_left, sweep_left}
-
-module _ (side : ℕ → Bool) (number : ℕ) (here : side number ≡ true) (config : Configuration) where
-  -- nothing comes to its desk
-  abbrev Elsewhere : Option Placement → Type 0
-  Elsewhere coming = at_desk_of number coming ≡ None
-
-  elsewhere : IsSoElsewhere config Elsewhere
-  elsewhere = record {
-    nowhere = refl;
-    at_a_dealer = λ firm what. refl;
-    by_a_drop = λ firm last moment. refl;
-    in_a_room = λ room what. refl;
-    by_a_hit = λ room response word moment. refl;
-  }
-
-  other_investor : (firm : ℕ) (what : ForInvestor) → side firm ≡ false
-      → Elsewhere (Some (arrival.Investor firm what))
-  other_investor firm what isnt =
-      ap (λ (b : Bool). if b then Some (For what) else None) (not_one side number firm here isnt)
-
-  may_bring : (by : Actor) (d : Duty) → IsOn side config false by d
-      → MayBring config Elsewhere by d
-  unfolding line_of
-  may_bring by (duty.Relay room offer moment) is = other_investor room.investor _ is.desk_on
-  may_bring by (duty.Gone room word moment) is = other_investor room.investor _ is.desk_on
-  may_bring (actor.Firm dealer) (duty.Declined room moment) is =
-      λ row found. other_investor room.investor _ is.desk_on
-  may_bring by (duty.Answer room response reply moment) is =
-      other_investor room.investor _ is.desk_on
-  may_bring by (duty.Close room moment) is = other_investor room.investor _ is.desk_on
-  may_bring by other is = tt
-
-  pub placed_elsewhere : (by : Actor) (d : Duty) → IsOn side config false by d
-      → Elsewhere (placed config by d)
-  placed_elsewhere by d is = placed_so config Elsewhere elsewhere by d (may_bring by d is)
 
 -- Two days are one to this side, before a step of it.
 pub record AreOne (side : ℕ → Bool) (config : Configuration) (one other : AuditTrail) : Type 0 where
@@ -183,28 +139,3 @@ module _ (side : ℕ → Bool) (config : Configuration) (one other : AuditTrail)
       (sweep_same side config one.facts room moment is
       ∙ ap (λ (l : List Fact). sweep_effect config l room moment) seen
       ∙ sym (sweep_same side config other.facts room moment is))
-
-  -- the same comes to the desk of an investor
-  pub comes_same : (number : ℕ) (s : Step) → StepOn side true s
-      → comes_by config number one s ≡ comes_by config number other s
-  unfolding comes_by
-  comes_same number (step.In firm moment bytes) is = refl
-  comes_same number (step.Turn by) is = ap (comes_by_turn config number by) (waits_same by is)
-  comes_same number (step.Expire room moment) is = refl
-
--- A step of the other side brings nothing to the desk of an investor of this side.
-module _ (side : ℕ → Bool) (config : Configuration) (trail : AuditTrail)
-    (stands : Stands side config false trail) (number : ℕ) (here : side number ≡ true) where
-  turn_brings : (by : Actor) (duties : List Duty) → Every (IsOn side config false by) duties
-      → comes_by_turn config number by duties ≡ None
-  turn_brings by [] on = refl
-  turn_brings by (d ∷ later) on = placed_elsewhere side number here config by d on.0
-
-  pub comes_none : (s : Step) → StepOn side false s → comes_by config number trail s ≡ None
-  unfolding comes_by
-  comes_none (step.In firm moment bytes) isnt =
-      ap (λ (b : Bool). if b then Some (Own moment bytes) else None)
-      (not_one side number firm here isnt)
-  comes_none (step.Turn by) isnt =
-      turn_brings by (pending by trail) (waits_on side config false by isnt trail stands)
-  comes_none (step.Expire room moment) isnt = refl

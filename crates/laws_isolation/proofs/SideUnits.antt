@@ -1,7 +1,6 @@
 -- A step with the turns of its actor behind it: all of them are steps of one side.
-use Rattle.std.proofs.Common.{◌≡◌, ℕ, zero, suc, Bool, true, false, List, [], ◌∷◌, ◌++◌, replicate}
-use Rattle.std.proofs.Common.{Option, refl, sym, ap, ◌∙◌, subst}
-use Rattle.std.specs.Option.{option_to_list}
+use Rattle.std.proofs.Common.{◌≡◌, ℕ, zero, suc, Bool, true, false, List, [], ◌∷◌, replicate}
+use Rattle.std.proofs.Common.{refl, sym, ◌∙◌, subst}
 use Rattle.venue_rows.specs.Rows.{Configuration}
 use Rattle.venue_steps.specs.declared.actors.Actor.TheVariants as actor
 use Rattle.step_replay.specs.AuditTrail.{AuditTrail, after_step, pending}
@@ -10,11 +9,10 @@ use Rattle.step_replay.specs.LiveDays.{actor_of, with_turns}
 use Rattle.step_replay.specs.declared.steps.Step.{Step}
 use Rattle.step_replay.specs.declared.steps.Step.TheVariants as step
 use Rattle.step_replay.specs.declared.steps.TheConstants.{MOST_TURNS_BEHIND}
-use Rattle.investor_views.specs.Comings.{Coming, comes_by, comings_from}
 use Rattle.laws_days.specs.DayParts.{CausedOk, steps_grow}
 use Rattle.laws_isolation.specs.Apart.{asks_across, has_ask_across, is_there}
 use Rattle.laws_isolation.proofs.ClockTurns.{after, unit_idle}
-use Rattle.laws_isolation.proofs.SideFollows.{AreOne, comes_none, comes_same, step_same}
+use Rattle.laws_isolation.proofs.SideFollows.{AreOne, step_same}
 use Rattle.laws_isolation.proofs.SideSteps.{ActsOn, ClockWithin, Stands, StepOn, step_leaves}
 use Rattle.laws_isolation.proofs.SideSteps.{step_stands}
 use Rattle.laws_isolation.proofs.ThereFacts.{FactsOn, IsOn, QueuedOn, there}
@@ -61,46 +59,25 @@ module _ (side : ℕ → Bool) (config : Configuration) where
       stands_after own steps (after_step config trail s) on.1
       (stands_then own s steps trail on.0 stands none) none
 
-  -- steps of this side: the days stay one, and the same comes to an investor's desk
-  abbrev StayOne : AuditTrail → AuditTrail → List Step → Type 0
-  StayOne one other steps = AreOne side config (after config one steps) (after config other steps)
-      × ((number : ℕ) → comings_from config number one steps
-      ≡ comings_from config number other steps)
-
+  -- steps of this side: the days stay one
   one_after : (steps : List Step) (one other : AuditTrail) → Every (StepOn side true) steps
       → AreOne side config one other → NoneAcross (after config one steps)
-      → StayOne one other steps
-  one_after [] one other on are none = (are, λ number. refl)
+      → AreOne side config (after config one steps) (after config other steps)
+  one_after [] one other on are none = are
   one_after (s ∷ steps) one other on are none =
-      let now = step_same side config one other are s on.0
-      (steps_grow (asks_across side) config steps (after_step config one s) none) in
-      let later = one_after steps (after_step config one s) (after_step config other s) on.1 now
-      none in (
-        later.0,
-        λ number. ap (λ (o : Option Coming). option_to_list o
-            ++ comings_from config number (after_step config one s) steps)
-            (comes_same side config one other are number s on.0)
-            ∙ ap (λ (l : List Coming). option_to_list (comes_by config number other s) ++ l)
-            (later.1 number),
-      )
+      one_after steps (after_step config one s) (after_step config other s) on.1
+      (step_same side config one other are s on.0
+      (steps_grow (asks_across side) config steps (after_step config one s) none)) none
 
   -- what steps of the other side leave as it was
-  abbrev AreLeft : AuditTrail → List Step → Type 0
-  AreLeft trail steps = (there side (after config trail steps) ≡ there side trail)
-      × ((number : ℕ) → side number ≡ true → comings_from config number trail steps ≡ [])
-
   leaves_after : (steps : List Step) (trail : AuditTrail) → Every (StepOn side false) steps
       → Stands side config false trail → NoneAcross (after config trail steps)
-      → AreLeft trail steps
-  leaves_after [] trail on stands none = (refl, λ number here. refl)
+      → there side (after config trail steps) ≡ there side trail
+  leaves_after [] trail on stands none = refl
   leaves_after (s ∷ steps) trail on stands none =
-      let later = leaves_after steps (after_step config trail s) on.1
-      (stands_then false s steps trail on.0 stands none) none in (
-        later.0 ∙ step_leaves side config trail s on.0 stands,
-        λ number here. ap (λ (o : Option Coming). option_to_list o
-            ++ comings_from config number (after_step config trail s) steps)
-            (comes_none side config trail stands number here s on.0) ∙ later.1 number here,
-      )
+      leaves_after steps (after_step config trail s) on.1
+      (stands_then false s steps trail on.0 stands none) none
+      ∙ step_leaves side config trail s on.0 stands
 
 -- A day rests between steps that come one by one: the clock has no duty left.
 pub record Rests (side : ℕ → Bool) (config : Configuration) (trail : AuditTrail) : Type 0 where
@@ -140,8 +117,6 @@ module _ (side : ℕ → Bool) (config : Configuration) where
     -- a step of this side in both
     pub own_unit : is_there side s ≡ true
         → RestAlike (after config one (with_turns s)) (after config other (with_turns s))
-        × ((number : ℕ) → comings_from config number one (with_turns s)
-        ≡ comings_from config number other (with_turns s))
     own_unit is =
         let start : AreOne side config one other = record {
           stands = stands_of true one alike.rests;
@@ -151,26 +126,22 @@ module _ (side : ℕ → Bool) (config : Configuration) where
         } in
         let stay = one_after side config (with_turns s) one other (unit_on side true s is) start
         none in
-        let now : RestAlike (after config one (with_turns s)) (after config other (with_turns s)) =
         record {
-          rests = rests_then true one s alike.rests stay.0.stands;
-          rests_too = rests_then true other s alike.rests_too stay.0.stands_too;
-          part_is = stay.0.part_is;
-        } in
-        (now, stay.1)
+          rests = rests_then true one s alike.rests stay.stands;
+          rests_too = rests_then true other s alike.rests_too stay.stands_too;
+          part_is = stay.part_is;
+        }
 
     -- one of the other side in the first
     pub other_unit : is_there side s ≡ false
         → RestAlike (after config one (with_turns s)) other
-        × ((number : ℕ) → side number ≡ true → comings_from config number one (with_turns s) ≡ [])
     other_unit isnt =
         let on = unit_on side false s isnt in
         let stands = stands_of false one alike.rests in
         let left = leaves_after side config (with_turns s) one on stands none in
-        let now : RestAlike (after config one (with_turns s)) other = record {
+        record {
           rests = rests_then false one s alike.rests
               (stands_after side config false (with_turns s) one on stands none);
           rests_too = alike.rests_too;
-          part_is = left.0 ∙ alike.part_is;
-        } in
-        (now, left.1)
+          part_is = left ∙ alike.part_is;
+        }

@@ -19,7 +19,6 @@ ghost use Rattle.laws_isolation.specs.DayViews.{EventsFit, investor_dues_of, inv
 use investor_views::{
     desks_send_their_view, investors_are_given_their_view, investors_are_sent_their_view,
 };
-use laws_days::steps_meet_their_tests;
 
 /// On threads, an investor's due list is read off the events at its desk, and what it was sent is
 /// the desk view of that (`sent`). This is the investor view if the day is woven (`woven`), and
@@ -56,7 +55,6 @@ pub fn lists_of_a_replay_fit()
         → desk_view (seen_by config row) (due_to_investor config investor steps)
         ≡ investor_view (seen_by config row) (due_to_investor config investor steps) }
 {
-    steps_meet_their_tests();
     desks_send_their_view();
 }
 

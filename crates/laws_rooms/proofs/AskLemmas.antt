@@ -164,6 +164,7 @@ in_investor fact [] is = absurd is
 in_investor fact (investor_trail.AtDesk other ∷ entries) (inl is) =
     inl (ap (λ (f : InvestorFact). investor_trail.AtDesk f) is)
 in_investor fact (investor_trail.AtDesk other ∷ entries) (inr is) = inr (in_investor fact entries is)
+in_investor fact (investor_trail.Happened event ∷ entries) is = inr (in_investor fact entries is)
 in_investor fact (investor_trail.Sent bytes ∷ entries) is = inr (in_investor fact entries is)
 
 or_true : (b : Bool) → (b || true) ≡ true

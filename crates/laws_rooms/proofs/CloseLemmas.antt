@@ -98,8 +98,8 @@ hushed config (duty.Relay room offer moment) isnt = λ row found market book.
     offer_silent book room.n moment offer (open_request book room.n)
 hushed config (duty.Gone room word moment) isnt = λ row found market book.
     withdrawal_silent word moment (open_request book room.n)
-hushed config (duty.Declined room moment) isnt = λ dealer row found market book.
-    decline_silent dealer moment (open_request book room.n)
+hushed config (duty.Declined room moment) isnt = λ number dealer is row found market book.
+    decline_silent dealer.name moment (open_request book room.n)
 hushed config (duty.Answer room response reply moment) isnt = λ fits row found market book.
     answer_silent response reply moment (request_numbered book room.n)
 hushed config (duty.Close room moment) isnt = absurd isnt

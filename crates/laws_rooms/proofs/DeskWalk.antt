@@ -148,7 +148,7 @@ module _ (P : InvestorFact → Type 0) (config : Configuration) (facts : List Fa
   unfolding investor_output.event_facts
   may (duty.Relay at offer moment) is = λ row found same. is same
   may (duty.Gone at word moment) is = λ row found same. is same
-  may (duty.Declined at moment) is = λ dealer row found same. tt
+  may (duty.Declined at moment) is = λ number dealer known row found same. tt
   may (duty.Answer at response reply moment) is = λ fits row found same. is same
   may (duty.Close at moment) is = λ row found same. is same
   may other is = tt

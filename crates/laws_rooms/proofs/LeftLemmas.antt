@@ -147,10 +147,13 @@ module _ (config : Configuration) (facts : List Fact) where
         (investor_output.event_messages market (investor_trail.book_by trail) event) in
         record {
           facts = mapped IsOther (AtInvestor market.firm)
-              (map investor_trail.AtDesk added ++ map investor_trail.Sent messages)
-              (every_both AtThis (map investor_trail.AtDesk added) (map investor_trail.Sent messages)
-              (mapped AtThis investor_trail.AtDesk added each)
-              (every_map AtThis investor_trail.Sent (λ bytes. tt) messages));
+              (investor_trail.Happened event
+              ∷ map investor_trail.AtDesk added ++ map investor_trail.Sent messages) (
+                tt,
+                every_both AtThis (map investor_trail.AtDesk added) (map investor_trail.Sent messages)
+                    (mapped AtThis investor_trail.AtDesk added each)
+                    (every_map AtThis investor_trail.Sent (λ bytes. tt) messages),
+              );
         }
 
   lifted_quiet : (found : Option QuoteRef) (outcome : Result End HitRefusal)
@@ -391,10 +394,13 @@ module _ (config : Configuration) (facts : List Fact) (firm : ℕ) where
         (investor_output.event_messages own (investor_trail.book_by trail) (at_investor.Received moment bytes)) in
         record {
           facts = mapped (LeavesOf config (actor.Firm firm) waiting) (AtInvestor firm)
-              (map investor_trail.AtDesk added ++ map investor_trail.Sent messages)
-              (every_both AtFirm (map investor_trail.AtDesk added) (map investor_trail.Sent messages)
-              (mapped AtFirm investor_trail.AtDesk added (tt, by_verdict found))
-              (every_map AtFirm investor_trail.Sent (λ text. tt) messages));
+              (investor_trail.Happened (at_investor.Received moment bytes)
+              ∷ map investor_trail.AtDesk added ++ map investor_trail.Sent messages) (
+                tt,
+                every_both AtFirm (map investor_trail.AtDesk added) (map investor_trail.Sent messages)
+                    (mapped AtFirm investor_trail.AtDesk added (tt, by_verdict found))
+                    (every_map AtFirm investor_trail.Sent (λ text. tt) messages),
+              );
         }
 
   pub message_leaves : (moment : ℕ) (bytes : List ℕ)

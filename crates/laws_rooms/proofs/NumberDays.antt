@@ -141,7 +141,7 @@ module _ (config : Configuration) (investor : ℕ) where
   action_keeps facts desk room effect (by_dealer number row event duties at found comes is) =
       away facts effect (ap (λ (e : Effect). of_investor investor e.facts) is
       ∙ investor_at_dealer investor number (entries_of config.date row (of_dealer number facts) event))
-  action_keeps facts desk room effect (by_investor number row event duties at found is) =
+  action_keeps facts desk room effect (by_investor number row event duties at found fit is) =
       subst (Keeps facts) (sym is) (market_keeps facts number row event duties)
   action_keeps facts desk room effect (by_room at event duties here is) =
       away facts effect (ap (λ (e : Effect). of_investor investor e.facts) is

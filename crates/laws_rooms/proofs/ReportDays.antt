@@ -308,7 +308,7 @@ module _ (config : Configuration) (investor : ℕ) (row : InvestorRow)
   action_keeps facts desk room effect (by_dealer number other event duties there found comes at) =
       away facts effect (ap (λ (e : Effect). of_investor investor e.facts) at
       ∙ investor_at_dealer investor number (entries_of config.date other (of_dealer number facts) event))
-  action_keeps facts desk room effect (by_investor number other event duties there found at) =
+  action_keeps facts desk room effect (by_investor number other event duties there found fit at) =
       subst (Keeps facts) (sym at) (market_keeps facts number other found event duties)
   action_keeps facts desk room effect (by_room place event duties here at) =
       away facts effect (ap (λ (e : Effect). of_investor investor e.facts) at

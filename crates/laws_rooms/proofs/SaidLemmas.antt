@@ -90,7 +90,8 @@ event_sent facts market event duties =
     let added = investor_output.event_facts market (investor_trail.book_by trail) event in
     let messages = investor_output.written_from market (length (investor_trail.sent_by trail) + 1)
     (investor_output.moment_of event) (investor_output.event_messages market (investor_trail.book_by trail) event) in
-    let entries = map investor_trail.AtDesk added ++ map investor_trail.Sent messages in
+    let entries = investor_trail.Happened event
+    ∷ map investor_trail.AtDesk added ++ map investor_trail.Sent messages in
     ap (λ (l : List InvestorEntry). investor_trail.sent_by l) (own_investor market.firm entries)
     ∙ filter_map-append investor_trail.message_in (map investor_trail.AtDesk added) (map investor_trail.Sent messages)
     ∙ ap (λ (l : List (List ℕ)). l ++ filter_map investor_trail.message_in (map investor_trail.Sent messages))

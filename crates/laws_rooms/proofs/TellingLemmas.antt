@@ -38,7 +38,7 @@ use Rattle.step_replay.specs.AuditTrail.{is_same_actor}
 use Rattle.step_replay.specs.DutyEffects.{duty_effect, message_effect, sweep_effect}
 use Rattle.step_replay.specs.GrowthLemmas.{same_room}
 use Rattle.step_replay.specs.InvestorTrail as investor_trail
-use Rattle.step_replay.specs.InvestorTrail.{InvestorEntry, Sent, facts_of}
+use Rattle.step_replay.specs.InvestorTrail.{Happened, InvestorEntry, Sent, facts_of}
 use Rattle.step_replay.specs.Lists.{Every, In}
 use Rattle.step_replay.specs.OwnerLemmas.{quote_at}
 use Rattle.step_replay.specs.PlaceLemmas.{investor_grown, own_investor}
@@ -360,7 +360,7 @@ module _ (dealer : ℕ) (config : Configuration) (row : DealerRow)
 
     -- what comes to the desk are these entries
     entries_are : (moment : ℕ) → trail (at_market facts market (declined moment) []).facts
-        ≡ map Sent (investor_output.written_from market (length (investor_trail.sent_by (trail facts)) + 1) moment
+        ≡ Happened (declined moment) ∷ map Sent (investor_output.written_from market (length (investor_trail.sent_by (trail facts)) + 1) moment
         (investor_output.decline_messages row.name (while_open (request_numbered book room.n))))
     unfolding investor_trail.entries_of investor_output.event_facts investor_output.event_messages
     entries_are moment =
@@ -393,7 +393,7 @@ module _ (dealer : ℕ) (config : Configuration) (row : DealerRow)
 
     by_close : (moment : ℕ) (own : StandingRequest) → request_numbered book room.n ≡ Some own
         → (close : Option RequestClose) → own.close ≡ close → (added : List Fact)
-        → trail added ≡ map Sent (investor_output.written_from market
+        → trail added ≡ Happened (declined moment) ∷ map Sent (investor_output.written_from market
         (length (investor_trail.sent_by (trail facts)) + 1) moment
         (investor_output.decline_messages row.name (if is_none close then Some own else None)))
         → Brings facts added (Declines ∷ [])
@@ -402,7 +402,7 @@ module _ (dealer : ℕ) (config : Configuration) (row : DealerRow)
         record { said = said_of moment own; bytes_are = refl; is_it = is_decline moment own found } in
         duly (record {
           quotes = record {
-            before = [];
+            before = Happened (declined moment) ∷ [];
             entry = Sent (said_to market (said_of moment own));
             after = [];
             are = are;
@@ -412,7 +412,7 @@ module _ (dealer : ℕ) (config : Configuration) (row : DealerRow)
           };
           all = λ limits live fit stands. (
             record {
-              before = [];
+              before = Happened (declined moment) ∷ [];
               entry = Sent (said_to market (said_of moment own));
               after = [];
               are = are;
@@ -437,7 +437,8 @@ module _ (dealer : ℕ) (config : Configuration) (row : DealerRow)
     by_own moment (Some own) at some =
         by_close moment own at own.close refl (at_market facts market (declined moment) []).facts
         (entries_are moment
-        ∙ ap (λ (r : Option StandingRequest). map Sent (investor_output.written_from market
+        ∙ ap (λ (r : Option StandingRequest). Happened (declined moment)
+        ∷ map Sent (investor_output.written_from market
         (length (investor_trail.sent_by (trail facts)) + 1) moment
         (investor_output.decline_messages row.name (while_open r)))) at)
 

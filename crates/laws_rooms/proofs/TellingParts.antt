@@ -13,7 +13,7 @@ use Rattle.request_room.specs.declared.quotes.PostedQuote.{PostedQuote}
 use Rattle.step_replay.specs.EachLemmas.{every_both, every_weaker}
 use Rattle.step_replay.specs.GrowthLemmas.{in_left}
 use Rattle.step_replay.specs.InvestorTrail as investor_trail
-use Rattle.step_replay.specs.InvestorTrail.{AtDesk, InvestorEntry, Sent, facts_of}
+use Rattle.step_replay.specs.InvestorTrail.{AtDesk, Happened, InvestorEntry, Sent, facts_of}
 use Rattle.step_replay.specs.Lists.{Every}
 use Rattle.laws_shown.proofs.ShownParts.{offers_both}
 use Rattle.laws_days.proofs.ListLemmas.{find_grown}
@@ -118,6 +118,9 @@ module _ (config : Configuration) (market : InvestorMarket) (dealer : ℕ) (name
     shown_told (AtDesk fact ∷ entries) =
         tell_behind NoneIn none_both (map Quotes (quotes_shown config dealer request (facts_of entries)))
         (AtDesk fact ∷ []) entries refl (shown_told entries)
+    shown_told (Happened event ∷ entries) =
+        tell_behind NoneIn none_both (map Quotes (quotes_shown config dealer request (facts_of entries)))
+        (Happened event ∷ []) entries refl (shown_told entries)
     shown_told (Sent bytes ∷ entries) =
         tell_behind NoneIn none_both (map Quotes (quotes_shown config dealer request (facts_of entries)))
         (Sent bytes ∷ []) entries refl (shown_told entries)
@@ -169,6 +172,9 @@ module _ (config : Configuration) (market : InvestorMarket) (dealer : ℕ) (name
       says = say.0;
       then_rest = facts_told answers entries say.1;
     }
+    facts_told (answer ∷ answers) (Happened event ∷ entries) say =
+        tell_behind SilentIn silent_both (answer ∷ answers) (Happened event ∷ []) entries tt
+        (facts_told (answer ∷ answers) entries say)
     facts_told (answer ∷ answers) (Sent bytes ∷ entries) say =
         tell_behind SilentIn silent_both (answer ∷ answers) (Sent bytes ∷ []) entries tt
         (facts_told (answer ∷ answers) entries say)

@@ -74,14 +74,14 @@ module _ (config : Configuration) (facts : List Fact) where
         → IfSome (investor_trail.fact_in entry)
         (λ (fact : InvestorFact). InvestorOk config facts investor (investor_trail.AtDesk fact))
     fact_of_investor investor (investor_trail.AtDesk fact) ok = ok
-    fact_of_investor investor (investor_trail.Sent message) ok = tt
+    fact_of_investor investor other ok = tt
 
     message_of_investor : (investor : ℕ) (entry : InvestorEntry)
         → InvestorOk config facts investor entry
         → IfSome (investor_trail.message_in entry)
         (λ (message : List ℕ). InvestorOk config facts investor (investor_trail.Sent message))
-    message_of_investor investor (investor_trail.AtDesk fact) ok = tt
     message_of_investor investor (investor_trail.Sent message) ok = ok
+    message_of_investor investor other ok = tt
 
     fact_of_dealer : (dealer : ℕ) (entry : DealerEntry) → DealerOk config facts dealer entry
         → IfSome (dealer_trail.fact_in entry)

@@ -136,11 +136,13 @@ module _ (config : Configuration) (facts : List Fact) (by : Actor) (firm : ℕ) 
           → Every (InvestorOk config now firm) entries
       unfolding entries_of
       entries_ok stand say =
-          let Ok = InvestorOk config now firm in
-          every_both Ok (map AtDesk happened) (map Sent sent)
-          (every_in (λ fact. Ok (AtDesk fact)) Ok AtDesk (λ fact ok. ok) happened stand)
-          (every_in (λ message. Ok (Sent message)) Ok Sent (λ message ok. ok) sent
-          (written_ok first (moment_of more) (event_messages market book more) say))
+          let Ok = InvestorOk config now firm in (
+            tt,
+            every_both Ok (map AtDesk happened) (map Sent sent)
+                (every_in (λ fact. Ok (AtDesk fact)) Ok AtDesk (λ fact ok. ok) happened stand)
+                (every_in (λ message. Ok (Sent message)) Ok Sent (λ message ok. ok) sent
+                (written_ok first (moment_of more) (event_messages market book more) say)),
+          )
 
       pub market_brings : Every (λ fact. InvestorOk config now firm (AtDesk fact)) happened
           → Every Says (event_messages market book more)

@@ -297,7 +297,7 @@ module _ (config : Configuration) (room : RoomRef) where
   action_keeps facts desk at effect (by_dealer number row event duties desk_is found comes is) kept =
       subst (λ (e : Effect). Kept (facts ++ e.facts)) (sym is)
       (with_more facts _ [] (room_at_dealer room number _) tt kept)
-  action_keeps facts desk at effect (by_investor number row event duties desk_is found is) kept =
+  action_keeps facts desk at effect (by_investor number row event duties desk_is found fit is) kept =
       subst (λ (e : Effect). Kept (facts ++ e.facts)) (sym is)
       (with_more facts _ [] (room_at_investor room number _) tt kept)
   action_keeps facts desk at effect (by_room here event duties at_is is) kept =

@@ -13,13 +13,14 @@ use Rattle.laws_days.proofs.Common.{is_ready, names, request_of, End, RoomReques
 use Rattle.laws_days.proofs.Common.{replies_to, same_text, ShownOffer, Effect}
 use Rattle.laws_days.proofs.Common.{QuoteRef, lifting, dealer_of, told_to, quote_with_word}
 use Rattle.laws_days.proofs.Common.{AtDesk, Sent, ShownIn, book_by, entries_of, message_by, rooms_by, none_holds}
-use Rattle.laws_days.proofs.Common.{Every, Fact, InRoom, InvestorFact}
+use Rattle.laws_days.proofs.Common.{Every, Fact, InRoom, InvestorFact, market_of, of_investor}
 use Rattle.market_terms.specs.declared.closes.Close.TheVariants as closes
 use Rattle.market_terms.specs.declared.closes.Reply.TheVariants as reply
 use Rattle.market_terms.specs.declared.duties.Duty.TheVariants as duty
 use Rattle.dealer_desk.specs.DealerOutput as dealer_output
 use Rattle.dealer_desk.specs.declared.events.DealerEvent.TheVariants as event
 use Rattle.investor_desk.specs.InvestorFacts.{Closed, offer_numbered}
+use Rattle.investor_desk.specs.declared.events.InvestorEvent.TheVariants as at_investor
 use Rattle.investor_desk.specs.declared.standing.RequestClose.TheVariants.{Awarded}
 use Rattle.request_room.specs.Book.{award_of, book_of as quotes_of, end_by, hit_outcome, reply_of}
 use Rattle.request_room.specs.Book.{event_facts as room_event_facts}
@@ -298,12 +299,14 @@ module _ (h : Here) (p : Pair) (trades : TradeOk h.config h.venue) (limits : Kee
   answer_adds replies knows_it = elim (cases_some (investor_numbered h.config room.investor)) [
     | inl none ↦ cc (rw none at (known_room h.stood room response.k knows_it))
     | inr some ↦ rw (some.1, replies, knows_it) (record {
-      hit_is = hits_in p room.investor _ _
+      hit_is = hits_in p room.investor _ _ _
           ∙ ap (λ (l : List InvestorFact). if room.investor == p.investor
           then filter_map (hit_in p.investor p.dealer_name) l else [])
           (closes_it h room response moment some.0 some.1 answer knows_it)
           ∙ answered;
-      told_is = notices_in p room.investor _;
+      told_is = notices_in p room.investor (investor_trail.entries_of
+          (market_of h.config room.investor some.0) (of_investor room.investor h.venue.facts)
+          (at_investor.Answered room.n response reply.Awarded moment));
       batch = still_batch p [] tt;
     })
   ]

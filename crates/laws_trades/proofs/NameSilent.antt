@@ -126,35 +126,41 @@ module _ (p : Pair) where
       silent_desk dealer facts [] messages (every_weaker IsPlain
       (λ fact. notice_in p.investor_name (last_trail p) fact ≡ None) plain_none facts plain)
 
-  -- what an event adds at an investor's desk
-  pub hits_in : (firm : ℕ) (facts : List InvestorFact) (messages : List (List ℕ))
-      → hits p (map (AtInvestor firm)
-      (map investor_trail.AtDesk facts ++ map investor_trail.Sent messages))
+  -- entries at an investor's desk
+  hits_among : (firm : ℕ) (entries : List InvestorEntry) → hits p (map (AtInvestor firm) entries)
+      ≡ (if firm == p.investor
+      then filter_map (hit_in p.investor p.dealer_name) (investor_trail.facts_of entries) else [])
+  hits_among firm entries = elim (cases_Bool (firm == p.investor)) [
+    | inl test ↦ rw (test, eqb-true firm p.investor test, own_investor p.investor entries) refl
+    | inr differs ↦ rw (differs, other_investor p.investor firm differs entries) refl
+  ]
+
+  -- what an event adds there
+  pub hits_in : (firm : ℕ) (event : InvestorEvent) (facts : List InvestorFact)
+      (messages : List (List ℕ))
+      → hits p (map (AtInvestor firm) (investor_trail.Happened event
+      ∷ map investor_trail.AtDesk facts ++ map investor_trail.Sent messages))
       ≡ (if firm == p.investor then filter_map (hit_in p.investor p.dealer_name) facts else [])
-  hits_in firm facts messages =
-      let entries = map investor_trail.AtDesk facts ++ map investor_trail.Sent messages in
-      elim (cases_Bool (firm == p.investor)) [
-        | inl test ↦ rw (
-          test,
-          eqb-true firm p.investor test,
-          own_investor p.investor entries,
-          market_added facts messages,
-        ) refl
-        | inr differs ↦ rw (differs, other_investor p.investor firm differs entries) refl
-      ]
+  hits_in firm event facts messages =
+      hits_among firm (investor_trail.Happened event
+      ∷ map investor_trail.AtDesk facts ++ map investor_trail.Sent messages)
+      ∙ ap (λ (l : List InvestorFact). if firm == p.investor
+      then filter_map (hit_in p.investor p.dealer_name) l else []) (market_added facts messages)
 
   pub notices_in : (firm : ℕ) (entries : List InvestorEntry)
       → notices p (map (AtInvestor firm) entries) ≡ []
   notices_in firm entries = rw (trail_at_investor p.dealer firm entries) refl
 
-  silent_market : (firm : ℕ) (facts : List InvestorFact) (messages : List (List ℕ))
+  silent_market : (firm : ℕ) (event : InvestorEvent) (facts : List InvestorFact)
+      (messages : List (List ℕ))
       → Every (λ fact. hit_in p.investor p.dealer_name fact ≡ None) facts
-      → Silent (map (AtInvestor firm)
-      (map investor_trail.AtDesk facts ++ map investor_trail.Sent messages))
-  silent_market firm facts messages none = record {
-    hit = hits_in firm facts messages
+      → Silent (map (AtInvestor firm) (investor_trail.Happened event
+      ∷ map investor_trail.AtDesk facts ++ map investor_trail.Sent messages))
+  silent_market firm event facts messages none = record {
+    hit = hits_in firm event facts messages
         ∙ if_none (firm == p.investor) _ (none_said (hit_in p.investor p.dealer_name) facts none);
-    told = notices_in firm _;
+    told = notices_in firm (investor_trail.Happened event
+        ∷ map investor_trail.AtDesk facts ++ map investor_trail.Sent messages);
   }
 
   -- Steps.
@@ -175,7 +181,7 @@ module _ (p : Pair) where
         (investor_trail.book_by (of_investor firm known)) event)
         → SilentIn (at_market known (market_of config firm row) event duties)
     unfolding investor_trail.entries_of
-    market_silent firm row event duties none = silent_market firm _ _ none
+    market_silent firm row event duties none = silent_market firm event _ _ none
 
     pub offer_none : (book : InvestorBook) (request : ℕ) (offer : Offer) (own : Option StandingRequest)
         → NoHits (offer_facts book request offer own)

@@ -35,8 +35,8 @@ use Rattle.investor_desk.specs.declared.verdicts.InvestorVerdict.{InvestorVerdic
 use Rattle.investor_desk.specs.declared.verdicts.InvestorVerdict.TheVariants as verdict
 use Rattle.step_replay.specs.EachLemmas.{Each, each_append, each_weaker}
 use Rattle.step_replay.specs.InvestorGrowth.{desk_of, desk_push, facts_grown, trail_push}
-use Rattle.step_replay.specs.InvestorTrail.{AtDesk, InvestorEntry, Sent, book_by, entries_of, facts_of}
-use Rattle.step_replay.specs.InvestorTrail.{sent_by}
+use Rattle.step_replay.specs.InvestorTrail.{AtDesk, Happened, InvestorEntry, Sent, book_by}
+use Rattle.step_replay.specs.InvestorTrail.{entries_of, fact_in, facts_of, message_in, sent_by}
 use Rattle.step_replay.specs.NotedGrowth.{noted_push, notes_more}
 use Rattle.step_replay.specs.NotedTrail.{NotedAs}
 use Rattle.laws_days.proofs.NewsWalk.{news_adds, none_given, offer_adds}
@@ -175,12 +175,29 @@ module _ (market : InvestorMarket) (investor : ℕ) (dealer : List ℕ) where
         most = omega (arith, most, long);
       }
 
-  told_now : (trail : List InvestorEntry) (notes : List (Option InvestorNote))
-      (request quote price : ℕ) (message : List ℕ) → length notes ≡ length (sent_by trail)
+  -- a trail that has come to an event
+  abbrev come : List InvestorEntry → InvestorEvent → List InvestorEntry
+  come trail event = trail ++ Happened event ∷ []
+
+  rooms_come : (trail : List InvestorEntry) (event : InvestorEvent)
+      → rooms (come trail event) ≡ rooms trail
+  rooms_come trail event =
+      ap (filter_map (hit_in investor dealer))
+      (filter_map-append fact_in trail (Happened event ∷ []) ∙ append-nil (facts_of trail))
+
+  sent_come : (trail : List InvestorEntry) (event : InvestorEvent)
+      → sent_by (come trail event) ≡ sent_by trail
+  sent_come trail event =
+      filter_map-append message_in trail (Happened event ∷ []) ∙ append-nil (sent_by trail)
+
+  told_now : (trail : List InvestorEntry) (event : InvestorEvent)
+      (notes : List (Option InvestorNote)) (request quote price : ℕ) (message : List ℕ)
+      → length notes ≡ length (sent_by trail)
       → length (filter (trades_with_dealer dealer) notes) ≡ length (rooms trail)
-      → IsTold (trail ++ (AtDesk (Closed request (close.Awarded quote dealer price)) ∷ Sent message ∷ []))
+      → IsTold (trail ++ (Happened event
+      ∷ AtDesk (Closed request (close.Awarded quote dealer price)) ∷ Sent message ∷ []))
       (notes ++ Some (note.Trade dealer) ∷ []) (rooms trail) (room_of investor request)
-  told_now trail notes request quote price message long count =
+  told_now trail event notes request quote price message long count =
       let added : List (Option InvestorNote) = Some (note.Trade dealer) ∷ [] in
       let next : length (notes ++ added) ≡ length notes + 1 = length-append notes added in
       let place : length (notes ++ added) - 1 ≡ length notes = omega (arith, next) in
@@ -194,16 +211,18 @@ module _ (market : InvestorMarket) (investor : ℕ) (dealer : List ℕ) where
       record {
         number = length (notes ++ added);
         tells = record {
-          stood = trail;
+          stood = come trail event;
           quote = quote;
           price = price;
           message = message;
           after = [];
-          trail_is = sym (append-nil (trail
+          trail_is = sym (append_assoc trail (Happened event ∷ [])
+              (AtDesk (Closed request (close.Awarded quote dealer price)) ∷ Sent message ∷ []))
+              ∙ sym (append-nil (come trail event
               ++ (AtDesk (Closed request (close.Awarded quote dealer price)) ∷ Sent message ∷ [])));
-          number_is = next ∙ ap (λ (n : ℕ). n + 1) long;
+          number_is = next ∙ ap (λ (n : ℕ). n + 1) (long ∙ ap length (sym (sent_come trail event)));
         };
-        before_is = refl;
+        before_is = sym (rooms_come trail event);
         said = ap (slice_get (notes ++ added)) place ∙ get_next notes [] (Some (note.Trade dealer));
         counted = ap (count_by (trades_with_dealer dealer))
             (take_all (length (notes ++ added)) (notes ++ added) (omega arith))
@@ -328,10 +347,12 @@ module _ (market : InvestorMarket) (investor : ℕ) (dealer : List ℕ) where
             let bytes = written_from market (length (sent_by trail) + 1) (moment_of more)
             (message ∷ []) in
             let entries : entries_of market trail more
-            ≡ AtDesk (Closed request (close.Awarded quote dealer price)) ∷ map Sent bytes =
-            ap (λ (f : List InvestorFact). map AtDesk f ++ map Sent (written_from market
+            ≡ Happened more
+            ∷ AtDesk (Closed request (close.Awarded quote dealer price)) ∷ map Sent bytes =
+            ap (λ (f : List InvestorFact). Happened more ∷ map AtDesk f ++ map Sent (written_from market
             (length (sent_by trail) + 1) (moment_of more) (event_messages market book more))) facts_are
-            ∙ ap (λ (m : List OutMessage). AtDesk (Closed request (close.Awarded quote dealer price))
+            ∙ ap (λ (m : List OutMessage). Happened more
+            ∷ AtDesk (Closed request (close.Awarded quote dealer price))
             ∷ map Sent (written_from market (length (sent_by trail) + 1) (moment_of more) m)) messages_are in
             let fresh : added ≡ Some (note.Trade dealer) ∷ [] =
             ap (λ (m : List OutMessage). beside_each m (event_note market book more)) messages_are
@@ -343,8 +364,8 @@ module _ (market : InvestorMarket) (investor : ℕ) (dealer : List ℕ) where
             ∙ rw (text_self dealer) refl) (
               subst (λ (l : List InvestorEntry). IsTold (trail ++ l) (notes ++ added) (rooms trail) (room_of investor request))
                   (sym entries)
-                  (subst (λ (l : List (Option InvestorNote)). IsTold (trail ++ AtDesk (Closed request (close.Awarded quote dealer price)) ∷ map Sent bytes) (notes ++ l) (rooms trail) (room_of investor request))
+                  (subst (λ (l : List (Option InvestorNote)). IsTold (trail ++ Happened more ∷ AtDesk (Closed request (close.Awarded quote dealer price)) ∷ map Sent bytes) (notes ++ l) (rooms trail) (room_of investor request))
                   (sym fresh)
-                  (told_now trail notes request quote price _ was.long was.count)),
+                  (told_now trail more notes request quote price _ was.long was.count)),
               tt,
             )

@@ -71,6 +71,8 @@ entry_sent message (investor_trail.Sent other ∷ trail) (inl is) = inl (cc)
 entry_sent message (investor_trail.Sent other ∷ trail) (inr is) = inr (entry_sent message trail is)
 entry_sent message (investor_trail.AtDesk fact ∷ trail) (inl is) = cc
 entry_sent message (investor_trail.AtDesk fact ∷ trail) (inr is) = entry_sent message trail is
+entry_sent message (investor_trail.Happened event ∷ trail) (inl is) = cc
+entry_sent message (investor_trail.Happened event ∷ trail) (inr is) = entry_sent message trail is
 
 next_in : (message : List ℕ) (trail : List DealerEntry) → next_sent trail ≡ Some message
     → In message (dealer_trail.sent_by trail)

@@ -70,6 +70,7 @@ sent_in bytes [] is = absurd is
 sent_in bytes (investor_trail.Sent other ∷ trail) (inl is) = inl (ap (λ (b : List ℕ). investor_trail.Sent b) is)
 sent_in bytes (investor_trail.Sent other ∷ trail) (inr is) = inr (sent_in bytes trail is)
 sent_in bytes (investor_trail.AtDesk fact ∷ trail) is = inr (sent_in bytes trail is)
+sent_in bytes (investor_trail.Happened event ∷ trail) is = inr (sent_in bytes trail is)
 
 said_to : (config : Configuration) (steps : List Step) (investor : ℕ) (bytes : List ℕ)
     → In bytes (investor_trail.sent_by (of_investor investor (audit_trail config steps).facts))

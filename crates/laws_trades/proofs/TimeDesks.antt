@@ -281,11 +281,14 @@ module _ (config : Configuration) (facts : List Fact) where
         (investor_output.moment_of event) some in
         record {
           facts_are = mapped (FactTimed config so_facts) (AtInvestor investor)
-              (map investor_trail.AtDesk added ++ map investor_trail.Sent messages)
-              (every_both AtThis (map investor_trail.AtDesk added) (map investor_trail.Sent messages)
-              (every_map AtThis investor_trail.AtDesk (λ fact. tt) added)
-              (mapped AtThis investor_trail.Sent messages
-              (messages_so may (length (investor_trail.sent_by trail) + 1) some (all_among [] some))));
+              (investor_trail.Happened event
+              ∷ map investor_trail.AtDesk added ++ map investor_trail.Sent messages) (
+                tt,
+                every_both AtThis (map investor_trail.AtDesk added) (map investor_trail.Sent messages)
+                    (every_map AtThis investor_trail.AtDesk (λ fact. tt) added)
+                    (mapped AtThis investor_trail.Sent messages (messages_so may
+                    (length (investor_trail.sent_by trail) + 1) some (all_among [] some))),
+              );
           duties_are = left;
         }
 

@@ -206,6 +206,7 @@ module _ (config : Configuration) (facts : List Fact) where
       subst (λ (e : InvestorEntry). In fact (investor_trail.facts_of (e ∷ trail))) (sym is) (inl refl)
   in_facts fact (investor_trail.AtDesk other ∷ trail) (inr is) = inr (in_facts fact trail is)
   in_facts fact (investor_trail.Sent bytes ∷ trail) (inr is) = in_facts fact trail is
+  in_facts fact (investor_trail.Happened event ∷ trail) (inr is) = in_facts fact trail is
 
   module _ (investor : ℕ) (row : InvestorRow) (is : investor_numbered config investor ≡ Some row)
       (moment : ℕ) (bytes : List ℕ) where
@@ -236,7 +237,7 @@ module _ (config : Configuration) (facts : List Fact) where
         (in_facts (investor_facts.Came moment bytes true) (stood ++ investor_trail.entries_of own stood coming)
         (in_right (investor_trail.AtDesk (investor_facts.Came moment bytes true)) stood
         (investor_trail.entries_of own stood coming)
-        (inl (ap (λ (b : Bool). investor_trail.AtDesk (investor_facts.Came moment bytes b)) uses))))
+        (inr (inl (ap (λ (b : Bool). investor_trail.AtDesk (investor_facts.Came moment bytes b)) uses)))))
 
     by_verdict : (v : InvestorVerdict) → verdict_is ≡ v
         → Every (DutyTimed config come_facts) (option_to_list (investor_output.verdict_duty own moment v))

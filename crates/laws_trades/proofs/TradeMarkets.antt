@@ -30,7 +30,7 @@ use Rattle.venue_steps.specs.declared.actors.Actor.TheVariants as actor
 use Rattle.step_replay.specs.Actions.{at_market, left_by_investor}
 use Rattle.step_replay.specs.Actions.{received_by_investor}
 use Rattle.step_replay.specs.InvestorGrowth.{trail_push}
-use Rattle.step_replay.specs.InvestorTrail.{AtDesk, Sent, entries_of}
+use Rattle.step_replay.specs.InvestorTrail.{AtDesk, Happened, Sent, entries_of}
 use Rattle.step_replay.specs.PlaceLemmas.{own_investor}
 use Rattle.laws_days.proofs.KnownDesks.{offers_both}
 use Rattle.laws_days.proofs.ListLemmas.{cases_some, find_grown}
@@ -68,15 +68,25 @@ fact_later {was} later investor fact is =
 
 module _ (h : Here) where
   -- what comes to stand at an investor's desk
-  market_facts : (effect : Effect) (firm : ℕ) (facts : List InvestorFact) (messages : List (List ℕ))
+  entries_facts : (effect : Effect) (firm : ℕ) (facts : List InvestorFact) (messages : List (List ℕ))
       → Every (λ fact. FactNow h effect (AtInvestor firm (AtDesk fact))) facts
       → Every (λ message. FactNow h effect (AtInvestor firm (Sent message))) messages
       → Every (FactNow h effect) (map (AtInvestor firm) (map AtDesk facts ++ map Sent messages))
-  market_facts effect firm (fact ∷ facts) messages is sent =
-      (is.0, market_facts effect firm facts messages is.1 sent)
-  market_facts effect firm [] (message ∷ messages) is sent =
-      (sent.0, market_facts effect firm [] messages tt sent.1)
-  market_facts effect firm [] [] is sent = tt
+  entries_facts effect firm (fact ∷ facts) messages is sent =
+      (is.0, entries_facts effect firm facts messages is.1 sent)
+  entries_facts effect firm [] (message ∷ messages) is sent =
+      (sent.0, entries_facts effect firm [] messages tt sent.1)
+  entries_facts effect firm [] [] is sent = tt
+
+  -- all that an event adds
+  market_facts : (effect : Effect) (firm : ℕ) (event : InvestorEvent) (facts : List InvestorFact)
+      (messages : List (List ℕ))
+      → Every (λ fact. FactNow h effect (AtInvestor firm (AtDesk fact))) facts
+      → Every (λ message. FactNow h effect (AtInvestor firm (Sent message))) messages
+      → Every (FactNow h effect) (map (AtInvestor firm)
+      (Happened event ∷ map AtDesk facts ++ map Sent messages))
+  market_facts effect firm event facts messages is sent =
+      (λ now later. tt, entries_facts effect firm facts messages is sent)
 
   -- what may be read later may be read now
   pub may_now : (effect : Effect) (firm : ℕ) (row : InvestorRow)
@@ -151,7 +161,7 @@ module _ (h : Here) where
         → Makes h (at_market h.venue.facts market event [])
     unfolding entries_of
     event_makes event is sent = record {
-      facts = market_facts (at_market h.venue.facts market event []) firm
+      facts = market_facts (at_market h.venue.facts market event []) firm event
           (event_facts market (book_of desk_facts) event) (sent_with event) is sent;
       left = tt;
     }
@@ -238,7 +248,7 @@ module _ (h : Here) where
           let effect = at_market h.venue.facts market own left in
           let v = investor_verdict market (book_of desk_facts) moment bytes in
           record {
-            facts = market_facts effect firm (own_facts moment bytes v) _
+            facts = market_facts effect firm own (own_facts moment bytes v) _
                 (said_facts effect v (verdict_means market desk_facts moment bytes))
                 (harmless_sent effect firm row row_is _ moment _
                 (verdict_harmless market desk_facts v (verdict_means market desk_facts moment bytes)));

@@ -135,10 +135,10 @@ module _ (h : Here) (room : RoomRef) (response : ResponseRef) (moment : ℕ) whe
           let event = replied reply.Awarded in
           let entries = entries_of (market h room.investor row) trail event in
           let there : In (Sent (frame_text reply_fields)) entries =
-          in_right (Sent (frame_text reply_fields))
+          inr (in_right (Sent (frame_text reply_fields))
           (map AtDesk (event_facts (market h room.investor row)
           (book_of (desk_facts h room.investor row)) event))
-          (map Sent (sent_with h room.investor row event)) (rw sends_it (inl refl)) in
+          (map Sent (sent_with h room.investor row event)) (rw sends_it (inl refl))) in
           rw (
             later.facts_are,
             investor_grown room.investor (day h (replying reply.Awarded)).facts later.more,

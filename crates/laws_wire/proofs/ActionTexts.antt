@@ -1,7 +1,7 @@
 -- Every duty, message and sweep: what it adds for a dealer and what it leaves may be said.
-use Rattle.std.proofs.Common.{◌≡◌, ℕ, ◌<◌, Bool, true, false, List, [], ◌++◌, map}
+use Rattle.std.proofs.Common.{◌≡◌, ℕ, ◌<◌, Bool, true, false, List, [], ◌∷◌, ◌++◌, map}
 use Rattle.std.proofs.Common.{Option, Some, None, option_map, option_to_list, Result, Ok, Err, refl}
-use Rattle.std.proofs.Common.{◌∷◌, if◌then◌else◌, is_some}
+use Rattle.std.proofs.Common.{if◌then◌else◌, is_some}
 use Rattle.fix_fields.specs.declared.limits.TheConstants.{A_DAY}
 use Rattle.market_terms.specs.declared.closes.Close.{Close}
 use Rattle.market_terms.specs.declared.closes.HitRefusal.{HitRefusal}
@@ -21,6 +21,7 @@ use Rattle.dealer_desk.specs.declared.verdicts.DealerVerdict.TheVariants as verd
 use Rattle.dealer_desk.specs.declared.events.DealerEvent.{DealerEvent}
 use Rattle.dealer_desk.specs.declared.events.DealerEvent.TheVariants as at_desk
 use Rattle.investor_desk.specs.InvestorDesk.{market_for, market_of}
+use Rattle.investor_desk.specs.InvestorFacts.{InvestorFact}
 use Rattle.investor_desk.specs.InvestorRules.{InvestorMarket, investor_verdict}
 use Rattle.investor_desk.specs.declared.events.InvestorEvent.{InvestorEvent}
 use Rattle.investor_desk.specs.declared.events.InvestorEvent.TheVariants as at_investor
@@ -49,7 +50,7 @@ use Rattle.step_replay.specs.InvestorTrail as investor_trail
 use Rattle.step_replay.specs.Lists.{Every}
 use Rattle.step_replay.specs.VenueFacts.{AtDealer, AtInvestor, Fact, InRoom, of_dealer}
 use Rattle.step_replay.specs.VenueFacts.{of_investor, of_room}
-use Rattle.laws_days.specs.DutyWalk.{AnyInvestor, DealerMay, RoomMay, Walks, any_investor}
+use Rattle.laws_days.specs.DutyWalk.{DealerMay, InvestorMay, RoomMay, Walks}
 use Rattle.laws_days.specs.DutyWalk.{duty_walks, settlement_found, sweep_walks}
 use Rattle.laws_days.specs.KeptItems.{every_all, every_map}
 use Rattle.laws_days.specs.MayLeave.{AreTold, InRooms, MaySay, drop_each, follows, if_each}
@@ -76,11 +77,21 @@ module _ (D : ℕ → Type 0) (of_day : (n : ℕ) → n < A_DAY → D n) (config
   rooms : (at : RoomRef) (added : List RoomFact) → Every (FactGiven D) (map (InRoom at) added)
   rooms at added = every_map (FactGiven D) (InRoom at) (λ fact. tt) added
 
+  -- what an event at an investor's desk adds behind it
+  behind_given : (number : ℕ) (added : List InvestorFact) (sent : List (List ℕ))
+      → Every (FactGiven D) (map (AtInvestor number)
+      (map investor_trail.AtDesk added ++ map investor_trail.Sent sent))
+  behind_given number (fact ∷ added) sent = (tt, behind_given number added sent)
+  behind_given number [] (message ∷ sent) = (tt, behind_given number [] sent)
+  behind_given number [] [] = tt
+
   market_given : (market : InvestorMarket) (event : InvestorEvent) (duties : List Duty)
-      → Every (DutyGiven D) duties → EffectGiven D (at_market facts market event duties)
-  market_given market event duties given = record {
-    facts = every_map (FactGiven D) (AtInvestor market.firm) (λ entry. tt) _;
-    duties = given;
+      → investor.EventGiven D event → Every (DutyGiven D) duties
+      → EffectGiven D (at_market facts market event duties)
+  unfolding investor_trail.entries_of
+  market_given market event duties given left = record {
+    facts = (given, behind_given market.firm _ _);
+    duties = left;
   }
 
   invested : (number : ℕ) (action : InvestorMarket → Effect)
@@ -158,14 +169,18 @@ module _ (D : ℕ → Type 0) (of_day : (n : ℕ) → n < A_DAY → D n) (config
   abbrev DealerGiven : ℕ → DealerRow → DealerEvent → List Duty → Type 0
   DealerGiven number row event left = dealer.EventGiven D event × Every (DutyGiven D) left
 
+  abbrev InvestorGiven : ℕ → InvestorRow → InvestorEvent → Type 0
+  InvestorGiven number row event = investor.EventGiven D event
+
   abbrev RoomGiven : RoomRef → RoomEvent → List Duty → Type 0
   RoomGiven at event left = Every (DutyGiven D) left
 
-  walks : Walks DealerGiven AnyInvestor RoomGiven config facts (EffectGiven D)
+  walks : Walks DealerGiven InvestorGiven RoomGiven config facts (EffectGiven D)
   walks = record {
     idle = nothing_given;
     at_a_dealer = λ number row found event left given. desk_given number row event left given.0 given.1;
-    at_an_investor = λ number row found event any. market_given (market_of config number row) event [] tt;
+    at_an_investor = λ number row found event given.
+        market_given (market_of config number row) event [] given tt;
     in_a_room = λ at there event no_hit left given.
         record { facts = rooms at (room.event_facts (of_room at facts) event); duties = given };
     by_a_hit = λ at there response word moment given.
@@ -189,6 +204,15 @@ module _ (D : ℕ → Type 0) (of_day : (n : ℕ) → n < A_DAY → D n) (config
     ),
   )
   at_dealers by other given = tt
+
+  at_investors : (left : Duty) → DutyGiven D left → InvestorMay InvestorGiven config left
+  at_investors (duty.Relay at offer moment) given = λ row found. given
+  at_investors (duty.Gone at word moment) given = λ row found. given
+  at_investors (duty.Declined at moment) given =
+      λ number dealer is row found. (named.dealers number dealer is, given)
+  at_investors (duty.Answer at response reply moment) given = λ fits row found. given
+  at_investors (duty.Close at moment) given = λ row found. given
+  at_investors other given = tt
 
   told : (at : RoomRef) (moment : ℕ) → D moment → AreTold (DutyGiven D) config facts at moment
   told at moment day =
@@ -221,14 +245,13 @@ module _ (D : ℕ → Type 0) (of_day : (n : ℕ) → n < A_DAY → D n) (config
   pub duty_given : (by : Actor) (left : Duty) → DutyGiven D left
       → EffectGiven D (duty_effect config facts by left)
   duty_given by left given =
-      duty_walks DealerGiven AnyInvestor RoomGiven config facts (EffectGiven D) walks by left
-      (at_dealers by left given) (any_investor AnyInvestor config by left (λ number row event is. tt))
-      (in_rooms by left given)
+      duty_walks DealerGiven InvestorGiven RoomGiven config facts (EffectGiven D) walks by left
+      (at_dealers by left given) (at_investors left given) (in_rooms by left given)
 
   pub sweep_given : (at : RoomRef) (moment : ℕ) → D moment
       → EffectGiven D (sweep_effect config facts at moment)
   sweep_given at moment day =
-      sweep_walks DealerGiven AnyInvestor RoomGiven config facts (EffectGiven D) walks at moment
+      sweep_walks DealerGiven InvestorGiven RoomGiven config facts (EffectGiven D) walks at moment
       (if_each (DutyGiven D) (room.may_expire (of_room at facts) moment)
       (duty.Close at moment ∷ told_in (of_room at facts) at room.expired moment)
       (day, told_each (DutyGiven D) config facts at room.expired moment (told at moment day)))
@@ -265,7 +288,7 @@ module _ (D : ℕ → Type 0) (of_day : (n : ℕ) → n < A_DAY → D n) (config
       let market = market_of config number row in
       let book = investor_trail.book_by (of_investor number facts) in
       market_given market (at_investor.Received moment bytes)
-      (left_by_investor facts moment bytes market)
+      (left_by_investor facts moment bytes market) day
       (investor_leaves D market moment (investor_verdict market book moment bytes)
       (investor.verdict_given D of_day market (named.investors number row is) book moment bytes)
       day)

@@ -1,16 +1,15 @@
 -- On a day of a configuration that keeps its limits, what was due to each firm may be said.
 use Rattle.std.proofs.Common.{◌≡◌, ℕ, ◌-◌, ◌<◌, ◌==◌, zero, suc, Bool, true, false, not, List, []}
 use Rattle.std.proofs.Common.{◌∷◌, ◌++◌, count_by, drop, filter_map, fold, length, map}
-use Rattle.std.proofs.Common.{Option, Some, None, option_to_list, refl, sym, subst, ◌∙◌}
-use Rattle.std.proofs.Common.{if◌then◌else◌, IsTrue}
+use Rattle.std.proofs.Common.{Option, Some, None, refl, sym, subst, ◌∙◌}
+use Rattle.std.proofs.Common.{if◌then◌else◌, IsTrue, inl, inr}
 use Rattle.std.specs.List.{AllByRecursion}
 use Rattle.std.specs.Prelude.{slice_get}
-use Rattle.std.proofs.lemmas.Bool.{and_parts, cond_both}
+use Rattle.std.proofs.lemmas.Bool.{and_parts, cases_Bool}
 use Rattle.std.proofs.lemmas.List.Elements.{recursion_from_All}
 use Rattle.std.proofs.lemmas.Option.{same_Some}
 use Rattle.fix_fields.specs.declared.limits.TheConstants.{A_DAY}
 use Rattle.market_terms.specs.declared.duties.Duty.{Duty}
-use Rattle.market_terms.specs.declared.duties.Duty.TheVariants as duty
 use Rattle.venue_rows.specs.Rows.{Configuration, KeepsLimits, firm_names}
 use Rattle.venue_rows.specs.Texts.{is_among, is_firm_name, is_name, reserved_names}
 use Rattle.venue_rows.specs.declared.dealer_rows.DealerRow.{DealerRow}
@@ -18,17 +17,13 @@ use Rattle.venue_rows.specs.declared.investor_rows.InvestorRow.{InvestorRow}
 use Rattle.dealer_desk.specs.DealerFacts.{Came, Declined, Dropped, Late, Quoted, Shown, Told}
 use Rattle.dealer_desk.specs.DealerFacts.{Withdrawn}
 use Rattle.investor_desk.specs.InvestorDesk.{DeskEvents, book_at, market_for, no_events}
+use Rattle.investor_desk.specs.InvestorDesk.{with_event}
 use Rattle.investor_desk.specs.InvestorRules.{InvestorMarket}
-use Rattle.investor_views.specs.Comings.{Coming, For, Own, after_coming, at_desk_of, comes_by}
-use Rattle.investor_views.specs.Comings.{comes_by_turn, comings, comings_from}
-use Rattle.investor_views.specs.DeskPlaces.{IsSoElsewhere, MayBring, placed_so}
-use Rattle.investor_views.specs.InvestorDues.{due_by, due_to_investor, dues_from, dues_where}
-use Rattle.venue_steps.specs.Placed.{placed}
+use Rattle.investor_desk.specs.declared.events.InvestorEvent.{InvestorEvent}
+use Rattle.investor_desk.specs.declared.events.InvestorEvent.TheVariants as happens
+use Rattle.investor_views.specs.InvestorDues.{due_by, due_to_investor, dues_where, event_dues_from}
 use Rattle.venue_steps.specs.declared.actors.Actor.{Actor}
 use Rattle.venue_steps.specs.declared.actors.Actor.TheVariants as actor
-use Rattle.venue_steps.specs.declared.arrivals.ForInvestor.TheVariants as to_investor
-use Rattle.venue_steps.specs.declared.arrivals.Placement.{Placement}
-use Rattle.venue_steps.specs.declared.arrivals.Placement.TheVariants as arrival
 use Rattle.step_replay.specs.Actions.{Effect}
 use Rattle.step_replay.specs.AuditTrail.{AuditTrail, Caused, after_step, after_turn, audit_trail}
 use Rattle.step_replay.specs.AuditTrail.{due_to, duty_of, is_same_actor, no_steps, pending}
@@ -37,9 +32,12 @@ use Rattle.step_replay.specs.DealerTrail.{DealerEntry}
 use Rattle.step_replay.specs.DueList.{due_list}
 use Rattle.step_replay.specs.DutyEffects.{duty_effect, message_effect, sweep_effect}
 use Rattle.step_replay.specs.EachLemmas.{every_both}
+use Rattle.step_replay.specs.InvestorEvents.{events_of}
 use Rattle.step_replay.specs.Lists.{Every}
 use Rattle.step_replay.specs.PlaceLemmas.{behind_dealers, numbered_at}
+use Rattle.step_replay.specs.InvestorTrail.{AtDesk, Happened, Sent}
 use Rattle.step_replay.specs.VenueFacts.{AtDealer, AtInvestor, Fact, InRoom, of_dealer}
+use Rattle.step_replay.specs.VenueFacts.{of_investor}
 use Rattle.step_replay.specs.declared.steps.Step.{Step}
 use Rattle.step_replay.specs.declared.steps.Step.TheVariants as step
 use Rattle.laws_wire.proofs.ActionTexts.{duty_given, message_given, sweep_given}
@@ -48,7 +46,7 @@ use Rattle.laws_wire.proofs.DutyTexts.{AreNamed, DutyGiven, EffectGiven, EntryGi
 use Rattle.laws_wire.proofs.DutyTexts.{each_mapped}
 use Rattle.laws_wire.proofs.FieldValues.{IsGiven, name_given}
 use Rattle.laws_wire.proofs.InvestorSaid as investor
-use Rattle.laws_wire.proofs.InvestorSaid.{BroughtGiven, ComingGiven}
+use Rattle.laws_wire.proofs.InvestorTexts.{EventGiven}
 
 -- Names.
 
@@ -234,89 +232,54 @@ module _ (D : ℕ → Type 0) (of_day : (n : ℕ) → n < A_DAY → D n) (config
 
   -- What was due to an investor.
 
-  -- what comes to a place
-  abbrev PlacedGiven : Option Placement → Type 0
-  PlacedGiven (Some (arrival.Investor firm what)) = BroughtGiven D what
-  PlacedGiven other = Unit {0}
+  events_given : (number : ℕ) (facts : List Fact) → Every (FactGiven D) facts
+      → Every (EventGiven D) (events_of (of_investor number facts))
+  unfolding of_investor
+  events_given number [] every = tt
+  events_given number (AtInvestor other (Happened event) ∷ facts) every =
+      let later = events_given number facts every.1 in
+      elim (cases_Bool (other == number)) [
+        | inl own ↦ rw own (every.0, later)
+        | inr another ↦ rw another later
+      ]
+  events_given number (AtInvestor other (AtDesk fact) ∷ facts) every =
+      let later = events_given number facts every.1 in
+      elim (cases_Bool (other == number)) [ inl own ↦ rw own later | inr another ↦ rw another later ]
+  events_given number (AtInvestor other (Sent bytes) ∷ facts) every =
+      let later = events_given number facts every.1 in
+      elim (cases_Bool (other == number)) [ inl own ↦ rw own later | inr another ↦ rw another later ]
+  events_given number (InRoom at fact ∷ facts) every = events_given number facts every.1
+  events_given number (AtDealer other entry ∷ facts) every = events_given number facts every.1
 
-  elsewhere : IsSoElsewhere config PlacedGiven
-  elsewhere = record {
-    nowhere = tt;
-    at_a_dealer = λ firm what. tt;
-    by_a_drop = λ firm last moment. tt;
-    in_a_room = λ at what. tt;
-    by_a_hit = λ at response word moment. tt;
-  }
-
-  may_bring : (by : Actor) (left : Duty) → DutyGiven D left → MayBring config PlacedGiven by left
-  may_bring by (duty.Relay at offer moment) given = given
-  may_bring by (duty.Gone at word moment) given = given
-  may_bring (actor.Firm number) (duty.Declined at moment) given =
-      λ row found. (named.dealers number row found, given)
-  may_bring by (duty.Answer at response reply moment) given = given
-  may_bring by (duty.Close at moment) given = given
-  may_bring by other given = tt
-
-  placed_given : (by : Actor) (left : Duty) → DutyGiven D left → PlacedGiven (placed config by left)
-  placed_given by left given = placed_so config PlacedGiven elsewhere by left (may_bring by left given)
-
-  at_desk_given : (number : ℕ) (o : Option Placement) → PlacedGiven o
-      → Every (ComingGiven D) (option_to_list (at_desk_of number o))
-  at_desk_given number (Some (arrival.Investor firm what)) given =
-      cond_both (firm == number) (Some (For what)) None
-      (λ (c : Option Coming). Every (ComingGiven D) (option_to_list c)) (λ own. (given, tt))
-      (λ other. tt)
-  at_desk_given number other given = tt
-
-  comes_given : (number : ℕ) (day : AuditTrail) (more : Step) → DayGiven D day → StepGiven D more
-      → Every (ComingGiven D) (option_to_list (comes_by config number day more))
-  unfolding comes_by
-  comes_given number day (step.In firm moment bytes) given moment_is =
-      cond_both (firm == number) (Some (Own moment bytes)) None
-      (λ (c : Option Coming). Every (ComingGiven D) (option_to_list c)) (λ own. (moment_is, tt))
-      (λ other. tt)
-  comes_given number day (step.Turn by) given moment_is =
-      by_turn (pending by day) (pending_given by day given)
-    where
-      by_turn : (duties : List Duty) → Every (DutyGiven D) duties
-          → Every (ComingGiven D) (option_to_list (comes_by_turn config number by duties))
-      by_turn [] left = tt
-      by_turn (first ∷ later) left =
-          at_desk_given number (placed config by first) (placed_given by first left.0)
-  comes_given number day (step.Expire at moment) given moment_is = tt
-
-  all_come : (number : ℕ) (day : AuditTrail) (steps : List Step) → DayGiven D day
-      → Every (StepGiven D) steps → Every (ComingGiven D) (comings_from config number day steps)
-  all_come number day [] given moments = tt
-  all_come number day (more ∷ steps) given moments =
-      every_both (ComingGiven D) (option_to_list (comes_by config number day more)) _
-      (comes_given number day more given moments.0)
-      (all_come number (after_step config day more) steps (step_given day more given moments.0)
-      moments.1)
-
-  due_of : (desk : DeskEvents) (coming : Coming) → ComingGiven D coming
-      → investor.DueGiven D (due_by (book_at desk) coming)
+  due_of : (desk : DeskEvents) (event : InvestorEvent) → EventGiven D event
+      → investor.DueGiven D (due_by (book_at desk) event)
   unfolding due_by
-  due_of desk (Own moment bytes) given = given
-  due_of desk (For (to_investor.Relay request offer moment)) given = given
-  due_of desk (For (to_investor.Gone request word moment)) given = given
-  due_of desk (For (to_investor.Declined request dealer moment)) given = given
-  due_of desk (For (to_investor.Answer request response reply moment)) given = given
-  due_of desk (For (to_investor.Close request moment)) given = given
+  due_of desk (happens.Received moment bytes) given = given
+  due_of desk (happens.QuoteCame request offer moment) given = given
+  due_of desk (happens.QuoteGone request word moment) given = given
+  due_of desk (happens.DealerDeclined request dealer moment) given = given
+  due_of desk (happens.Answered request response reply moment) given = given
+  due_of desk (happens.Closed request moment) given = given
 
-  dues_of : (came : List Coming) (desk : DeskEvents) → Every (ComingGiven D) came
-      → Every (investor.DueGiven D) (dues_from desk came)
+  dues_of : (events : List InvestorEvent) (desk : DeskEvents)
+      → Every (EventGiven D) events
+      → Every (investor.DueGiven D) (event_dues_from desk events)
   dues_of [] desk every = tt
   dues_of (first ∷ later) desk every =
-      (due_of desk first every.0, dues_of later (after_coming desk first) every.1)
+      (due_of desk first every.0, dues_of later (with_event desk first) every.1)
 
   pub investor_dues_given : (steps : List Step) (number : ℕ) → Every (StepGiven D) steps
       → Every (investor.DueGiven D) (due_to_investor config number steps)
+  unfolding audit_trail
   investor_dues_given steps number moments = by_market (market_for config number)
     where
+      facts : List Fact
+      facts = (fold (after_step config) no_steps steps).facts
+
       by_market : (o : Option InvestorMarket)
-          → Every (investor.DueGiven D) (dues_where o (comings config number steps))
+          → Every (investor.DueGiven D) (dues_where o (events_of (of_investor number facts)))
       by_market None = tt
       by_market (Some market) =
-          dues_of (comings config number steps) (no_events market)
-          (all_come number no_steps steps (record { facts = tt; caused = tt }) moments)
+          dues_of (events_of (of_investor number facts)) (no_events market)
+          (events_given number facts
+          (steps_given steps no_steps (record { facts = tt; caused = tt }) moments).facts)

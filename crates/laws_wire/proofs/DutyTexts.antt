@@ -15,6 +15,7 @@ use Rattle.step_replay.specs.Actions.{Effect}
 use Rattle.step_replay.specs.DealerTrail as dealer_trail
 use Rattle.step_replay.specs.DealerTrail.{DealerEntry}
 use Rattle.step_replay.specs.Lists.{Every}
+use Rattle.step_replay.specs.InvestorTrail.{Happened}
 use Rattle.step_replay.specs.VenueFacts.{AtDealer, AtInvestor, Fact, InRoom}
 use Rattle.recorded_days.specs.Kinds.{moment_of}
 use Rattle.laws_wire.proofs.DealerTexts as dealer
@@ -34,7 +35,7 @@ DutyGiven D (duty.Pass at response moment) = IsGiven response.id × D moment
 DutyGiven D (duty.Answer at response reply moment) = IsGiven response.id × D moment
 DutyGiven D other = D (moment_of other)
 
--- a fact, as far as a dealer's due list says it
+-- a fact, as far as a due list says it
 abbrev pub EntryGiven : (ℕ → Type 0) → DealerEntry → Type 0
 EntryGiven D (dealer_trail.AtDesk fact) = dealer.FactGiven D fact
 EntryGiven D other = Unit {0}
@@ -42,6 +43,7 @@ EntryGiven D other = Unit {0}
 abbrev pub FactGiven : (ℕ → Type 0) → Fact → Type 0
 FactGiven D (AtDealer number entry) = EntryGiven D entry
 FactGiven D (InRoom at fact) = Unit {0}
+FactGiven D (AtInvestor number (Happened event)) = investor.EventGiven D event
 FactGiven D (AtInvestor number entry) = Unit {0}
 
 -- what an action adds and leaves

@@ -1,14 +1,10 @@
 -- What an investor is sent for what was due to it can be carried.
-use Rattle.std.proofs.Common.{◌≡◌, ℕ, ◌+◌, ◌<◌, Bool, List, [], ◌∷◌, ◌++◌, fold, length}
+use Rattle.std.proofs.Common.{◌≡◌, ℕ, ◌+◌, ◌<◌, List, [], ◌∷◌, ◌++◌, fold, length}
 use Rattle.std.proofs.Common.{Option, refl, sym, subst, arith, is_some}
 use Rattle.std.proofs.lemmas.Bool.{cond_both}
 use Rattle.std.proofs.lemmas.List.{append-nil, append_assoc}
 use Rattle.fix_fields.specs.declared.limits.TheConstants.{A_DAY}
 use Rattle.quote_messages.specs.declared.out_messages.OutMessage.{OutMessage}
-use Rattle.venue_steps.specs.Brought.{investor_with}
-use Rattle.venue_steps.specs.declared.arrivals.ForInvestor.{ForInvestor}
-use Rattle.venue_steps.specs.declared.arrivals.ForInvestor.TheVariants as to_investor
-use Rattle.venue_steps.specs.InvestorSteps.{with_event_if}
 use Rattle.investor_desk.specs.InvestorDesk.{DeskEvents, book_at, no_events, with_event}
 use Rattle.investor_desk.specs.InvestorFacts.{book_of}
 use Rattle.investor_desk.specs.InvestorOutput.{DeskState, after_event, beside_each, desk_after}
@@ -19,33 +15,21 @@ use Rattle.investor_desk.specs.InvestorRules.{InvestorMarket}
 use Rattle.investor_desk.specs.declared.events.InvestorEvent.{InvestorEvent}
 use Rattle.investor_desk.specs.declared.events.InvestorEvent.TheVariants as event
 use Rattle.investor_desk.specs.declared.notes.InvestorNote.{InvestorNote}
-use Rattle.investor_views.specs.Comings.{Coming, For, Own, after_coming}
-use Rattle.investor_views.specs.InvestorView.{SeenMarket, after_due, coming_by, investor_view}
-use Rattle.investor_views.specs.InvestorView.{market_seen}
+use Rattle.investor_views.specs.InvestorView.{SeenMarket, after_due, event_by, investor_view}
+use Rattle.investor_views.specs.InvestorView.{market_seen, where_it_fits}
 use Rattle.investor_views.specs.NoteView.{note_view}
 use Rattle.investor_views.specs.declared.dues.InvestorDue.{InvestorDue}
 use Rattle.investor_views.specs.declared.dues.InvestorDue.TheVariants as due
 use Rattle.step_replay.specs.EachLemmas.{every_both}
+use Rattle.step_replay.specs.Fitting.{fits}
 use Rattle.step_replay.specs.Lists.{Every}
 use Rattle.laws_wire.proofs.FieldValues.{IsGiven}
-use Rattle.laws_wire.proofs.InvestorTexts.{EventGiven, FactGiven, MaySend, OfferGiven, event_adds}
+use Rattle.laws_wire.proofs.InvestorTexts.{EventGiven, FactGiven, MaySend, event_adds}
 use Rattle.laws_wire.proofs.InvestorTexts.{event_sends}
 use Rattle.laws_wire.proofs.MessageFields.{IfMoment}
 use Rattle.laws_wire.proofs.SaidMessages.{AreSaid, said_more}
 
--- what comes to the desk of an investor
-abbrev pub BroughtGiven : (ℕ → Type 0) → ForInvestor → Type 0
-BroughtGiven D (to_investor.Relay request offer moment) = OfferGiven D offer × D moment
-BroughtGiven D (to_investor.Gone request word moment) = D moment
-BroughtGiven D (to_investor.Declined request dealer moment) = IsGiven dealer × D moment
-BroughtGiven D (to_investor.Answer request response reply moment) = IsGiven response.id × D moment
-BroughtGiven D (to_investor.Close request moment) = D moment
-
-abbrev pub ComingGiven : (ℕ → Type 0) → Coming → Type 0
-ComingGiven D (Own moment bytes) = D moment
-ComingGiven D (For what) = BroughtGiven D what
-
--- and what is due by it
+-- what is due to an investor
 abbrev pub DueGiven : (ℕ → Type 0) → InvestorDue → Type 0
 DueGiven D (due.Own moment message) = D moment
 DueGiven D (due.Offered request dealer price valid_until moment) =
@@ -133,29 +117,18 @@ module _ (D : ℕ → Type 0) (of_day : (n : ℕ) → n < A_DAY → D n) (market
     events = every_both (EventGiven D) desk.events (more ∷ []) is.events (given, tt);
   }
 
-  where_with : (b : Bool) (desk : DeskEvents) (more : InvestorEvent) → DeskGiven desk
-      → EventGiven D more → DeskGiven (with_event_if b desk more)
-  where_with b desk more is given =
-      cond_both b (with_event desk more) desk DeskGiven (λ may. desk_with desk more is given)
-      (λ no. is)
-
-  brought : (desk : DeskEvents) (what : ForInvestor) → DeskGiven desk → BroughtGiven D what
-      → DeskGiven (investor_with desk what)
-  unfolding investor_with
-  brought desk (to_investor.Relay request offer moment) is given = where_with _ desk _ is given
-  brought desk other is given = where_with _ desk _ is given
-
-  came : (desk : DeskEvents) (coming : Coming) → DeskGiven desk → ComingGiven D coming
-      → DeskGiven (after_coming desk coming)
-  unfolding after_coming
-  came desk (Own moment bytes) is given = desk_with desk (event.Received moment bytes) is given
-  came desk (For what) is given = brought desk what is given
+  where_fits : (desk : DeskEvents) (more : InvestorEvent) → DeskGiven desk → EventGiven D more
+      → DeskGiven (where_it_fits desk more)
+  where_fits desk more is given =
+      cond_both (fits (book_at desk) more) (with_event desk more) desk DeskGiven
+      (λ may. desk_with desk more is given) (λ no. is)
 
   due_given : (desk : DeskEvents) (item : InvestorDue) → DeskGiven desk → DueGiven D item
       → DeskGiven (after_due desk item)
-  unfolding after_due coming_by
-  due_given desk (due.Own moment message) is given = came desk (Own moment message) is given
-  due_given desk other is given = came desk (coming_by (book_at desk) other) is given
+  unfolding after_due event_by
+  due_given desk (due.Own moment message) is given =
+      where_fits desk (event.Received moment message) is given
+  due_given desk other is given = where_fits desk (event_by (book_at desk) other) is given
 
   dues_given : (dues : List InvestorDue) (desk : DeskEvents) → DeskGiven desk
       → Every (DueGiven D) dues → DeskGiven (fold after_due desk dues)

@@ -59,7 +59,7 @@ IsSo (AtDealer dealer (dealer_trail.Sent bytes)) = IsWritten bytes
 IsSo (AtDealer dealer entry) = Unit {0}
 IsSo (InRoom room fact) = Unit {0}
 IsSo (AtInvestor investor (investor_trail.Sent bytes)) = IsWritten bytes
-IsSo (AtInvestor investor (investor_trail.AtDesk fact)) = Unit {0}
+IsSo (AtInvestor investor entry) = Unit {0}
 
 -- a list that is made of another
 each_made : {A B : Type 0} (P : B → Type 0) (f : A → B) → ((x : A) → P (f x)) → (xs : List A)
@@ -120,10 +120,13 @@ module _ (market : InvestorMarket) (trail : List InvestorEntry) (event : Investo
       let number = length (investor_trail.sent_by trail) + 1 in
       let moment = investor_output.moment_of event in
       let messages = investor_output.written_from market number moment said in
-      mapped IsSo (AtInvestor market.firm) (map investor_trail.AtDesk facts ++ map investor_trail.Sent messages)
-      (every_both AtThis (map investor_trail.AtDesk facts) (map investor_trail.Sent messages)
-      (each_made AtThis investor_trail.AtDesk (λ fact. tt) facts)
-      (mapped AtThis investor_trail.Sent messages (investor_messages number moment said)))
+      mapped IsSo (AtInvestor market.firm) (investor_trail.Happened event
+      ∷ map investor_trail.AtDesk facts ++ map investor_trail.Sent messages) (
+        tt,
+        every_both AtThis (map investor_trail.AtDesk facts) (map investor_trail.Sent messages)
+            (each_made AtThis investor_trail.AtDesk (λ fact. tt) facts)
+            (mapped AtThis investor_trail.Sent messages (investor_messages number moment said)),
+      )
 
 -- In a room.
 
@@ -144,7 +147,7 @@ module _ (config : Configuration) where
   action_so facts desk at effect (by_dealer number row event duties desk_is found comes is) =
       subst (λ (e : Effect). Every IsSo e.facts) (sym is)
       (dealer_entries config.date row (of_dealer number facts) event number)
-  action_so facts desk at effect (by_investor number row event duties desk_is found is) =
+  action_so facts desk at effect (by_investor number row event duties desk_is found fit is) =
       subst (λ (e : Effect). Every IsSo e.facts) (sym is)
       (investor_entries (market_of config number row) (of_investor number facts) event)
   action_so facts desk at effect (by_room here event duties at_is is) =
@@ -219,7 +222,7 @@ investor_so number (AtInvestor other entry ∷ facts) every = elim (cases_Bool (
 ] where
   as_own : (one : InvestorEntry) → IsSo (AtInvestor other one) → IsSo (AtInvestor number one)
   as_own (investor_trail.Sent bytes) is = is
-  as_own (investor_trail.AtDesk fact) is = tt
+  as_own other is = tt
 investor_so number (InRoom room fact ∷ facts) every = investor_so number facts every.1
 investor_so number (AtDealer dealer entry ∷ facts) every = investor_so number facts every.1
 
@@ -235,7 +238,7 @@ investor_sent : (number : ℕ) (trail : List InvestorEntry)
     → Every IsWritten (investor_trail.sent_by trail)
 investor_sent number [] every = tt
 investor_sent number (investor_trail.Sent bytes ∷ trail) every = (every.0, investor_sent number trail every.1)
-investor_sent number (investor_trail.AtDesk fact ∷ trail) every = investor_sent number trail every.1
+investor_sent number (entry ∷ trail) every = investor_sent number trail every.1
 
 pub sent_written : (config : Configuration) (steps : List Step) (firm : ℕ) (bytes : List ℕ)
     → In bytes (sent_to config firm (audit_trail config steps)) → IsWritten bytes

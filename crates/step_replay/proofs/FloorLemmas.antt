@@ -10,7 +10,8 @@ use Rattle.step_replay.proofs.Common.{of_room, of_investor, room_stays, investor
 use Rattle.step_replay.proofs.Common.{room_at_dealer, desk_with, facts_grown, desk_of, DealerIs}
 use Rattle.step_replay.proofs.Common.{DealerStands, InvestorStands, RoomIs, Stands, WordsStand}
 use Rattle.step_replay.proofs.Common.{slots, word_is, DealerPlace, InvestorPlace, Floor}
-use Rattle.step_replay.proofs.Common.{market_of}
+use Rattle.step_replay.proofs.Common.{market_of, InvestorEntry}
+use Rattle.step_replay.specs.InvestorEvents.{events_of}
 use Rattle.step_replay.specs.NotedTrail.{NotedAs}
 use Rattle.dealer_desk.specs.DealerOutput.{after_event, event_message, moment_of, shown_room}
 use Rattle.step_replay.specs.PlaceLemmas.{dealer_grown, dealer_stays, other_trail}
@@ -101,6 +102,8 @@ investor_kept : (config : Configuration) (facts more : List Fact) (number : ℕ)
     → InvestorStands config (facts ++ more) number row place
 investor_kept config facts more number row place none stands = record {
   market_is = stands.market_is;
+  events_are = stands.events_are
+      ∙ ap (λ (l : List InvestorEntry). events_of l) (sym (investor_stays number facts more none.trail));
   state_is = stands.state_is ∙ ap desk_of (sym (investor_stays number facts more none.trail));
   notes_are = subst (NotedAs (market_of config number row) place.desk.events)
       (sym (investor_stays number facts more none.trail)) stands.notes_are;

@@ -22,14 +22,15 @@ pub investor_begins : (config : Configuration) (firm : ℕ) (row : InvestorRow) 
     → InvestorOpens config firm row place → InvestorStands config [] firm row place
 unfolding desk_after of_investor noted_in
 investor_begins config firm row place opens =
-    let events_are : place.desk.events ≡ [] =
+    let none : place.desk.events ≡ [] =
     ap (λ (d : DeskEvents). d.events) opens.desk_is in
     record {
       market_is = ap (λ (d : DeskEvents). d.market) opens.desk_is;
+      events_are = none;
       state_is = ap (λ (events : List InvestorEvent).
-          desk_after (market_of config firm row) events) events_are;
+          desk_after (market_of config firm row) events) none;
       notes_are = ap (λ (events : List InvestorEvent).
-          noted_so [] None (investor_notes (market_of config firm row) events)) (sym events_are);
+          noted_so [] None (investor_notes (market_of config firm row) events)) (sym none);
       rooms_are = subst (λ (l : List (List RoomEvent)). Match (RoomIs [] firm) 1 (slots row) l)
           (sym opens.rooms_are) (vacant firm row.requests 1);
     }

@@ -2,7 +2,7 @@
 -- the places stood, and the rooms and all other places stay.
 use Rattle.step_replay.proofs.Common.{◌≡◌, ◌≤◌, ◌<◌, ℕ, ◌+◌, ◌-◌, Bool, List, length, nat_le, Some}
 use Rattle.step_replay.proofs.Common.{None, sym, ap, ◌∙◌, subst, arith, if◌then◌else◌, false, ◌≡◌}
-use Rattle.step_replay.proofs.Common.{ℕ, ◌+◌, Bool, true, false, ◌&&◌, List, [], ◌++◌, length, map}
+use Rattle.step_replay.proofs.Common.{ℕ, ◌+◌, Bool, true, false, ◌&&◌, List, [], ◌∷◌, ◌++◌, length, map}
 use Rattle.step_replay.proofs.Common.{Some, None, option_map, if◌then◌else◌, refl, sym, ap, ◌∙◌}
 use Rattle.step_replay.proofs.Common.{subst, slice_get, slice_get, nat_tests, slice_get_past}
 use Rattle.step_replay.proofs.Common.{Configuration, investor_numbered, Configuration}
@@ -14,6 +14,7 @@ use Rattle.step_replay.proofs.Common.{option_to_list, with_item, append-nil, Dut
 use Rattle.step_replay.proofs.Common.{market_of, market_for, InvestorEvent, InvestorEntry, Effect}
 use Rattle.step_replay.proofs.Common.{nothing, done_for, at_market, received_by_investor}
 use Rattle.step_replay.proofs.Common.{where_known, investor_gets, desk_of}
+use Rattle.step_replay.specs.InvestorEvents.{events_of}
 use Rattle.step_replay.specs.PlaceLemmas.{investor_grown, other_investor, trail_at_investor}
 use Rattle.step_replay.proofs.FloorLemmas.{dealer_count, at_investor_stands}
 use Rattle.step_replay.proofs.MatchLemmas.{found, missing, kept}
@@ -27,7 +28,7 @@ use Rattle.venue_steps.specs.Brought.{investor_with}
 use Rattle.venue_steps.specs.declared.arrivals.ForInvestor.{ForInvestor}
 use Rattle.venue_steps.specs.declared.arrivals.ForInvestor.TheVariants as to_investor
 use Rattle.step_replay.specs.InvestorTrail.{book_by, entries_of}
-use Rattle.step_replay.specs.InvestorGrowth.{desk_push, trail_push}
+use Rattle.step_replay.specs.InvestorGrowth.{desk_push, events_grown, trail_push}
 use Rattle.step_replay.proofs.FoundDealers.{idle_does}
 use Rattle.step_replay.specs.NotedGrowth.{noted_push}
 use Rattle.step_replay.specs.NotedTrail.{NotedAs}
@@ -124,10 +125,11 @@ module _ {config : Configuration} {facts : List Fact} {floor : Floor} {number : 
 
     -- where its desk has come as far as its trail
     desk_stands : (added : List InvestorEntry) → desk.market ≡ place.desk.market
+        → desk.events ≡ events_of (trail ++ added)
         → desk_after market desk.events ≡ desk_of (trail ++ added)
         → NotedAs market desk.events (trail ++ added)
         → Stands config (facts ++ map (AtInvestor number) added) after
-    desk_stands added same state noted =
+    desk_stands added same events state noted =
         let more : List Fact = map (AtInvestor number) added in
         at_investor_stands more at (record place { desk = desk }) is own.there before
         (λ n. trail_at_investor n number added)
@@ -137,6 +139,9 @@ module _ {config : Configuration} {facts : List Fact} {floor : Floor} {number : 
         })
         (record {
           market_is = same ∙ own.stands.market_is;
+          events_are = events ∙ ap (λ (l : List InvestorEntry). events_of l)
+              (sym (investor_grown number facts more
+              ∙ ap (λ l. trail ++ l) (own_investor number added)));
           state_is = state ∙ ap (λ (l : List InvestorEntry). desk_of l)
               (sym (investor_grown number facts more
               ∙ ap (λ l. trail ++ l) (own_investor number added)));
@@ -155,6 +160,9 @@ module _ {config : Configuration} {facts : List Fact} {floor : Floor} {number : 
         → Stands config (facts ++ map (AtInvestor number) (entries_of market trail more)) after
     event_stands more same =
         desk_stands (entries_of market trail more) (ap (λ (d : DeskEvents). d.market) same)
+        (ap (λ (d : DeskEvents). d.events) same
+        ∙ ap (λ (l : List InvestorEvent). l ++ more ∷ []) own.stands.events_are
+        ∙ sym (events_grown market trail more))
         (ap (λ (d : DeskEvents). desk_after market d.events) same
         ∙ desk_push market place.desk.events more
         ∙ ap (λ (state : DeskState). after_event market state more) own.stands.state_is
@@ -169,6 +177,8 @@ module _ {config : Configuration} {facts : List Fact} {floor : Floor} {number : 
     event_if true more same = record { stands = event_stands more same; leaves = refl }
     event_if false more same = record {
       stands = desk_stands [] (ap (λ (d : DeskEvents). d.market) same)
+          (ap (λ (d : DeskEvents). d.events) same ∙ own.stands.events_are
+          ∙ ap (λ (l : List InvestorEntry). events_of l) (sym (append-nil trail)))
           (ap (λ (d : DeskEvents). desk_after market d.events) same ∙ own.stands.state_is
           ∙ ap (λ (l : List InvestorEntry). desk_of l) (sym (append-nil trail)))
           (subst (λ (d : DeskEvents). NotedAs market d.events (trail ++ [])) (sym same)

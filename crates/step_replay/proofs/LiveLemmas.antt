@@ -1,18 +1,17 @@
 -- A venue that answers as steps come: what is told, each step with the duties behind it, and where it
 -- stands.
 use Rattle.step_replay.proofs.Common.{◌≡◌, ◌≤◌, ℕ, ◌+◌, ◌-◌, true, false, List, [], ◌∷◌, ◌++◌}
-use Rattle.step_replay.proofs.Common.{length, fold, Option, Some, None, refl, sym, ap, ◌∙◌, arith}
-use Rattle.step_replay.proofs.Common.{slice_get, nat_tests, append-nil, length-map}
+use Rattle.step_replay.proofs.Common.{fold, Option, Some, None, refl, sym, ap, ◌∙◌, arith}
+use Rattle.step_replay.proofs.Common.{slice_get, append-nil}
 use Rattle.step_replay.proofs.Common.{fold-append, Duty, Configuration, Actor, AuditTrail}
 use Rattle.step_replay.proofs.Common.{after_step, after_turn, audit_trail, no_steps, is_same_actor}
 use Rattle.step_replay.proofs.Common.{pending, ReplayStands, duties_in, Sent, actor_of, live_steps}
 use Rattle.step_replay.proofs.Common.{live_trail, messages_in, SendsAllOf, VenueSends, after_turns}
 use Rattle.step_replay.proofs.Common.{first_in, IsAt, VenueStands, QueueHas, is_known, queue_of}
-use Rattle.step_replay.proofs.Common.{Stands, fault_of, firms_of, LiveVenue, Replay, Step}
+use Rattle.step_replay.proofs.Common.{Stands, fault_of, LiveVenue, Replay, Step}
 use Rattle.step_replay.proofs.Common.{MOST_TURNS_BEHIND, duty_effect, message_effect, sweep_effect}
 use Rattle.step_replay.proofs.Common.{IsEmpty, other_pending, other_turned, Done}
 use Rattle.step_replay.proofs.Common.{same_either}
-use Rattle.std.specs.Prelude.{nat_lt}
 use Rattle.std.specs.Option.{option_and_then}
 use Rattle.std.proofs.lemmas.List.Concat.{flat_map-append}
 use Rattle.venue_steps.specs.declared.actors.Actor.TheVariants as actor
@@ -41,16 +40,6 @@ next_is config by trail replay known stands =
         → option_and_then first_in queue ≡ first_in (pending by trail)
     by_queue None has = absurd has
     by_queue (Some queue) has = ap first_in has
-
--- an actor that the venue does not have has no queue
-pub next_unknown : (config : Configuration) (by : Actor) (trail : AuditTrail) (replay : Replay)
-    → is_known config by ≡ false → ReplayStands config trail replay → next_duty replay by ≡ None
-next_unknown config actor.Clock trail replay unknown stands = cc
-next_unknown config (actor.Firm number) trail replay unknown stands =
-    let count : length replay.queues.items ≡ firms_of config + 1 =
-    sym (length-map replay.queues.items (λ queue. queue.items)) ∙ stands.queues_stand.count in
-    let far : nat_lt (number + 1) (length replay.queues.items) ≡ false = grind (arith, nat_tests) in
-    rw far refl
 
 pub actor_known : (config : Configuration) (next : Step) → fault_of config 0 next ≡ None
     → is_known config (actor_of next) ≡ true

@@ -9,7 +9,8 @@ use Rattle.step_replay.proofs.Common.{InvestorRow, RoomRef, room_after, RoomEven
 use Rattle.step_replay.proofs.Common.{of_room, InRoom, InvestorStands, RoomIs, Stands, slots}
 use Rattle.step_replay.proofs.Common.{InvestorPlace, Floor, behind_dealers, lent, numbered_at}
 use Rattle.step_replay.proofs.Common.{investor_stays, other_room, room_grown, room_stays, desk_of}
-use Rattle.step_replay.proofs.Common.{and_left, market_of}
+use Rattle.step_replay.proofs.Common.{and_left, market_of, InvestorEntry}
+use Rattle.step_replay.specs.InvestorEvents.{events_of}
 use Rattle.step_replay.specs.NotedTrail.{NotedAs}
 use Rattle.std.proofs.lemmas.Option.{cond_some}
 use Rattle.step_replay.specs.RoomPlaces.{within, room_place}
@@ -233,6 +234,8 @@ module _ {config : Configuration} {facts : List Fact} {floor : Floor} {at : Room
       })
       (record {
         market_is = found.stands.market_is;
+        events_are = found.stands.events_are ∙ ap (λ (l : List InvestorEntry). events_of l)
+            (sym (investor_stays at.investor facts more (investor_in_room at.investor at added)));
         state_is = found.stands.state_is ∙ ap desk_of
             (sym (investor_stays at.investor facts more (investor_in_room at.investor at added)));
         notes_are = subst (NotedAs (market_of config at.investor found.row) old.desk.events)

@@ -46,7 +46,7 @@ pub action_there : (config : Configuration) (facts : List Fact) (desk : Option �
 action_there config facts desk room effect (idle is) = rw is (nothing_there room)
 action_there config facts desk room effect (by_dealer number row event duties at found comes is) =
     rw is (record { elsewhere = λ other differs. room_at_dealer other number _ })
-action_there config facts desk room effect (by_investor number row event duties at found is) =
+action_there config facts desk room effect (by_investor number row event duties at found fit is) =
     rw is (record { elsewhere = λ other differs. room_at_investor other number _ })
 action_there config facts desk room effect (by_room at event duties here is) =
     rw (here, is) (record { elsewhere = λ other differs. other_room other at differs _ })
@@ -148,7 +148,7 @@ module _ (config : Configuration) where
   action_at facts desk room effect (idle is) = rw is (quiet nothing_sent)
   action_at facts desk room effect (by_dealer number row event duties at found comes is) =
       rw (at, is) (own_dealer number row _ found)
-  action_at facts desk room effect (by_investor number row event duties at found is) =
+  action_at facts desk room effect (by_investor number row event duties at found fit is) =
       rw (at, is) (own_market number row _ found)
   action_at facts desk room effect (by_room at event duties here is) =
       rw is (quiet (room_quiet at _))

@@ -4,6 +4,7 @@
 -- keeps is kept by every action.
 use Rattle.std.proofs.Common.{◌≡◌, ℕ, Bool, true, false, if◌then◌else◌, List, [], map}
 use Rattle.std.proofs.Common.{Option, Some, None, option_map, is_some, refl}
+use Rattle.std.proofs.lemmas.Bool.{and_from}
 use Rattle.market_terms.specs.declared.asks.Ask.{Ask}
 use Rattle.market_terms.specs.declared.closes.Close.{Close}
 use Rattle.market_terms.specs.declared.duties.Duty.{Duty}
@@ -17,8 +18,10 @@ use Rattle.dealer_desk.specs.DealerRules.{dealer_verdict}
 use Rattle.dealer_desk.specs.declared.events.DealerEvent.{DealerEvent}
 use Rattle.dealer_desk.specs.declared.events.DealerEvent.TheVariants as at_desk
 use Rattle.investor_desk.specs.InvestorDesk.{market_for, market_of}
+use Rattle.investor_desk.specs.InvestorFacts.{InvestorBook, knows}
 use Rattle.investor_desk.specs.InvestorRules.{InvestorMarket}
 use Rattle.investor_desk.specs.declared.events.InvestorEvent.{InvestorEvent}
+use Rattle.investor_desk.specs.declared.events.InvestorEvent.TheVariants as at_investor
 use Rattle.request_room.specs.Book.{event_facts}
 use Rattle.request_room.specs.declared.events.RoomEvent.{RoomEvent}
 use Rattle.venue_steps.specs.Replies.{replies_to}
@@ -44,7 +47,9 @@ use Rattle.step_replay.specs.Actions.{settlement_of, answer_to_hit, drop_at, hit
 use Rattle.step_replay.specs.Actions.{in_room, quote_asked, told_of, where_known}
 use Rattle.step_replay.specs.DutyEffects.{duty_effect, line_effect, message_effect, sweep_effect}
 use Rattle.step_replay.specs.DealerTrail.{DealerEntry, book_by}
-use Rattle.step_replay.specs.VenueFacts.{Fact, InRoom, of_dealer, of_room}
+use Rattle.step_replay.specs.Fitting.{fits}
+use Rattle.step_replay.specs.InvestorTrail as investor_trail
+use Rattle.step_replay.specs.VenueFacts.{Fact, InRoom, of_dealer, of_investor, of_room}
 
 -- why an event comes to the desk of a dealer with this row and trail
 pub data Comes (date : List ℕ) (row : DealerRow) (trail : List DealerEntry) (event : DealerEvent)
@@ -84,6 +89,7 @@ module _ (config : Configuration) (facts : List Fact) where
         → IsAction desk room effect
     by_investor : (number : ℕ) (row : InvestorRow) (event : InvestorEvent) (duties : List Duty)
         → desk ≡ Some number → investor_numbered config number ≡ Some row
+        → fits (investor_trail.book_by (of_investor number facts)) event ≡ true
         → effect ≡ at_market facts (market_of config number row) event duties
         → IsAction desk room effect
     by_room : (at : RoomRef) (event : RoomEvent) (duties : List Duty) → room ≡ Some at
@@ -142,19 +148,27 @@ module _ (config : Configuration) (facts : List Fact) where
   in_a_room desk at may event duties =
       if_so desk (Some at) _ (event_in at event duties) (λ yes. by_room at event duties refl refl)
 
+  -- the book of an investor's desk
+  abbrev book_at : ℕ → InvestorBook
+  book_at number = investor_trail.book_by (of_investor number facts)
+
+  -- an event that fits where its request and quote are known
   known : (room : Option RoomRef) (number request : ℕ) (quote : Option ℕ) (event : InvestorEvent)
-      (row : InvestorRow) → investor_numbered config number ≡ Some row
+      → (knows (book_at number) request quote ≡ true → fits (book_at number) event ≡ true)
+      → (row : InvestorRow) → investor_numbered config number ≡ Some row
       → IsAction (Some number) room
       (where_known facts request quote event (market_of config number row))
-  known room number request quote event row is =
+  known room number request quote event fit row is =
       if_so (Some number) room _ (at_market facts (market_of config number row) event [])
-      (λ yes. by_investor number row event [] refl is refl)
+      (λ yes. by_investor number row event [] refl is (fit yes) refl)
 
   known_to : (room : Option RoomRef) (number request : ℕ) (event : InvestorEvent)
+      → (knows (book_at number) request None ≡ true → fits (book_at number) event ≡ true)
       → IsAction (Some number) room
       (done_for (market_for config number) (where_known facts request None event))
-  known_to room number request event =
-      invested room number (where_known facts request None event) (known room number request None event)
+  known_to room number request event fit =
+      invested room number (where_known facts request None event)
+      (known room number request None event fit)
 
   told_by : (number : ℕ) (row : DealerRow) → dealer_numbered config number ≡ Some row
       → (close : Close) (moment : ℕ) (request : Option ℕ)
@@ -193,12 +207,22 @@ module _ (config : Configuration) (facts : List Fact) where
   to_an_investor : (number : ℕ) (what : ForInvestor) → IsAction (Some number) None
       (done_for (market_for config number) (investor_gets facts what))
   unfolding investor_gets
+  to_an_investor number (to_investor.Relay request offer moment) =
+      known_to None number request (at_investor.QuoteCame request offer moment) (λ yes. yes)
+  to_an_investor number (to_investor.Gone request word moment) =
+      known_to None number request (at_investor.QuoteGone request word moment) (λ yes. yes)
+  to_an_investor number (to_investor.Declined request dealer moment) =
+      known_to None number request (at_investor.DealerDeclined request dealer moment) (λ yes. yes)
   to_an_investor number (to_investor.Answer request response reply moment) =
       invested None number
       (investor_gets facts (to_investor.Answer request response reply moment))
       (λ row is. if_so (Some number) None (replies_to response.k reply) _
-      (λ yes. known None number request response.k _ row is))
-  to_an_investor number other = known_to None number _ _
+      (λ replies. known None number request response.k
+      (at_investor.Answered request response reply moment)
+      (λ yes. and_from (knows (book_at number) request response.k) (replies_to response.k reply) yes
+      replies) row is))
+  to_an_investor number (to_investor.Close request moment) =
+      known_to None number request (at_investor.Closed request moment) (λ yes. yes)
 
   to_a_room : (may : Bool) (at : RoomRef) (what : ForRoom)
       → IsAction None (Some at) (room_gets_where config facts may at what)
@@ -253,8 +277,8 @@ module _ (config : Configuration) (facts : List Fact) where
           refl is (said moment bytes refl) refl))
       either false =
           invested None firm (Actions.received_by_investor facts moment bytes)
-          (λ row is. by_investor firm row _
-          (Actions.left_by_investor facts moment bytes (market_of config firm row)) refl is refl)
+          (λ row is. by_investor firm row (at_investor.Received moment bytes)
+          (Actions.left_by_investor facts moment bytes (market_of config firm row)) refl is refl refl)
 
   pub sweep_action : (room : RoomRef) (moment : ℕ)
       → IsAction None (Some room) (sweep_effect config facts room moment)

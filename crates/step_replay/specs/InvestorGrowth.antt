@@ -9,9 +9,11 @@ use Rattle.investor_desk.specs.InvestorRules.{InvestorMarket}
 use Rattle.investor_desk.specs.InvestorOutput.{DeskState, desk_after, after_event, no_facts}
 use Rattle.investor_desk.specs.InvestorOutput.{event_facts, event_messages, moment_of, written_from}
 use Rattle.investor_desk.specs.declared.events.InvestorEvent.{InvestorEvent}
+use Rattle.step_replay.specs.InvestorEvents.{event_in, events_of}
 use Rattle.step_replay.specs.PlaceLemmas.{nothing_of, everything_of}
-use Rattle.step_replay.specs.InvestorTrail.{InvestorEntry, AtDesk, Sent, fact_in, message_in}
-use Rattle.step_replay.specs.InvestorTrail.{facts_of, book_by, sent_by, entries_of}
+use Rattle.step_replay.specs.InvestorTrail.{InvestorEntry, AtDesk, Sent, fact_in}
+use Rattle.step_replay.specs.InvestorTrail.{message_in, facts_of, book_by, sent_by}
+use Rattle.step_replay.specs.InvestorTrail.{entries_of}
 
 facts_added : (facts : List InvestorFact) (messages : List (List ℕ))
     → filter_map fact_in (map AtDesk facts ++ map Sent messages) ≡ facts
@@ -30,11 +32,27 @@ sent_added facts messages =
     (nothing_of message_in AtDesk (λ fact. refl) facts)
     ∙ everything_of message_in Sent (λ m. refl) messages
 
+none_happened : (facts : List InvestorFact) (messages : List (List ℕ))
+    → filter_map event_in (map AtDesk facts ++ map Sent messages) ≡ []
+none_happened facts messages =
+    filter_map-append event_in (map AtDesk facts) (map Sent messages)
+    ∙ ap (λ l. l ++ filter_map event_in (map Sent messages))
+    (nothing_of event_in AtDesk (λ fact. refl) facts)
+    ∙ nothing_of event_in Sent (λ m. refl) messages
+
 module _ (market : InvestorMarket) (trail : List InvestorEntry) (more : InvestorEvent) where
   -- the messages that the event sends
   abbrev messages : List (List ℕ)
   messages = written_from market (length (sent_by trail) + 1) (moment_of more)
       (event_messages market (book_by trail) more)
+
+  pub events_grown : events_of (trail ++ entries_of market trail more)
+      ≡ events_of trail ++ more ∷ []
+  unfolding entries_of
+  events_grown =
+      filter_map-append event_in trail (entries_of market trail more)
+      ∙ ap (λ l. events_of trail ++ more ∷ l)
+      (none_happened (event_facts market (book_by trail) more) messages)
 
   pub facts_grown : facts_of (trail ++ entries_of market trail more)
       ≡ facts_of trail ++ event_facts market (book_by trail) more

@@ -12,11 +12,14 @@ pub mod DueList
 pub mod DutyEffects
 pub mod EachLemmas
 pub mod FirmDays
+pub mod Fitting
 pub mod FloorDays
 pub mod Following
 pub mod GrowthLemmas
 pub mod HitKept
+pub mod InvestorEvents
 pub mod InvestorGrowth
+pub mod InvestorKept
 pub mod InvestorTrail
 pub mod IsolationLemmas
 pub mod Liftings

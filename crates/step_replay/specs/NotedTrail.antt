@@ -7,7 +7,7 @@ use Rattle.investor_desk.specs.InvestorOutput.{investor_notes}
 use Rattle.investor_desk.specs.InvestorRules.{InvestorMarket}
 use Rattle.investor_desk.specs.declared.events.InvestorEvent.{InvestorEvent}
 use Rattle.investor_desk.specs.declared.notes.InvestorNote.{InvestorNote}
-use Rattle.step_replay.specs.InvestorTrail.{InvestorEntry, AtDesk, Sent, facts_of}
+use Rattle.step_replay.specs.InvestorTrail.{InvestorEntry, Happened, AtDesk, Sent, facts_of}
 
 -- how far a trail has come: the facts so far, what is noted beside the message that comes next, and
 -- the notes so far
@@ -21,8 +21,9 @@ abbrev pub noted_so : List InvestorFact → Option InvestorNote → List (Option
 noted_so facts next notes = record { facts = facts; next = next; notes = notes }
 
 -- one entry more: a fact says what is noted beside the message that comes next, and the one that
--- comes after that has no note
+-- comes after that has no note. An event says nothing itself.
 abbrev pub noted_after : InvestorMarket → NotedSoFar → InvestorEntry → NotedSoFar
+noted_after market so_far (Happened event) = so_far
 noted_after market so_far (AtDesk fact) =
     noted_so (so_far.facts ++ fact ∷ []) (fact_note market (book_of so_far.facts) (Some fact))
     so_far.notes

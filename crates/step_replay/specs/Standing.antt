@@ -15,6 +15,7 @@ use Rattle.step_replay.specs.RowOfWords.{word_if}
 use Rattle.request_room.specs.Book.{room_after}
 use Rattle.step_replay.specs.DealerTrail.{DealerEntry, facts_of, rooms_by, sent_by}
 use Rattle.step_replay.specs.DealerTrail.{was_lifted, was_withdrawn}
+use Rattle.step_replay.specs.InvestorEvents.{events_of}
 use Rattle.step_replay.specs.InvestorTrail as investor_trail
 use Rattle.step_replay.specs.Matching.{Match}
 use Rattle.step_replay.specs.NotedTrail.{NotedAs}
@@ -56,6 +57,7 @@ slots row = replicate row.requests tt
 pub record InvestorStands (config : Configuration) (facts : List Fact) (number : ℕ)
     (row : InvestorRow) (place : InvestorPlace) : Type 0 where
   pub market_is : place.desk.market ≡ market_of config number row
+  pub events_are : place.desk.events ≡ events_of (of_investor number facts)
   pub state_is : investor_output.desk_after (market_of config number row) place.desk.events
       ≡ record {
         facts = investor_trail.facts_of (of_investor number facts);

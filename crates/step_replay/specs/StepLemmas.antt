@@ -42,7 +42,7 @@ module _ (config : Configuration) (own : ℕ) (row : DealerRow)
   action_keeps facts desk room effect (by_dealer number other event duties at found comes is) =
       subst (Keeps facts) (sym is) (desk_keeps config own row is_dealer P kept facts number other
       event duties found comes)
-  action_keeps facts desk room effect (by_investor number other event duties at found is) =
+  action_keeps facts desk room effect (by_investor number other event duties at found fit is) =
       subst (Keeps facts) (sym is) (market_keeps config own row is_dealer P kept facts (market_of
       config number other) event duties)
   action_keeps facts desk room effect (by_room at event duties here is) =

@@ -25,8 +25,7 @@ fact_in_room place fact = None
 
 -- what it says of the investor with this number
 abbrev pub entry_at_investor : ℕ → Fact → Option InvestorEntry
-entry_at_investor number (AtInvestor investor entry) =
-    if investor == number then Some entry else None
+entry_at_investor number (AtInvestor firm entry) = if firm == number then Some entry else None
 entry_at_investor number fact = None
 
 -- the trail of a dealer

@@ -51,9 +51,11 @@
 //!   [`World`] of these steps ([`LiveVenue::into_world`]). [`LiveVenue::dealer_notes`] is what is
 //!   noted beside the messages of a dealer, by what was due to it so far, and
 //!   [`LiveVenue::investor_notes`] the same of an investor, by what became so at its place.
+//!   [`LiveVenue::investor_events`] are the events at an investor's desk so far, of which its due
+//!   list is made (`investor_views`).
 //!
 //! - [`SteppedVenue`]: a venue that goes step by step, each turn a step of its own. It stands as the
-//!   audit trail of the steps so far, and tells the duty that an actor's next turn does.
+//!   audit trail of the steps so far, and gives the events at an investor's desk.
 //!
 //! What follows from the definition stands as laws:
 //!

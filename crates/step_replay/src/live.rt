@@ -184,7 +184,7 @@ fn do_step(venue: &mut LiveVenue, step: &Step, told: &mut Vec<SentTo>) -> Result
 }
 
 /// The duty that an actor's next turn does.
-pub(crate) fn next_duty(replay: &Replay, by: Actor) -> Option<&Duty>
+fn next_duty(replay: &Replay, by: Actor) -> Option<&Duty>
     ensures { option_copied result ≡ spec.next_duty replay.now by }
 {
     let index = replay.index_of(by)?;

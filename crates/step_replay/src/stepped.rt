@@ -1,26 +1,25 @@
-//! A venue whose day goes on step by step, and in which the duties that wait can be looked at.
-ghost use Rattle.std.specs.Prelude.{◌≡◌, ◌++◌, ◌∷◌, [], List, None, Err, true, false, IfOk, IfErr};
+//! A venue whose day goes on step by step, each turn a step of its own.
+ghost use Rattle.std.specs.Prelude.{◌≡◌, ◌++◌, ◌∷◌, [], List, None, Err, IfOk, IfErr};
 ghost use Rattle.std.specs.Prelude.{IfSome, OnOk};
-ghost use Rattle.std.specs.Option.{option_copied};
-ghost use Rattle.step_replay.specs.AuditTrail.{audit_trail, pending};
+ghost use Rattle.std.specs.Option.{option_copied, option_map};
+ghost use Rattle.step_replay.specs.AuditTrail.{audit_trail};
 ghost use Rattle.step_replay.specs.FirmDays.{firm_days};
-ghost use Rattle.step_replay.specs.LiveStanding.{first_in};
-ghost use Rattle.step_replay.specs.Queues.{is_known};
+ghost use Rattle.step_replay.specs.InvestorEvents.{happened_to};
 ghost use Rattle.step_replay.specs.StepFaults as faults;
 ghost use Rattle.step_replay.specs.SteppedStanding.{IsAfter};
 ghost use Rattle.step_replay.specs.declared.steps.Step.{Step};
-ghost use Rattle.venue_rows.specs.Rows.{Configuration};
+ghost use Rattle.venue_rows.specs.Rows.{Configuration, investor_numbered};
+ghost use Rattle.venue_rows.specs.declared.investor_rows.InvestorRow.{InvestorRow};
 
 use crate::faults::{ReplayFault, fault_of};
-use crate::live::next_duty;
+use crate::live_notes::events_on;
 use crate::replay::Replay;
 use crate::steps::Step;
 use crate::world::World;
 use fix_fields::Memory;
-use market_terms::Duty;
+use investor_desk::InvestorEvent;
 use std::alloc::Global;
 use venue_rows::VenueConfig;
-use venue_steps::Actor;
 
 /// A venue that does one step after the other, each turn of an actor a step of its own. Once memory
 /// was refused nothing is known of it any more.
@@ -56,20 +55,14 @@ impl SteppedVenue {
         Ok(())
     }
 
-    /// The duty that the next turn of an actor does: the oldest of those that wait, and none of an
-    /// actor that the venue does not have.
-    pub fn next_duty(&self, by: Actor) -> Option<&Duty>
-        ensures duty { (config : Configuration) (steps : List Step) → IsAfter config steps self.now
-            → is_known config by ≡ true
-            → option_copied result ≡ first_in (pending by (audit_trail config steps)) }
-        ensures unknown { (config : Configuration) (steps : List Step)
-            → IsAfter config steps self.now → is_known config by ≡ false
-            → option_copied result ≡ None }
+    /// The events at the desk of the investor with this number so far, the first one first, or none
+    /// where no investor has it.
+    pub fn investor_events(&self, firm: u16) -> Option<&[InvestorEvent]>
+        ensures { (config : Configuration) (steps : List Step) → IsAfter config steps self.now
+            → option_copied result ≡ option_map (λ (row : InvestorRow).
+            happened_to firm (audit_trail config steps)) (investor_numbered config firm) }
     {
-        let Some(duty) = next_duty(&self.replay, by) else {
-            return None;
-        };
-        Some(duty)
+        events_on(&self.replay.floor, firm)
     }
 
     /// What each firm has of the day, which ends with it.

@@ -7,7 +7,5 @@ pub returns : goal.returns
 returns c =
     let day = c.args.day.now in
     text_of_day day.venue day.firm day.steps.items c.as_slice-2.result.now _ c.in_ok-text.ensures
-    (λ row known. c.as_slice-2.ensures.value
-    ∙ c.into_parts-dues.ensures.dues day.venue day.firm row c.as_slice.result.now
-    (c.in_ok-followed.ensures row known)
+    (c.as_slice-2.ensures.value ∙ c.in_ok-due.ensures.dues_are
     ∙ ap (due_to_investor day.venue day.firm) c.as_slice.ensures.value)

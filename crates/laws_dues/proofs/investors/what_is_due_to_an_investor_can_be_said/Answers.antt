@@ -5,11 +5,11 @@ use Rattle.laws_dues.proofs.investors.what_is_due_to_an_investor_can_be_said.Goa
 
 pub returns-clause-steps : goal.returns-clause-steps
 returns-clause-steps c config steps investor limits said =
-    investor_sayable config limits c.limits_are_kept.ensures.quotes investor
-    c.desks_send_their_view.ensures.by_trail steps (each_has_bytes steps said)
+    investor_sayable config limits c.limits_are_kept.ensures.quotes
+    c.desks_send_their_view.ensures.by_trail investor steps (each_has_bytes steps said)
 
 pub returns-clause-lines : goal.returns-clause-lines
 returns-clause-lines c config lines steps investor limits spelled =
-    investor_sayable config limits c.limits_are_kept.ensures.quotes investor
-    c.desks_send_their_view.ensures.by_trail steps
+    investor_sayable config limits c.limits_are_kept.ensures.quotes
+    c.desks_send_their_view.ensures.by_trail investor steps
     (are_said (values_of config) lines steps spelled)

@@ -11,7 +11,7 @@ pub returns-clause-fitting : goal.returns-clause-fitting
 returns-clause-fitting c config inboxes sweeps day investor row keeps here fit =
     let events = c.desks_send_their_view.ensures.by_events in
     is_sent_on config day investor row here events keeps.investors_keep keeps.dealers_are
-    ∙ views_on config day investor row here events c.desks_send_their_view.ensures.by_comings fit
+    ∙ views_on config day investor row here events c.desks_send_their_view.ensures.fitting fit
 
 pub returns-clause-woven : goal.returns-clause-woven
 returns-clause-woven c config day steps investor row sends here =

@@ -21,6 +21,6 @@ returns-clause-ok c =
             ∙ sym (names_count config));
         row = there.0;
         is_investor = there.1;
-        followed_is = c.in_ok-followed.ensures.ok there.0 there.1;
+        venue_is = c.in_ok-venue.ensures;
       };
     }

@@ -1,0 +1,23 @@
+use Rattle.std.proofs.Common.{List, ◌∙◌, ap}
+use Rattle.venue_rows.specs.Rows.{investor_numbered}
+use Rattle.investor_desk.specs.InvestorDesk.{market_for}
+use Rattle.investor_desk.specs.declared.events.InvestorEvent.{InvestorEvent}
+use Rattle.step_replay.specs.AuditTrail.{audit_trail}
+use Rattle.step_replay.specs.InvestorEvents.{happened_to}
+use Rattle.investor_views.specs.InvestorDues.{dues_where}
+use Rattle.investor_dues.proofs.EventLemmas.{events_are}
+use Rattle.investor_dues.proofs.days.DueDay.of_steps.Goals as goal
+
+pub returns : goal.returns
+returns c =
+    let config = c.args.config.now in
+    let steps = c.args.steps.now in
+    let after = c.in_ok-venue.ensures in
+    record {
+      dues_are = c.in_ok-dues.ensures
+          ∙ ap (λ (l : List InvestorEvent). dues_where (market_for config c.args.investor) l)
+          (events_are (investor_numbered config c.args.investor) c.in-Some.events.now
+          (happened_to c.args.investor (audit_trail config steps))
+          (c.in-Some.ensures config steps after));
+      world_is = c.into_world-world.ensures config steps after;
+    }
