@@ -152,6 +152,23 @@ TEST_CASE("a page has what is counted of a firm") {
     CHECK(shows("DLR1 of north"));
 }
 
+// In the colour of a fault only what is one.
+TEST_CASE("a page shows how the service is") {
+    const auto shown = [](const Condition &condition) {
+        Overview seen;
+        seen.condition = condition;
+        const std::string begin = "<p class=\"condition ";
+        const std::string page = html_of(seen);
+        const std::size_t at = page.find(begin);
+        check(at != std::string::npos, page);
+        return page.substr(at + begin.size(),
+                           page.find('"', at + begin.size()) - at - begin.size());
+    };
+    CHECK(shown({Phase::ready, "20261127", {}}) == "ready");
+    CHECK(shown({Phase::closed, "", {}}) == "waits");
+    CHECK(shown({Phase::ready, "20261127", Liveness::Silent{"the venue", 15s}}) == "fault");
+}
+
 TEST_CASE("pages show text as text") {
     Overview seen;
     seen.condition = {Phase::ready, "<b>day</b>", {}};
