@@ -182,6 +182,8 @@ TEST_CASE("times of day, weekdays and holidays are read exactly") {
     CHECK_FALSE(weekday_of("sun"));
     CHECK(holidays_of("# of 2026\n2026-12-25  # Christmas\r\n\n") ==
           std::set<std::string>{"2026-12-25"});
+    // Of a file whose lines end as on Windows.
+    CHECK(holidays_of("2026-12-25\r\n\r\n") == std::set<std::string>{"2026-12-25"});
     CHECK_THROWS_WITH(holidays_of("2026-12-25\n2026-02-30\n"),
                       "line 2: a holiday is a day as YYYY-MM-DD");
     CHECK(DayRules{}.weekdays == all_days());
