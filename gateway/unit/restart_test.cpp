@@ -387,6 +387,16 @@ TEST_CASE("a day that an operator has ended") {
     CHECK_FALSE(is_ended(""));
 }
 
+// Its seal is of the configuration that it began with: the files may have another since.
+TEST_CASE("a day that an operator has ended stays so with other files") {
+    const Looked looked;
+    looked.site.begin();
+    looked.site.end("ann(7) end-day");
+    Config config = looked.site.config();
+    config.configuration += "# another\n";
+    CHECK(is_ended_by_order({config}, looked.day));
+}
+
 TEST_CASE("a day that an operator may have ended, and that goes on all the same") {
     const Looked looked;
     const auto is_ended = [&] { return is_ended_by_order({looked.site.config()}, looked.day); };
