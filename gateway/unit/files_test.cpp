@@ -7,10 +7,12 @@
 #include "base/private_file.h"
 #include "base/record_file.h"
 #include "check.h"
+#include "comes_true.h"
 
 #include <array>
 #include <filesystem>
 #include <fstream>
+#include <future>
 #include <iterator>
 #include <stop_token>
 #include <string>
@@ -180,6 +182,26 @@ TEST_CASE("a copy is what it was copied from") {
           folder.path().string() + ": Is a directory");
     stop.request_stop();
     CHECK(fault_of([&] { sha256_of_file(from, stop.get_token()); }) == "the gateway stops");
+}
+
+// As on a disk that keeps something else: what was copied comes from a pipe, and the copy is
+// changed before the pipe ends.
+TEST_CASE("a copy that is not what was read is refused") {
+    const Scratch folder("copied");
+    const fs::path from = folder.path() / "from", to = folder.path() / "to";
+    REQUIRE(::mkfifo(from.c_str(), 0600) == 0);
+    auto said = std::async(std::launch::async, [&] {
+        return fault_of([&] { copy_file_checked(from, to, 0600, std::stop_token()); });
+    });
+    {
+        std::ofstream pipe(from);
+        pipe << "abc" << std::flush;
+        check(comes_true([&] { return fs::exists(to) && text_in(to) == "abc"; }),
+              "nothing is copied");
+        std::fstream(to, std::ios::in | std::ios::out | std::ios::binary) << 'x';
+    }
+    CHECK(said.get() ==
+          fmt::format("{} is not what {} is: look at the disk", to.string(), from.string()));
 }
 
 } // namespace gateway::tests
