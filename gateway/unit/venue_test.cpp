@@ -13,11 +13,14 @@
 #include <ctime>
 #include <filesystem>
 #include <future>
+#include <memory>
+#include <sstream>
 #include <string>
 #include <utility>
 #include <vector>
 
 #include <fmt/ranges.h>
+#include <spdlog/sinks/ostream_sink.h>
 #include <sys/syscall.h>
 #include <unistd.h>
 
@@ -72,8 +75,11 @@ struct Tried {
         Metrics metrics;
         Listener listener;
         listener.late_start = late_start;
+        std::ostringstream lines;
+        const auto sink = std::make_shared<spdlog::sinks::ostream_sink_mt>(lines);
+        sink->set_pattern("%v");
         Venue venue({{"sh", "-c", script}, "version = 1\n", starts}, *database, feed, Digest{},
-                    listener, metrics, std::make_shared<spdlog::logger>("none"));
+                    listener, metrics, std::make_shared<spdlog::logger>("events", sink));
         Digest before{};
         for (std::uint32_t place = 1; place <= entries; ++place) {
             Entry entry;
@@ -89,10 +95,12 @@ struct Tried {
         failure = listener.failure();
         venue.stop();
         calls = std::move(listener.calls);
+        told = lines.str();
     }
 
     std::string failure;
     std::vector<std::string> calls;
+    std::string told; // to the operator, in lines
 };
 
 // Why a venue is no more that is this script of the shell, and is started once.
@@ -212,6 +220,8 @@ TEST_CASE("so many starts within a minute, and the last words") {
     check(venue.calls == std::vector<std::string>(3, "starts"), "it is started otherwise");
     same<std::string>("the venue ended with status 4 again and again; its last words: one / two",
                       venue.failure, "why it is no more");
+    check(venue.told.find("venue ended with status 4 words=\"one / two\"\n") != std::string::npos,
+          venue.told);
     const Scratch later("venue");
     const Tried late(later.path(), "exit 4", 0, 2, 2);
     check(late.calls == std::vector<std::string>(3, "starts"), "a start counts for more");
