@@ -387,6 +387,13 @@ TEST_CASE("bounds of times") {
                     fmt::format("mireseason_answered_seconds_bucket{{le=\"{}\"}}", bound)) == "0",
             bound);
     }
+    Metrics fast;
+    fast.answered(7us);
+    for (const auto &[bound, count] : {std::pair("5e-06", "0"), {"1e-05", "1"}, {"2e-05", "1"}}) {
+        CHECK_MESSAGE(said_by(fast, fmt::format("mireseason_answered_seconds_bucket{{le=\"{}\"}}",
+                                                bound)) == count,
+                      bound);
+    }
 }
 
 TEST_CASE("what an operator should ask a firm") {
