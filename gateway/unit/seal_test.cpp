@@ -6,18 +6,21 @@
 
 #include "base/private_file.h"
 #include "check.h"
+#include "comes_true.h"
 #include "log/log_guard.h"
 #include "log/sqlite_statement.h"
 #include "log_days.h"
 #include "test_keys.h"
 
 #include <chrono>
+#include <cstddef>
 #include <cstdlib>
 #include <ctime>
 #include <filesystem>
 #include <fstream>
 #include <functional>
 #include <iostream>
+#include <iterator>
 #include <thread>
 
 #include <pqxx/pqxx>
@@ -88,6 +91,11 @@ LogGuard guard_at(const Place &place) {
     return {sealer_at(place.folder()), place.folder() / "checkpoints", silent};
 }
 
+std::ptrdiff_t threads_here() {
+    const fs::directory_iterator tasks("/proc/self/task");
+    return std::distance(begin(tasks), end(tasks));
+}
+
 // Appends so many messages, each with what happened to a connection, and signs where the log ends,
 // as the end of the day or not.
 void write_some(Database &database, LogGuard &guard, std::uint32_t term, std::uint32_t count,
@@ -103,6 +111,7 @@ void write_some(Database &database, LogGuard &guard, std::uint32_t term, std::ui
     EntryFeed feed{last};
     Log log(database, feed, clock, metrics, std::move(start),
             [](const std::string &cause) { std::cerr << cause << '\n'; });
+    const std::ptrdiff_t threads = threads_here();
     const auto signer = guard.signer(log);
     for (std::uint32_t number = 1; number <= count; ++number) {
         ConnectionEvent event;
@@ -112,6 +121,8 @@ void write_some(Database &database, LogGuard &guard, std::uint32_t term, std::ui
         log.wait(log.append_message("F", came(last + number), "x"));
     }
     signer->end(is_end_of_day);
+    // Else it signs again five seconds later, and the day has not ended.
+    check(comes_true([&] { return threads_here() <= threads; }), "its thread goes on");
 }
 
 // A day of some messages, of a gateway that ended well, at the day's end or before it.
