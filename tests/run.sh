@@ -141,7 +141,8 @@ day_folder() {
     folder "$name" $((limit + in_day)) "$@"
 }
 
-# The gateway, and its tests.
+# The gateway, and its tests. One that fails beside other work is tried once more, as pytest's are (harness/twice.py): ctest's output has
+# both.
 build_gateway() {
     [ -z "$library" ] || wait "$library"
     [ -z "${GATEWAY:-}" ] || return 0
@@ -151,7 +152,7 @@ build_gateway() {
     # shellcheck disable=SC2016 # of the inner shell
     form ctest 7200 "$(gateway/packages.sh)" \
         sh -c 'tests/build.sh "$1" gateway gateway/out && python3 -m tests.gateway.midnight &&
-            ctest --test-dir gateway/out -j "$1" --output-on-failure --output-junit "$2"' build "$jobs" "$work/ctest.xml"
+            ctest --test-dir gateway/out -j "$1" --repeat until-pass:2 --output-on-failure --output-junit "$2"' build "$jobs" "$work/ctest.xml"
 }
 
 # part NAME: a folder of tests, with its limit of time and what it needs.
@@ -269,7 +270,7 @@ ctest_soon() {
     # shellcheck disable=SC2016 # of the inner shell
     form ctest 3600 "$(gateway/packages.sh)" \
         sh -c 'tests/build.sh "$1" examples/venue "$2" gateway-tests && python3 -m tests.gateway.midnight &&
-            ctest --test-dir "$2/gateway" -j "$1" --output-on-failure --output-junit "$3"' \
+            ctest --test-dir "$2/gateway" -j "$1" --repeat until-pass:2 --output-on-failure --output-junit "$3"' \
         build "$several" "$built" "$work/ctest.xml"
 }
 
